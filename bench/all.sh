@@ -26,6 +26,7 @@ measure python3 bash codes.sh
 measure "" bash window_steps.sh
 measure "" bash formulas.sh
 measure "" bash sequences.sh
+measure "" bash cheaper.sh
 measure "" bash prints.sh
 measure python3 bash audit.sh
 measure "" bash trim.sh
@@ -41,6 +42,7 @@ measure "python3 arm-none-eabi-as" bash images.sh "$listings"
 measure cadical python3 measure_lrat.py "$work/lrat"
 measure "python3 cadical" bash solver.sh 5 "$listings"
 measure "" bash learner.sh "$listings"
+measure "" bash learner.sh --costs "$top/examples/small-multiplier.costs" "$listings"
 measure cadical python3 exported.py "$work/rules"
 measure "python3 cc" bash faults.sh
 measure python3 bash fuzz.sh "$listings" 100000

@@ -7,7 +7,9 @@ import sys
 
 TOP = os.path.join(os.path.dirname(os.path.abspath(__file__)), "..")
 HEADER = ["peep 1", "regs 2", "left 2", "seed 42", "budget 1", "pool 1 2 3 24 255"]
+MOST_LINES = 262_144
 MOV = "entry\nleft mov r0, r0\nmask r0 n z c v\nproof\n"
+DOUBLE = "entry\nleft lsls r0, r0, #1\nright adds r0, r0, r0\nmask r0 n z\nproof\n"
 ADCS = "entry\nleft adcs r0, r1\nleft movs r0, r0\nright adcs r0, r1\nmask r0 n z\nproof\n"
 
 
@@ -26,6 +28,12 @@ def states():
 
 def table(entries):
     return "\n".join([*HEADER, *states()]) + "\n" + entries + "end\n"
+
+
+def table_by_costs(entries):
+    """A table in which shifts to the left cost 2, and all else 1."""
+    costs = " ".join("2" if place == 4 else "1" for place in range(28))
+    return "\n".join(["peep 4", *HEADER[1:], "scratch 0", f"costs {costs}", *states()]) + "\n" + entries + "end\n"
 
 
 def rules():
@@ -250,6 +258,24 @@ def forbidden_entries(n):
     yield "bx lr"
 
 
+# ---- costs ----
+
+
+def labelled(n):
+    """Windows that give way to as many instructions, each with a label, which gets a line of its own."""
+    for i in range(n):
+        yield f"a{i}: lsls r{i % 8}, r{i % 8}, #1"
+    yield "bx lr"
+
+
+def waiting(n):
+    """A listing of as many lines as one may have: such windows, and behind them as many that take a line away, each of which makes room for one of them."""
+    yield from list(labelled(n // 2))[:-1]
+    yield from ["mov r1, r1"] * (n // 2)
+    yield from [""] * (MOST_LINES - n // 2 * 2 - 1)
+    yield "bx lr"
+
+
 DEAD = "entry\nleft mov r0, r1\nmask r1 n z c v\nproof\n"
 
 TABLES = {
@@ -257,6 +283,8 @@ TABLES = {
     alternating: lambda n: table(DEAD),
     equal_entries: lambda n: table(MOV * (n // 4)),
     forbidden_entries: lambda n: table(ADCS * (n // 4)),
+    labelled: lambda n: table_by_costs(DOUBLE),
+    waiting: lambda n: table_by_costs(DOUBLE + MOV),
 }
 
 SHAPES = {
@@ -287,6 +315,8 @@ SHAPES = {
     set_address: 15_000,
     equal_entries: 8_000,
     forbidden_entries: 8_000,
+    labelled: 30_000,
+    waiting: 15_000,
 }
 
 
@@ -305,4 +335,5 @@ def main():
     sys.stdout.writelines(f"{line if ':' in line.split(' ')[0] else chr(9) + line}\n" for line in shape(n))
 
 
-main()
+if __name__ == "__main__":
+    main()

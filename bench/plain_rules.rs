@@ -44,7 +44,7 @@ impl Hasher for Mixed {
     }
 }
 
-/// An entry that takes instructions away.
+/// An entry whose right side is the lighter one: shorter, or cheaper where the table has costs.
 #[derive(Clone)]
 pub struct Rule {
     /// The right side, each with the items that it reads and writes.
@@ -60,7 +60,7 @@ pub fn with_byte(letter: &Letter, number: u8) -> Letter {
     if (4..=7).contains(&letter.form) { Letter { number, ..*letter } } else { *letter }
 }
 
-/// A family that takes instructions away: its entry's rule, and where its number stands in the left side.
+/// A family of such an entry: the entry's rule, and where its number stands in the left side.
 pub struct Family {
     pub rule: Rule,
     left: Vec<Letter>,
@@ -128,7 +128,8 @@ fn rule_of(entry: &Entry) -> (Rule, Vec<Letter>) {
 impl Rules {
     pub fn of(table: &Table) -> Rules {
         let mut rules = Rules { by_left: HashMap::default(), by_blinded: HashMap::default(), longest: 0 };
-        for entry in table.entries.iter().filter(|entry| entry.right.len() < entry.left.len()) {
+        let is_lighter = |entry: &Entry| table.weight(&entry.right) < table.weight(&entry.left);
+        for entry in table.entries.iter().filter(|entry| is_lighter(entry)) {
             let (rule, left) = rule_of(entry);
             let alike = rules.by_left.entry(left.iter().fold(0, longer)).or_default();
             let leads = |led: &Rule| led.dead == rule.dead && led.right.len() == rule.right.len() && (rule.needs_scratch || !led.needs_scratch);
@@ -139,7 +140,7 @@ impl Rules {
         }
         for raised in &table.families {
             let entry = &table.entries[raised.entry as usize - 1];
-            if entry.right.len() < entry.left.len() {
+            if is_lighter(entry) {
                 let (rule, left) = rule_of(entry);
                 let number = raised.number as u8;
                 let hole = left.iter().position(|letter| (4..=7).contains(&letter.form) && letter.number == number).expect("a hole");

@@ -2,6 +2,7 @@
 // not each program needs all of it
 #![allow(dead_code)]
 
+use crate::plain_costs::{Costs, cost_of};
 use std::collections::HashSet;
 use std::convert::TryFrom;
 use std::io::Write;
@@ -24,7 +25,8 @@ pub struct Entry { pub left: Vec<Instr>, pub right: Vec<Instr>, pub mask: u8, pu
 
 pub struct Family { pub entry: u32, pub number: u32, pub low: u32, pub high: u32, pub proof: Vec<Line> }
 
-pub struct Table { pub version: u8, pub scratch: u8, pub regs: u8, pub left: u8, pub seed: u32, pub budget: u32, pub pool: Vec<u8>, pub states: Vec<([u32; 4], u8)>, pub entries: Vec<Entry>, pub families: Vec<Family> }
+/// Version 4 alone has costs.
+pub struct Table { pub version: u8, pub scratch: u8, pub costs: Option<Costs>, pub regs: u8, pub left: u8, pub seed: u32, pub budget: u32, pub pool: Vec<u8>, pub states: Vec<([u32; 4], u8)>, pub entries: Vec<Entry>, pub families: Vec<Family> }
 
 /// What follows a mnemonic: registers as `r`, the same register as the first as `=`, and numbers by their ranges.
 enum Shape { Registers(usize), Product, Negation, RegistersAndNumber(usize, u16, u16) }
@@ -143,6 +145,11 @@ fn pool(tail: &str) -> Option<Vec<u8>> {
     (numbers.len() <= 16 && numbers.windows(2).all(|w| w[0] < w[1])).then_some(numbers)
 }
 
+fn costs(tail: &str) -> Option<Costs> {
+    let numbers: Vec<u8> = tail.split(' ').map(|word| number_within(word, 1, 64).map(|n| n as u8)).collect::<Option<_>>()?;
+    Costs::try_from(numbers).ok()
+}
+
 const ITEMS: [&str; 8] = ["r0", "r1", "r2", "r3", "n", "z", "c", "v"];
 
 fn mask(tail: &str) -> Option<u8> {
@@ -158,17 +165,18 @@ fn mask(tail: &str) -> Option<u8> {
 }
 
 /// What may come next.
-enum Place { Start, Regs, Left, Seed, Budget, Pool, Scratch, States, Sides, Proof, Log, OpenLog, Raised, RaisedLog, End }
+enum Place { Start, Regs, Left, Seed, Budget, Pool, Scratch, Costs, States, Sides, Proof, Log, OpenLog, Raised, RaisedLog, End }
 
 fn step(table: &mut Table, place: Place, line: &str) -> Option<Place> {
     match place {
-        Place::Start => { table.version = number_within(line.strip_prefix("peep ")?, 1, 3)? as u8; Some(Place::Regs) }
+        Place::Start => { table.version = number_within(line.strip_prefix("peep ")?, 1, 4)? as u8; Some(Place::Regs) }
         Place::Regs => { table.regs = number_within(line.strip_prefix("regs ")?, 1, 4)? as u8; Some(Place::Left) }
         Place::Left => { table.left = number_within(line.strip_prefix("left ")?, 1, 5)? as u8; Some(Place::Seed) }
         Place::Seed => { table.seed = number_within(line.strip_prefix("seed ")?, 0, u64::from(u32::MAX))? as u32; Some(Place::Budget) }
         Place::Budget => { table.budget = number_within(line.strip_prefix("budget ")?, 1, 1_000_000)? as u32; Some(Place::Pool) }
         Place::Pool => { table.pool = pool(line.strip_prefix("pool")?)?; Some(if table.version == 1 { Place::States } else { Place::Scratch }) }
-        Place::Scratch => { table.scratch = number_within(line.strip_prefix("scratch ")?, 0, 1)? as u8; Some(Place::States) }
+        Place::Scratch => { table.scratch = number_within(line.strip_prefix("scratch ")?, 0, 1)? as u8; Some(if table.version < 4 { Place::States } else { Place::Costs }) }
+        Place::Costs => { table.costs = Some(costs(line.strip_prefix("costs ")?)?); Some(Place::States) }
         Place::States => {
             if let Some(tail) = line.strip_prefix("state") {
                 table.states.push(state(tail)?);
@@ -247,8 +255,15 @@ fn entry_or_end(table: &mut Table, line: &str) -> Option<Place> {
     }
 }
 
+impl Table {
+    /// How much a side weighs: what it costs, and without costs how long it is.
+    pub fn weight(&self, side: &[Instr]) -> u32 {
+        side.iter().map(|instr| cost_of(self.costs.as_ref(), FORMS[instr.mnemonic as usize].0)).sum()
+    }
+}
+
 pub fn read_table(text: &[u8]) -> Result<Table, u64> {
-    let mut table = Table { version: 1, scratch: 0, regs: 0, left: 0, seed: 0, budget: 0, pool: Vec::new(), states: Vec::new(), entries: Vec::new(), families: Vec::new() };
+    let mut table = Table { version: 1, scratch: 0, costs: None, regs: 0, left: 0, seed: 0, budget: 0, pool: Vec::new(), states: Vec::new(), entries: Vec::new(), families: Vec::new() };
     let mut place = Place::Start;
     let mut line_number = 1;
     let mut rest = text;
@@ -300,6 +315,11 @@ pub fn write_table(table: &Table) -> Vec<u8> {
     for number in &table.pool { write!(out, " {number}").unwrap(); }
     out.push(b'\n');
     if table.version > 1 { writeln!(out, "scratch {}", table.scratch).unwrap(); }
+    if let Some(costs) = &table.costs {
+        out.extend_from_slice(b"costs");
+        for cost in costs { write!(out, " {cost}").unwrap(); }
+        out.push(b'\n');
+    }
     for (r, flags) in &table.states {
         writeln!(out, "state {:08x} {:08x} {:08x} {:08x} {flags:x}", r[0], r[1], r[2], r[3]).unwrap();
     }

@@ -7,9 +7,9 @@ Usage: python3 bench/read_tables.py TABLE ..
 
 PEEP names another program than the repository's. Of each table are tried: its lines; its first 64 states, by the published generator; the sides of each
 entry, which are run on the listed states and on others; its proof, checked by the checker of lrat_lines.py over the formula that formulas.py makes (and
-where CADICAL is set, that formula is refuted by that program too); each shorter sequence, which a listed state tells or which is named open; each open
-number with its log; that no sequence before the right side was passed over; and that each state past the first 64 tells a sequence of some window that
-none before it tells.
+where CADICAL is set, that formula is refuted by that program too); each sequence below the right side, shorter or by costs cheaper, which a listed state tells or
+which is named open; each open number with its log; that no sequence before the right side was passed over; and that each state past the first 64 tells a sequence
+of some window that none before it tells. Families aren't read.
 """
 
 import functools
@@ -29,6 +29,7 @@ TOP = pathlib.Path(__file__).resolve().parent.parent
 PEEP = pathlib.Path(os.environ.get("PEEP", TOP / "peep"))
 WORD = 0xFFFFFFFF
 ITEMS = ["r0", "r1", "r2", "r3", "n", "z", "c", "v"]
+MNEMONICS = "adds subs movs cmp lsls lsrs asrs ands eors adcs sbcs rors tst rsbs cmn orrs muls bics mvns mov add sxth sxtb uxth uxtb rev rev16 revsh".split()
 TWO = "ands eors lsls lsrs asrs adcs sbcs rors tst rsbs cmp cmn orrs muls bics mvns".split()
 NUMBER = "0|[1-9][0-9]*"
 
@@ -289,7 +290,7 @@ def read_entry(lines):
 
 def read(text):
     lines = Lines(text)
-    table = {"version": int(lines.take("peep ([12])")[1]), "scratch": 0}
+    table = {"version": int(lines.take("peep ([1-4])")[1]), "scratch": 0, "costs": None}
     for word, least, most in (("regs", 1, 4), ("left", 1, 5), ("seed", 0, WORD), ("budget", 1, 1000000)):
         table[word] = int(lines.take(f"{word} ({NUMBER})")[1])
         if not least <= table[word] <= most:
@@ -299,6 +300,10 @@ def read(text):
         raise Bad("pool")
     if table["version"] > 1:
         table["scratch"] = int(lines.take("scratch ([01])")[1])
+    if table["version"] == 4:
+        table["costs"] = tuple(int(word) for word in lines.take(f"costs(( ({NUMBER})){{28}})")[1].split())
+        if not all(1 <= cost <= 64 for cost in table["costs"]):
+            raise Bad("costs")
     table["states"] = [([int(word, 16) for word in found[0].split()[1:5]], int(found[0].split()[5], 16)) for found in lines.all("state( [0-9a-f]{8}){4} [0-9a-f]")]
     table["entries"] = []
     while lines.match("entry"):
@@ -313,13 +318,18 @@ def read(text):
 
 
 class Sequences:
-    """The sequences of fewer instructions than `left` over an alphabet by number, and what each leaves of the first state."""
+    """The sequences over an alphabet by number, what each leaves of the first state, and what each weighs: those of fewer instructions than `left`, or with costs of
+    at most so many."""
 
-    def __init__(self, k, pool, left, first):
+    def __init__(self, k, pool, left, first, costs):
         self.letters = alphabet(k, pool)
         self.numbers = {text: place for place, text in enumerate(self.letters)}
-        self.longest, self.first = left - 1, first
-        self.left_by = None
+        self.longest, self.first, self.costs = left - (costs is None), first, costs
+        self.left_by, self.weights = None, None
+
+    def weight(self, texts):
+        """What a sequence costs, and without costs how long it is."""
+        return sum(1 if self.costs is None else self.costs[MNEMONICS.index(text.split(" ")[0])] for text in texts)
 
     def count(self, length):
         """How many have fewer instructions."""
@@ -342,20 +352,32 @@ class Sequences:
             number = number * len(self.letters) + self.numbers[text]
         return self.count(len(texts)) + number
 
-    def candidates(self, left, bits, length):
-        """The numbers of those of fewer than `length` instructions that the first state doesn't tell."""
+    def fill(self):
+        level, weights = [self.first], [0]
+        costs = [self.weight([letter]) for letter in self.letters]
+        self.left_by, self.weights = [packed(self.first)], [0]
+        for _ in range(self.longest):
+            level = [run([letter], state) for state in level for letter in self.letters]
+            weights = [weight + cost for weight in weights for cost in costs]
+            self.left_by += map(packed, level)
+            self.weights += weights
+
+    def below(self, left):
+        """The numbers of those no longer than a left side that weigh less."""
         if self.left_by is None:
-            level, self.left_by = [self.first], [packed(self.first)]
-            for _ in range(self.longest):
-                level = [run([letter], state) for state in level for letter in self.letters]
-                self.left_by += map(packed, level)
-        want, end = packed(run(left, self.first)), self.count(length)
-        return [number for number, value in zip(range(end), self.left_by) if not (value ^ want) & bits]
+            self.fill()
+        most = self.weight(left)
+        return [number for number, weight in zip(range(self.count(len(left) + 1)), self.weights) if weight < most]
+
+    def candidates(self, left, bits, below):
+        """Those that the first state doesn't tell, lightest first."""
+        want = packed(run(left, self.first))
+        return sorted((number for number in below if not (self.left_by[number] ^ want) & bits), key=lambda number: (self.weights[number], number))
 
 
 @functools.cache
-def sequences(k, pool, left, seed):
-    return Sequences(k, pool, left, seeded(seed)[0])
+def sequences(k, pool, left, seed, costs):
+    return Sequences(k, pool, left, seeded(seed)[0], costs)
 
 
 def registers_of(side):
@@ -431,8 +453,7 @@ class Audit:
         if named != list(range(k)) or not 1 <= k <= table["regs"] or not 1 <= len(left) <= table["left"] or len(right) > len(left):
             raise Bad("sides")
         most = min(k + table["scratch"], 4)
-        over = sequences(most, tuple(table["pool"]), table["left"], table["seed"])
-        own = sequences(k, tuple(table["pool"]), table["left"], table["seed"])
+        over, own = (sequences(count, tuple(table["pool"]), table["left"], table["seed"], table["costs"]) for count in (most, k))
         if not all(text in own.numbers for text in left) or not all(text in over.numbers for text in right) or any(f"r{place}" in entry["mask"] for place in range(k, 4)):
             raise Bad("sides over another alphabet")
         return most, over
@@ -454,23 +475,23 @@ class Audit:
             raise Bad("another solver finds a state")
         self.counts["proofs"] += len(entry["proof"]) > 0
         self.counts["lines"] += len(entry["proof"])
-        if right != left and len(right) == len(left):
-            raise Bad("a right side that is as long, and another")
-        opens = dict(entry["opens"])
-        shorter, own = over.count(len(right)), over.number_of(right)
-        candidates = over.candidates(left, bits, len(left))
-        self.counts["told"] += over.count(len(left)) - len(candidates)
+        weight, own = over.weight(right), over.number_of(right)
+        if right != left and weight >= over.weight(left):
+            raise Bad("a right side that is no lighter, and another")
+        opens, below = dict(entry["opens"]), over.below(left)
+        candidates = over.candidates(left, bits, below)
+        self.counts["told"] += len(below) - len(candidates)
         self.counts["candidates"] += len(candidates)
         for number in candidates:
             at = self.told_at(left, over.at(number), bits, states)
             if at is not None:
                 self.earned.add(at)
-            elif number < shorter and number not in opens:
+            elif over.weights[number] < weight and number not in opens:
                 raise Bad(f"untold {number}")
-            elif shorter <= number < own and not entry["opens"] and self.table["budget"] > 1:
+            elif over.weights[number] == weight and number < own and not entry["opens"] and self.table["budget"] > 1:
                 raise Bad(f"passed over {number}")
         for number, log in entry["opens"]:
-            if number >= shorter or self.told_at(left, over.at(number), bits, states) is not None:
+            if number >= min(over.count(len(left) + 1), len(over.weights)) or over.weights[number] >= weight or self.told_at(left, over.at(number), bits, states) is not None:
                 raise Bad(f"open {number}")
             if not is_log(formula(left, over.at(number), mask, k), log, self.table["budget"]):
                 raise Bad(f"the log of {number}")

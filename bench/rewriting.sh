@@ -2,11 +2,12 @@
 # Measures rewriting listings with the proved crates beside a plain Rust program of the same rules, by a table of 500 entries that is learnt from the files of
 # a folder: one of about LINES (65,536) lines made by repeating the files, and as many of its lines as leave room for WINDOWS (20,000) windows that may be
 # replaced, with these. Both at half the size, too: where time is linear the factor is about 2. Then 50,000 of their lines that go straight on. Then the first two
-# with five lines before them, for which the layout has to be asked before each replacement. Both programs have to write the same listings.
+# with five lines before them, for which the layout has to be asked before each replacement. Then 131,000 windows and half of them that give way to as many
+# instructions by a table with costs, each with a label, which gets a line of its own. Both programs have to write the same listings.
 # Use: bench/rewriting.sh FOLDER [LINES [WINDOWS [TURNS]]]
 . "$(dirname "$0")/common.sh"
 folder=${1:-} lines=${2:-65536} windows=${3:-20000} turns=${4:-3}
-[ -d "$folder" ] || { sed -n '2,7s/^# //p' "$0" >&2; exit 2; }
+[ -d "$folder" ] || { sed -n '2,8s/^# //p' "$0" >&2; exit 2; }
 harvest=$(build_plain "$top/bench/live_items/plain.rs") && mv "$harvest" "$work/harvest"
 learner=$(build_plain "$top/bench/learner/plain.rs") && mv "$learner" "$work/learner"
 plain=$(build_plain "$top/bench/rewriting/plain.rs")
@@ -49,15 +50,23 @@ tell() {
     print_times "reading, rewriting and printing $said" us "$(shortest proved 2)" "$(shortest plain 2)"
 }
 
-for salt in 0 "$windows"; do
-    listing $((lines / 2)) $((salt / 2)) > "$work/listing.s"
+# grow: runs both programs on $work/half.s, then on $work/whole.s, and prints what that took and how much longer it took.
+grow() {
+    local half_proved half_plain
+    cp "$work/half.s" "$work/listing.s"
     run_both
     half_proved=$(shortest proved 1) half_plain=$(shortest plain 1)
-    listing "$lines" "$salt" > "$work/listing.s"
+    cp "$work/whole.s" "$work/listing.s"
     run_both
     tell
     print_factor "from half the size on: proved" us "$half_proved" "$(shortest proved 1)"
     print_factor "from half the size on: plain Rust" us "$half_plain" "$(shortest plain 1)"
+}
+
+for salt in 0 "$windows"; do
+    listing $((lines / 2)) $((salt / 2)) > "$work/half.s"
+    listing "$lines" "$salt" > "$work/whole.s"
+    grow
 done
 listing "$lines" 0 | python3 "$top/bench/rewriting/straight.py" 50000 > "$work/listing.s"
 run_both
@@ -68,3 +77,5 @@ for salt in 0 "$windows"; do
     said="$said, the layout asked"
     tell
 done
+python3 "$top/bench/rewriting/labelled.py" 131000 "$work"
+grow

@@ -70,7 +70,11 @@ impl Due {
     pub fn put(&mut self, place: usize) {
         let mut at = place;
         for level in &mut self.levels {
+            let had_some = level[at / 64] != 0;
             level[at / 64] |= 1 << (at % 64);
+            if had_some {
+                return;
+            }
             at /= 64;
         }
     }

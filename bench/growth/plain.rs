@@ -12,6 +12,8 @@ mod line;
 mod listing;
 #[path = "../listing_lines/plain/operands.rs"]
 mod operands;
+#[path = "../plain_costs.rs"]
+mod plain_costs;
 #[path = "../plain_flows.rs"]
 mod plain_flows;
 #[path = "../plain_rules.rs"]
@@ -34,7 +36,7 @@ use crate::blocks::Blocks;
 use crate::graph::Graph;
 use crate::kept::{Due, Kept, NONE};
 use crate::layout::{layout, Fault, LayoutError};
-use crate::listing::{parse, print, Listing};
+use crate::listing::{parse, print, Listing, MOST_LINES};
 use crate::plain_rules::{instruction_count, left_of, longer, parted, under, Rule, Rules, LONGEST};
 use crate::plain_tables::read_table;
 use crate::plain_windows::{rows, Letter, Naming};
@@ -75,6 +77,10 @@ struct Rewriter<'a> {
     /// The line in which each instruction stands, and whether a line's own instruction is gone.
     home: Vec<u32>,
     is_changed: Vec<bool>,
+    /// Whether each line has a label, how many lines the listing has, and the places where an entry would apply if it had a line less.
+    is_headed: Vec<bool>,
+    lines: usize,
+    waiting: Due,
     refused: Vec<Refused>,
     replaced: u64,
 }
@@ -114,6 +120,9 @@ impl<'a> Rewriter<'a> {
             is_labelled,
             home: listing.spots.iter().map(|(line, _)| *line).collect(),
             is_changed: vec![false; listing.lines.len()],
+            is_headed: listing.lines.iter().map(|line| !line.names.is_empty()).collect(),
+            lines: listing.lines.len(),
+            waiting: Due::none(count),
             refused: Vec::new(),
             replaced: 0,
         }
@@ -125,9 +134,25 @@ impl<'a> Rewriter<'a> {
         count > 0 || !self.is_labelled[first] || self.graph.is_op(self.graph.kept.next[last])
     }
 
+    /// How many lines the listing has once a window has given way to so many instructions: a label in the line of the first one gets a line of its own.
+    fn lines_with(&self, window: &Window, new: usize) -> usize {
+        let line = self.home[window.places[0]] as usize;
+        let is_parted = !self.is_changed[line] && self.is_headed[line];
+        self.lines + new + usize::from(is_parted) - window.count
+    }
+
+    /// Whether the listing has room for these lines.
+    fn has_room(&mut self, window: &Window, new: usize) -> bool {
+        let has_room = self.lines_with(window, new) <= MOST_LINES;
+        if !has_room {
+            self.waiting.put(window.places[0]);
+        }
+        has_room
+    }
+
     /// Whether no mention is out of reach once a window has given way to so many instructions. Then the layout is that of after.
     fn is_reached(&mut self, window: &Window, new: usize) -> bool {
-        let Some(ground) = &mut self.ground else { return true };
+        let Some(ground) = self.ground.as_mut().filter(|_| new < window.count) else { return true };
         let block = ground.blocks.of_line(self.home[window.places[0]] as usize);
         match ground.blocks.gives_way(block, 2 * (window.count - new) as u32) {
             Ok(()) => true,
@@ -142,6 +167,7 @@ impl<'a> Rewriter<'a> {
         let behind = self.graph.kept.next[window.places[window.count - 1]];
         self.graph.live_at(behind) & under(&window.order, rule.dead) == 0
             && self.are_labels_kept(window, rule.right.len())
+            && self.has_room(window, rule.right.len())
             && self.is_reached(window, rule.right.len())
     }
 
@@ -191,6 +217,7 @@ impl<'a> Rewriter<'a> {
     fn replace(&mut self, window: &Window, rule: &Rule) {
         let places = window.places();
         let home = self.home[places[0]];
+        self.lines = self.lines_with(window, rule.right.len());
         let mut effects = [(0, 0); LONGEST];
         for (n, ((letter, uses, writes), place)) in rule.right.iter().zip(places).enumerate() {
             effects[n] = (under(&window.order, *uses), under(&window.order, *writes));
@@ -213,24 +240,38 @@ impl<'a> Rewriter<'a> {
                 due.put(*place);
             } else {
                 due.take(*place);
+                self.waiting.take(*place);
             }
         }
         put_due(due, &graph.kept, rows, longest, if rule.right.is_empty() { behind } else { first });
-        if let Some(Ground { blocks, refusals }) = &mut self.ground {
-            for block in &blocks.changed {
-                refusals.take(*block, |place| {
-                    if graph.kept.is_kept(place) {
-                        due.put(place);
-                    }
-                });
-            }
+        if rule.right.len() < places.len() {
+            self.put_refused();
         }
         self.replaced += 1;
     }
 
+    /// Marks the places where a change was refused by distances in which something moved.
+    fn put_refused(&mut self) {
+        let Rewriter { ground: Some(Ground { blocks, refusals }), graph, due, .. } = self else { return };
+        for block in &blocks.changed {
+            refusals.take(*block, |place| {
+                if graph.kept.is_kept(place) {
+                    due.put(place);
+                }
+            });
+        }
+    }
+
+    /// The least place that is due, or that waits for a line where there is room.
+    fn least(&self) -> Option<usize> {
+        let waiting = if self.lines < MOST_LINES { self.waiting.least() } else { None };
+        self.due.least().into_iter().chain(waiting).min()
+    }
+
     fn rewrite(&mut self) {
-        while let Some(place) = self.due.least() {
+        while let Some(place) = self.least() {
             self.refused.clear();
+            self.waiting.take(place);
             match self.best(place) {
                 Some((window, rule)) => self.replace(&window, rule),
                 None => {

@@ -1,8 +1,10 @@
 //! Learns a table anew in plain Rust, by the same rules: reads a table's text from standard input, takes its header and the left sides and masks of its
-//! entries for windows, and writes the table that is learnt from them. Tells on standard error the milliseconds of learning, the windows, and the
+//! entries for windows, and writes the table that is learnt from them, by costs where the header has them. Tells on standard error the milliseconds of learning, the windows, and the
 //! milliseconds of outcomes, of running states, of formulas and of the solver. With the name of a folder, each formula that the solver is asked is written
 //! there in DIMACS, under a name that begins with the conflicts that it took.
 
+#[path = "../plain_costs.rs"]
+mod plain_costs;
 #[path = "../plain_formulas.rs"]
 mod plain_formulas;
 #[path = "../plain_letters.rs"]
@@ -14,9 +16,10 @@ mod plain_solver;
 #[path = "../plain_steps.rs"]
 mod plain_steps;
 
+use plain_costs::Costs;
 use plain_formulas::{Builder, formula};
 use plain_letters::{alphabet, seeded, text_of};
-use plain_outcomes::Outcomes;
+use plain_outcomes::{Outcomes, WIDEST, weight, width};
 use plain_solver::{Line, Verdict, number, solve};
 use plain_steps::{Instr, Mask, WState, differ, run, tells};
 use std::collections::HashMap;
@@ -34,6 +37,7 @@ struct Settings {
     budget: usize,
     pool: Vec<u32>,
     scratch: u32,
+    costs: Option<Costs>,
 }
 
 struct Window {
@@ -103,7 +107,9 @@ fn entry_text(entry: &Entry) -> String {
 fn header_text(settings: &Settings) -> String {
     let pool: String = settings.pool.iter().map(|n| format!(" {n}")).collect();
     let Settings { regs, left, seed, budget, scratch, .. } = settings;
-    format!("peep 2\nregs {regs}\nleft {left}\nseed {seed}\nbudget {budget}\npool{pool}\nscratch {scratch}\n")
+    let version = if settings.costs.is_some() { 4 } else { 2 };
+    let costs = settings.costs.map_or(String::new(), |costs| format!("costs{}\n", costs.map(|cost| format!(" {cost}")).concat()));
+    format!("peep {version}\nregs {regs}\nleft {left}\nseed {seed}\nbudget {budget}\npool{pool}\nscratch {scratch}\n{costs}")
 }
 
 fn state_text(state: &WState) -> String {
@@ -147,22 +153,22 @@ struct Learner {
 impl Learner {
     fn new(settings: Settings) -> Learner {
         let states = seeded(settings.seed);
-        let outcomes = (0..=4).map(|k| Outcomes::new(k, alphabet(k as u32, &settings.pool), &states[0])).collect();
+        let outcomes = (0..=4).map(|k| Outcomes::new(k, alphabet(k as u32, &settings.pool), settings.costs.as_ref(), &states[0])).collect();
         let bytes = header_text(&settings).len() + states.len() * STATE_LINE + "end\n".len();
         Learner { settings, states, entries: Vec::new(), bytes, outcomes, shares: Shares::default(), folder: std::env::args().nth(1), asked: 0 }
     }
 
-    /// The shorter sequences that the first state doesn't tell from the window.
+    /// The sequences below the window that the first state doesn't tell from it, lightest first.
     fn candidates(&mut self, window: &Window) -> Vec<u32> {
-        let outcomes = &mut self.outcomes[window.k as usize];
-        outcomes.grow(window.left.len() - 1);
         let end = run(&window.left, self.states[0]);
-        outcomes.agreeing(&end, window.mask, outcomes.count_below(window.left.len()))
+        let weight = weight(self.settings.costs.as_ref(), &window.left);
+        self.outcomes[window.k as usize].below(window.left.len(), weight, &end, window.mask)
     }
 
     fn search(&mut self, window: Window, numbers: &[u32]) -> Entry {
         let Window { left, mask, k } = window;
-        let mut opens = Vec::new();
+        let mut opens: Vec<Open> = Vec::new();
+        let mut found = None;
         let mut trials: Vec<(WState, WState)> = self.states.iter().map(|state| (*state, run(&left, *state))).collect();
         let mut start = Instant::now();
         for number in numbers.iter().map(|number| u64::from(*number)) {
@@ -189,15 +195,19 @@ impl Learner {
                 }
                 Verdict::Spent(log) => opens.push(Open { number, log: log_text(&log, formula.clauses.len()) }),
                 Verdict::Unsat(log) => {
-                    let end = self.outcomes[k as usize].count_below(right.len());
-                    opens.retain(|open| open.number < end as u64);
-                    return Entry { left, right, mask, k, proof: log_text(&log, formula.clauses.len()), opens };
+                    found = Some((right, log_text(&log, formula.clauses.len())));
+                    start = Instant::now();
+                    break;
                 }
             }
             start = Instant::now();
         }
+        let (right, proof) = found.unwrap_or_else(|| (left.clone(), String::new()));
+        let weight = |sequence: &[Instr]| weight(self.settings.costs.as_ref(), sequence);
+        opens.retain(|open| weight(&self.outcomes[k as usize].sequence(open.number as usize)) < weight(&right));
+        opens.sort_by_key(|open| open.number);
         self.shares.states += start.elapsed();
-        Entry { right: left.clone(), left, mask, k, proof: String::new(), opens }
+        Entry { left, right, mask, k, proof, opens }
     }
 
     /// Drops the open numbers that a state from a place on tells.
@@ -206,10 +216,10 @@ impl Learner {
         let Learner { states, entries, outcomes, bytes, .. } = self;
         let found = &states[from..];
         for entry in entries {
-            let Entry { left, right, mask, k, opens, .. } = entry;
+            let Entry { left, mask, k, opens, .. } = entry;
             opens.retain(|open| {
                 let sequence = outcomes[*k as usize].sequence(open.number as usize);
-                let told = sequence.len() < right.len() && found.iter().any(|state| tells(*state, left, &sequence, *mask));
+                let told = found.iter().any(|state| tells(*state, left, &sequence, *mask));
                 if told {
                     *bytes -= open_text(open).len();
                 }
@@ -268,7 +278,7 @@ fn mask_of(tail: &str) -> Mask {
 
 /// The settings and the windows of a table's text.
 fn read(text: &str) -> (Settings, Vec<Window>) {
-    let mut settings = Settings { regs: 0, left: 0, seed: 0, budget: 0, pool: Vec::new(), scratch: 0 };
+    let mut settings = Settings { regs: 0, left: 0, seed: 0, budget: 0, pool: Vec::new(), scratch: 0, costs: None };
     let mut letters = HashMap::new();
     let mut windows = Vec::new();
     let mut left: Vec<&str> = Vec::new();
@@ -289,6 +299,10 @@ fn read(text: &str) -> (Settings, Vec<Window>) {
                 letters = alphabet(settings.regs, &settings.pool).into_iter().map(|instr| (text_of(&instr), instr)).collect();
             }
             "scratch" => settings.scratch = tail.parse().unwrap(),
+            "costs" => {
+                let costs: Vec<u8> = tail.split(' ').map(|cost| cost.parse().unwrap()).collect();
+                settings.costs = Some(costs.try_into().unwrap());
+            }
             "left" => left.push(tail),
             "mask" => {
                 let k = (register_count(&left) + settings.scratch).min(4);
@@ -304,6 +318,12 @@ fn main() -> io::Result<()> {
     let mut text = String::new();
     io::stdin().read_to_string(&mut text)?;
     let (settings, windows) = read(&text);
+    let letters = alphabet((settings.regs + settings.scratch).min(4), &settings.pool);
+    let width = width(letters.len(), settings.left, settings.costs.as_ref());
+    if width > WIDEST {
+        eprintln!("refused wide {width}");
+        return Ok(());
+    }
     let count = windows.len();
     let start = Instant::now();
     let mut learner = Learner::new(settings);

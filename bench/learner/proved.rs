@@ -1,16 +1,17 @@
 //! Learns a table from the windows of the listing on standard input by three registers, three instructions, the default pool and a budget of 20,000, and
-//! writes its text to standard output. Tells on standard error the milliseconds of learning and the number of windows. In Rattle; learner.sh builds it.
+//! writes its text to standard output. Where a cost file and an empty line stand before the listing, it is learnt by these costs, from windows of at most two
+//! instructions. Tells on standard error the milliseconds of learning and the number of windows. In Rattle; learner.sh builds it.
 #![tactic(auto)]
 
-ghost use Rattle.std.specs.Prelude.{IfOk, map};
-ghost use Rattle.table_learn.specs.Settings.{settings_of, AreInLimits};
+ghost use Rattle.std.specs.Prelude.{IfOk, map, ◌≤◌, length};
+ghost use Rattle.table_learn.specs.Given.{settings_of, AreInLimits};
 ghost use Rattle.window_harvest.specs.Harvest.{AreHarvest, pair_of};
 ghost use Rattle.audit_cli.specs.Learn.{limits_of};
 
 use listing_parser::{Listing, parse};
 use liveness::live;
 use rule_table::write_table;
-use seq_enum::Pool;
+use seq_enum::{Costs, Pool, read_costs};
 use std::alloc::Global;
 use std::io::{Read, Write};
 use std::time::Instant;
@@ -59,22 +60,60 @@ fn timed<L: Ledger>(
     Ok(())
 }
 
+/// How many bytes the cost file has that stands before an empty line and a listing; 0 where the listing stands alone.
+fn end_of_costs(text: &[u8]) -> usize
+    ensures { result ≤ length text.now }
+{
+    if let [b'c', b'o', b's', b't', b's', b' ', ..] = text {
+        for at in 0..text.len() {
+            if let [b'\n', b'\n', ..] = &text[at..] {
+                return text.len().min(at + 1);
+            }
+        }
+    }
+    0
+}
+
+/// The settings by costs, or without them.
+fn settings(pool: Pool, costs: Option<Costs>) -> Settings
+    ensures { AreInLimits (settings_of result) }
+{
+    let (version, left) = match costs {
+        None => (2, 3),
+        Some(_) => (4, 2),
+    };
+    Settings {
+        version,
+        regs: 3,
+        left,
+        seed: 42,
+        budget: 20_000,
+        pool,
+        scratch: 0,
+        costs,
+    }
+}
+
 fn main(rt: HostRuntime) -> anyhow::Result<()> {
     let mut text = Vec::new(rt.alloc());
     rt.stdin().read_to_end(&mut text)?;
     let Some(pool) = Pool::new(&[0, 1, 2, 4, 8, 16, 24, 31, 255]) else {
         return Ok(());
     };
-    let Ok(listing) = parse(rt.alloc(), &text) else {
+    let (costs, listing) = text.split_at(end_of_costs(&text));
+    let costs = if costs.is_empty() {
+        None
+    } else {
+        Some(read_costs(costs)?)
+    };
+    let Ok(listing) = parse(rt.alloc(), listing) else {
         eprintln!(rt; "refused")?;
         return Ok(());
     };
-    let settings = Settings {
-        regs: 3,
-        left: 3,
-        budget: 20_000,
-        seed: 42,
-        pool,
-    };
-    timed(&rt, &listing, settings, &mut Steps::new(Counted::new()))
+    timed(
+        &rt,
+        &listing,
+        settings(pool, costs),
+        &mut Steps::new(Counted::new()),
+    )
 }

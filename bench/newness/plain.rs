@@ -5,8 +5,11 @@
 #[allow(dead_code)]
 #[path = "../plain_checker.rs"]
 mod plain_checker;
+#[path = "../plain_newness.rs"]
+mod plain_newness;
 
 use plain_checker::{Checker, code};
+use plain_newness::are_new;
 use std::io::{self, Read};
 use std::time::Instant;
 
@@ -30,53 +33,6 @@ fn addition(line: &str) -> Addition {
     }
 }
 
-/// Clauses, each in the shortest of the lists of its literals.
-#[derive(Default)]
-struct Lists {
-    lists: Vec<Vec<Vec<u32>>>,
-    has_empty: bool,
-    members: Vec<bool>,
-}
-
-impl Lists {
-    fn keep(&mut self, clause: &[u32]) {
-        let length = |literal: u32| self.lists.get(literal as usize).map_or(0, Vec::len);
-        let Some(literal) = clause.iter().copied().min_by_key(|literal| length(*literal)) else {
-            self.has_empty = true;
-            return;
-        };
-        let at = literal as usize;
-        if self.lists.len() <= at {
-            self.lists.resize_with(at + 1, Vec::new);
-        }
-        self.lists[at].push(clause.to_vec());
-    }
-
-    fn is_part(&self, clause: &[u32]) -> bool {
-        clause.iter().all(|literal| self.members.get(*literal as usize).copied().unwrap_or(false))
-    }
-
-    fn has_part(&self, literals: &[u32]) -> bool {
-        let lists = literals.iter().filter_map(|literal| self.lists.get(*literal as usize));
-        lists.flatten().any(|clause| self.is_part(clause))
-    }
-
-    fn is_new(&mut self, clause: &[u32]) -> bool {
-        for literal in clause {
-            let at = *literal as usize;
-            if self.members.len() <= at {
-                self.members.resize(at + 1, false);
-            }
-            self.members[at] = true;
-        }
-        let is_new = !self.has_empty && !self.has_part(clause);
-        for literal in clause {
-            self.members[*literal as usize] = false;
-        }
-        is_new
-    }
-}
-
 fn is_spent(formula: &[Vec<u32>], log: &[Addition]) -> bool {
     if log.iter().any(|line| line.literals.is_empty()) {
         return false;
@@ -87,17 +43,7 @@ fn is_spent(formula: &[Vec<u32>], log: &[Addition]) -> bool {
             return false;
         }
     }
-    let mut lists = Lists::default();
-    for clause in formula {
-        lists.keep(clause);
-    }
-    for line in log {
-        if !lists.is_new(&line.literals) {
-            return false;
-        }
-        lists.keep(&line.literals);
-    }
-    true
+    are_new(formula, log.iter().map(|line| &line.literals[..]))
 }
 
 fn main() -> io::Result<()> {

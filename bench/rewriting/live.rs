@@ -19,6 +19,8 @@ pub struct Live {
     /// The places that were looked at since a replacement, with what was live after them.
     touched: Vec<(usize, u32)>,
     is_touched: Vec<bool>,
+    /// The places outside the window after which fewer items are live than before the last replacement.
+    pub shrunk: Vec<usize>,
 }
 
 /// The items that are live before straight code, where these are live after it.
@@ -51,7 +53,7 @@ impl Live {
         }
         let by_points = all_ways().filter(|(_, ways)| matches!(ways.first.next, Next::Points)).map(|(place, _)| place).collect();
         let points = (0..count).filter(|place| flows.is_point[*place]).collect();
-        Live { flows, jumpers, ends, by_points, points, readers: [None; 19], touched: Vec::new(), is_touched: vec![false; count] }
+        Live { flows, jumpers, ends, by_points, points, readers: [None; 19], touched: Vec::new(), is_touched: vec![false; count], shrunk: Vec::new() }
     }
 
     pub fn after(&self, place: usize) -> u32 {
@@ -157,9 +159,9 @@ impl Live {
         }
     }
 
-    /// Instructions with these ways stand in place of a window's first ones, and none in place of the others. The least place after which fewer items are
-    /// live than before, if that is before the window.
-    pub fn replace(&mut self, window: &[usize], new: &[(u32, u32)]) -> usize {
+    /// Instructions with these ways stand in place of a window's first ones, and none in place of the others.
+    pub fn replace(&mut self, window: &[usize], new: &[(u32, u32)]) {
+        self.shrunk.clear();
         let (first, last) = (window[0], window[window.len() - 1]);
         let ways = |flows: &Flows| -> [Way; 5] {
             std::array::from_fn(|n| match window.get(n).and_then(|place| flows.ways[*place]) {
@@ -188,7 +190,7 @@ impl Live {
         }
         self.flows.before[first] = new_before;
         if new_before == old_before {
-            return first;
+            return;
         }
         if lost != 0 {
             self.touch(first);
@@ -201,13 +203,11 @@ impl Live {
             places.extend_from_slice(&self.by_points);
         }
         self.grow(places);
-        let mut least = first;
         for (place, old) in std::mem::take(&mut self.touched) {
             self.is_touched[place] = false;
             if old & !self.flows.after[place] != 0 {
-                least = least.min(place);
+                self.shrunk.push(place);
             }
         }
-        least
     }
 }

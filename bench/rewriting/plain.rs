@@ -4,6 +4,9 @@
 
 #[path = "../listing_lines/plain/instruction.rs"]
 mod instruction;
+#[path = "../growth/kept.rs"]
+#[allow(dead_code)]
+mod kept;
 #[path = "../listing_lines/plain/layout.rs"]
 mod layout;
 #[path = "../listing_lines/plain/line.rs"]
@@ -13,6 +16,8 @@ mod listing;
 mod live;
 #[path = "../listing_lines/plain/operands.rs"]
 mod operands;
+#[path = "../plain_costs.rs"]
+mod plain_costs;
 #[path = "../plain_flows.rs"]
 mod plain_flows;
 #[path = "../plain_rules.rs"]
@@ -25,8 +30,9 @@ mod reach;
 #[path = "../listing_lines/plain/words.rs"]
 mod words;
 
+use crate::kept::Due;
 use crate::layout::{layout, Fault, LayoutError};
-use crate::listing::{parse, print, Listing};
+use crate::listing::{parse, print, Listing, MOST_LINES};
 use crate::live::Live;
 use crate::plain_rules::{instruction_count, left_of, longer, parted, under, with_byte, Rule, Rules, LONGEST};
 use crate::plain_tables::read_table;
@@ -77,6 +83,14 @@ struct Rewriter<'a> {
     /// The line in which each instruction stands, and whether a line's own instruction is gone.
     home: Vec<u32>,
     is_changed: Vec<bool>,
+    /// How many lines the listing has.
+    lines: usize,
+    /// From this place on all are to be looked at.
+    at: u32,
+    /// The places before it that are to be looked at again.
+    again: Due,
+    /// The places where an entry would apply if the listing had a line less.
+    waiting: Due,
     /// The least place where an entry would apply but for its layout.
     held: u32,
     replaced: u64,
@@ -106,6 +120,10 @@ impl<'a> Rewriter<'a> {
             is_gone: vec![false; count],
             home: listing.spots.iter().map(|(line, _)| *line).collect(),
             is_changed: vec![false; listing.lines.len()],
+            lines: listing.lines.len(),
+            at: if count > 0 { 0 } else { END },
+            again: Due::none(count),
+            waiting: Due::none(count),
             held: END,
             replaced: 0,
         }
@@ -117,9 +135,25 @@ impl<'a> Rewriter<'a> {
         count > 0 || !self.is_labelled[window.places[0] as usize] || behind != END && self.live.is_op(behind as usize)
     }
 
+    /// How many lines the listing has once a window has given way to so many instructions: a label in the line of the first one gets a line of its own.
+    fn lines_with(&self, window: &Window, new: usize) -> usize {
+        let line = self.home[window.places[0] as usize] as usize;
+        let is_parted = !self.is_changed[line] && !self.listing.lines[line].names.is_empty();
+        self.lines + new + usize::from(is_parted) - window.count
+    }
+
+    /// Whether the listing has room for these lines.
+    fn has_room(&mut self, window: &Window, new: usize) -> bool {
+        let has_room = self.lines_with(window, new) <= MOST_LINES;
+        if !has_room {
+            self.waiting.put(window.places[0] as usize);
+        }
+        has_room
+    }
+
     /// Whether no mention is out of reach once a window has given way to so many instructions. Then the layout is that of after.
     fn is_reached(&mut self, window: &Window, new: usize) -> bool {
-        if self.reach.is_steady() {
+        if new == window.count || self.reach.is_steady() {
             return true;
         }
         let line = self.home[window.places[0] as usize];
@@ -137,7 +171,8 @@ impl<'a> Rewriter<'a> {
             return None;
         }
         let window = window.with_scratch(rule, after)?;
-        let applies = self.are_labels_kept(&window, rule.right.len()) && self.is_reached(&window, rule.right.len());
+        let new = rule.right.len();
+        let applies = self.are_labels_kept(&window, new) && self.has_room(&window, new) && self.is_reached(&window, new);
         applies.then_some(window)
     }
 
@@ -205,6 +240,8 @@ impl<'a> Rewriter<'a> {
     fn leave(&mut self, place: u32) {
         let (before, behind) = (self.previous[place as usize], self.next[place as usize]);
         self.is_gone[place as usize] = true;
+        self.again.take(place as usize);
+        self.waiting.take(place as usize);
         if before == END { self.first = behind } else { self.next[before as usize] = behind }
         if behind != END {
             self.previous[behind as usize] = before;
@@ -213,11 +250,13 @@ impl<'a> Rewriter<'a> {
         }
     }
 
-    /// Puts an entry's right side in place of a window. The place from where another entry may apply now.
-    fn replace(&mut self, window: &Window, rule: &Rule) -> u32 {
+    /// Puts an entry's right side in place of a window.
+    fn replace(&mut self, window: &Window, rule: &Rule) {
         let places = window.places.map(|place| place as usize);
         let places = &places[..window.count];
+        let new = rule.right.len();
         let home = self.home[places[0]];
+        self.lines = self.lines_with(window, new);
         let mut effects = [(0, 0); LONGEST];
         for (n, ((letter, uses, writes), place)) in rule.right.iter().zip(places).enumerate() {
             effects[n] = (under(&window.order, *uses), under(&window.order, *writes));
@@ -227,38 +266,78 @@ impl<'a> Rewriter<'a> {
             self.is_changed[self.home[*place] as usize] = true;
             self.home[*place] = home;
         }
-        let shrunk = self.live.replace(places, &effects[..rule.right.len()]);
-        for place in &places[rule.right.len()..] {
+        self.live.replace(places, &effects[..new]);
+        for place in &places[new..] {
             self.leave(*place as u32);
         }
         self.replaced += 1;
-        let least = shrunk.min(self.held as usize);
-        self.held = END;
-        self.back(least)
+        self.look_around(&places[..new], places[0]);
+        if new < window.count {
+            self.at = self.at.min(std::mem::replace(&mut self.held, END));
+        }
+        self.at = self.kept(self.at);
     }
 
-    /// A place before which no window comes to a place, which may be gone.
-    fn back(&self, place: usize) -> u32 {
-        let mut at = place as u32;
-        let mut left = self.rules.longest - 1;
-        while left > 0 || self.is_gone[at as usize] {
-            let before = self.previous[at as usize];
-            if before == END {
-                return self.first;
-            }
-            at = before;
-            left -= usize::from(left > 0 && !self.is_gone[at as usize]);
+    /// A place, or where it is gone the next one.
+    fn kept(&self, mut place: u32) -> u32 {
+        while place != END && self.is_gone[place as usize] {
+            place = self.next[place as usize];
         }
-        at
+        place
+    }
+
+    /// Puts the places among those that are to be looked at again from which a window comes to new instructions, the first of which stands at a place, or ends where
+    /// fewer items are live than before.
+    fn look_around(&mut self, new: &[usize], first: usize) {
+        self.look_again(first);
+        for place in new {
+            if (*place as u32) < self.at {
+                self.again.put(*place);
+            }
+        }
+        let shrunk = std::mem::take(&mut self.live.shrunk);
+        shrunk.iter().for_each(|place| self.look_again(*place));
+        self.live.shrunk = shrunk;
+    }
+
+    /// Puts the places among those that are to be looked at again from which a window comes to a place, which may be gone.
+    fn look_again(&mut self, place: usize) {
+        let mut at = place as u32;
+        for _ in 0..self.rules.longest {
+            while at != END && self.is_gone[at as usize] {
+                at = self.previous[at as usize];
+            }
+            if at == END {
+                return;
+            }
+            if at < self.at {
+                self.again.put(at as usize);
+            }
+            if !self.rows[at as usize].1 {
+                return;
+            }
+            at = self.previous[at as usize];
+        }
+    }
+
+    /// The least place that is to be looked at.
+    fn least(&self) -> Option<u32> {
+        let waiting = if self.lines < MOST_LINES { self.waiting.least() } else { None };
+        let before = self.again.least().into_iter().chain(waiting).min();
+        Some(before.map_or(self.at, |place| self.at.min(place as u32))).filter(|place| *place != END)
     }
 
     fn rewrite(&mut self) {
-        let mut at = self.first;
-        while at != END {
-            at = match self.best(at) {
+        while let Some(place) = self.least() {
+            if place < self.at {
+                self.again.take(place as usize);
+                self.waiting.take(place as usize);
+            }
+            match self.best(place) {
                 Some((window, rule)) => self.replace(&window, &rule),
-                None => self.next[at as usize],
-            };
+                None if place == self.at => self.at = self.next[place as usize],
+                None => {}
+            }
         }
     }
 

@@ -1,6 +1,8 @@
 //! Tables as plain Rust, for a comparison of speed: reads a table's text from standard input and writes it back to standard output.
 //! Tells on standard error what the proved program tells.
 
+#[path = "../plain_costs.rs"]
+mod plain_costs;
 #[path = "../plain_tables.rs"]
 mod plain_tables;
 

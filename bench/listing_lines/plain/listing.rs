@@ -34,7 +34,7 @@ pub struct Refusal {
     pub kind: Kind,
 }
 
-const MOST_LINES: usize = 262_144;
+pub const MOST_LINES: usize = 262_144;
 
 /// In bytes, without its newline.
 const LONGEST_LINE: usize = 1024;
