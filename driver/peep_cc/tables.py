@@ -13,6 +13,10 @@ from .files import write_text
 
 
 VERSION_OF_FAMILIES = 3
+# what the numbers of a table's line `costs` are of, in turn
+COSTED = "adds subs movs cmp lsls lsrs asrs ands eors adcs sbcs rors tst rsbs cmn orrs muls bics mvns mov add sxth sxtb uxth uxtb rev rev16 revsh".split()
+Costs = dict[str, int]
+"""What instructions cost, by their mnemonics. Where it is empty each costs 1, so that a side costs as much as it has instructions."""
 # the instructions whose number has 8 bits
 IN_BYTES = re.compile(r"((?:movs|cmp|adds|subs) r\d, #)(\d+)$")
 
@@ -41,20 +45,34 @@ class Entry:
         mask: frozenset[str] = frozenset(),
         proof: list[str] | None = None,
         opens: list[tuple[int, list[str]]] | None = None,
+        costs: Costs | None = None,
     ) -> None:
         self.left = left or []
         self.right = right or []
         self.mask = mask
         self.proof = proof or []
         self.opens = opens or []
+        self.costs = costs or {}
+
+    def cost(self, side: list[str]) -> int:
+        """What a side costs."""
+        return sum(self.costs.get(line.partition(" ")[0], 1) for line in side) if self.costs else len(side)
+
+    def gain(self) -> int:
+        """How much less its right side costs than its left side."""
+        return self.cost(self.left) - self.cost(self.right)
+
+    def rank(self) -> tuple[int, int]:
+        """What its right side costs, then how many instructions it has: the lower, the better."""
+        return self.cost(self.right), len(self.right)
 
     def is_shorter(self) -> bool:
-        """Whether it takes an instruction away."""
-        return len(self.right) < len(self.left)
+        """Whether it takes an instruction away, or in a table with costs lowers the cost."""
+        return self.gain() > 0
 
     def covers(self, other: Entry) -> bool:
         """Whether the other entry does nothing that this one doesn't."""
-        return self is not other and self.left == other.left and self.mask > other.mask and len(self.right) <= len(other.right)
+        return self is not other and self.left == other.left and self.mask > other.mask and self.rank() <= other.rank()
 
     def text(self) -> str:
         """Its text in a table."""
@@ -95,21 +113,21 @@ class Family:
 
     def covers_entry(self, other: Entry) -> bool:
         """Whether an entry does nothing that this family doesn't. It needs the one that it raises."""
-        wide = self.entry is not other and self.entry.mask >= other.mask and len(self.entry.right) <= len(other.right)
+        wide = self.entry is not other and self.entry.mask >= other.mask and self.entry.rank() <= other.rank()
         return wide and self.value_for(other.left) is not None
 
     def covers(self, other: Family) -> bool:
         """Whether the other family does nothing that this one doesn't, and is a narrower one."""
         own, its = self.entry, other.entry
-        if self is other or not (self.low <= other.low and other.high <= self.high and own.mask >= its.mask and len(own.right) <= len(its.right)):
+        if self is other or not (self.low <= other.low and other.high <= self.high and own.mask >= its.mask and own.rank() <= its.rank()):
             return False
-        wider = self.width() > other.width() or own.mask > its.mask or len(own.right) < len(its.right)
+        wider = self.width() > other.width() or own.mask > its.mask or own.rank() < its.rank()
         return wider and self.pattern() == other.pattern()
 
     def is_as(self, other: Family) -> bool:
         """Whether both do the same."""
         own, its = self.entry, other.entry
-        return (self.low, self.high, own.mask, len(own.right)) == (other.low, other.high, its.mask, len(its.right)) and self.pattern() == other.pattern()
+        return (self.low, self.high, own.mask, own.rank()) == (other.low, other.high, its.mask, its.rank()) and self.pattern() == other.pattern()
 
     def text(self, place: int) -> str:
         """Its text in a table, where its entry stands at a place, from 1."""
@@ -156,15 +174,18 @@ def in_version(head: list[str], least: int) -> list[str]:
 def read_table(text: str) -> Table:
     """The table of a text, which `peep` wrote or accepted."""
     table = Table()
+    costs: Costs = {}
     log: list[str] = []
     for line in text.splitlines():
         word, _, rest = line.partition(" ")
         if word == "entry":
-            table.entries.append(Entry())
+            table.entries.append(Entry(costs=costs))
         elif word == "end":
             break
         elif not table.entries:
             (table.states if word == "state" else table.head).append(line)
+            if word == "costs":
+                costs = dict(zip(COSTED, map(int, rest.split())))
         elif word == "left":
             table.entries[-1].left.append(rest)
         elif word == "right":
@@ -187,8 +208,8 @@ def read_table(text: str) -> Table:
 
 
 def filtered(table: Table, most_bytes: int = 100_000) -> Table:
-    """The table's entries that take something away, but those that another or a family covers or whose text is long: the proof of each is checked at each run. The
-    families of what is left, with the entries that these raise."""
+    """The table's entries that take something away, by costs those that lower the cost, but those that another or a family covers or whose text is long: the proof of
+    each is checked at each run. The families of what is left, with the entries that these raise."""
     shorter = [entry for entry in table.entries if entry.is_shorter() and len(entry.text()) <= most_bytes]
     takes = {id(entry) for entry in shorter}
     families = _uncovered([family for family in table.families if id(family.entry) in takes and family.width() > 1 and len(family.text(0)) <= most_bytes])
@@ -229,8 +250,8 @@ def _uncovered(families: list[Family]) -> list[Family]:
 
 
 def merged(tables: Iterable[Table]) -> Table:
-    """One table of several that were learnt with the same options: the states of all, and of each left side and mask the entry with the shortest right side; the families
-    with the entries that they raise. Tables of several versions come in the latest.
+    """One table of several that were learnt with the same options: the states of all, and of each left side and mask the entry with the shortest right side, by costs with
+    the cheapest; the families with the entries that they raise. Tables of several versions come in the latest.
 
     A state of one table may tell a sequence that an entry of another names open; such a name has to go (`drop_told`)."""
     out = Table()
@@ -248,7 +269,7 @@ def merged(tables: Iterable[Table]) -> Table:
         out.states += [state for state in table.states if state not in known]
         for entry in table.entries:
             key = (tuple(entry.left), entry.mask)
-            if key not in best or len(entry.right) < len(best[key].right):
+            if key not in best or entry.rank() < best[key].rank():
                 best[key] = entry
         for family in table.families:
             entry = raised.setdefault((tuple(family.entry.left), tuple(family.entry.right), family.entry.mask), family.entry)
@@ -257,7 +278,7 @@ def merged(tables: Iterable[Table]) -> Table:
         if tuple(best[left, mask].right) == right:
             best[left, mask] = entry
     chosen = {id(entry): entry for entry in [*best.values(), *raised.values()]}
-    out.entries = sorted(chosen.values(), key=lambda entry: (len(entry.right) - len(entry.left), -len(entry.mask)))
+    out.entries = sorted(chosen.values(), key=lambda entry: (-entry.gain(), -len(entry.mask)))
     return out
 
 

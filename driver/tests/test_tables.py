@@ -47,6 +47,41 @@ class Tables(unittest.TestCase):
         self.assertFalse(drop_told(table, "peep audit: refused entry 1 3"))
 
 
+class Costs(unittest.TestCase):
+    """Tables of version 4, in which `muls` costs 32 and each other instruction 1."""
+
+    HEAD = "peep 4\npool 3\nscratch 0\ncosts" + 16 * " 1" + " 32" + 11 * " 1" + "\n"
+
+    def table(self, *entries: tuple[str, str, str], head: str = HEAD) -> Table:
+        return read_table(head + "".join(entry(*parts).text() for parts in entries) + "end\n")
+
+    def test_filtered_keeps_what_lowers_the_cost(self) -> None:
+        product, sums = "movs r0, #3; muls r1, r0, r1", "adds r0, r1, r1; adds r1, r0, r1"
+        as_dear, gone = "muls r1, r1, r1; adds r1, #1", "muls r1, r1, r1"
+        table = self.table((product, sums, "r1 n"), (product, as_dear, "r0 r1"), (product, sums, "r1"), (product, "lsls r1, r1, #3", "r1"), (sums, sums, "r1"), (product, gone, "n"))
+        table.families.append(Family(table.entries[0], 3, 2, 3))
+        self.assertEqual(filtered(table).entries, [table.entries[0], table.entries[3]])
+        self.assertEqual(filtered(table).families, table.families)
+        self.assertEqual(filtered(self.table((product, sums, "r1"), head="peep 3\npool 3\nscratch 0\n")).entries, [])
+
+    def test_a_family_that_costs_more_covers_nothing(self) -> None:
+        dear, cheap = entry("movs r0, #4; muls r1, r0, r1", "muls r1, r1, r1", "r1 n"), entry("movs r0, #3; muls r1, r0, r1", "adds r0, r1, r1; adds r1, r0, r1", "r1")
+        table = read_table(self.HEAD + dear.text() + cheap.text() + "end\n")
+        table.families.append(Family(table.entries[0], 4, 0, 255))
+        self.assertEqual(filtered(table).entries, table.entries)
+
+    def test_merged_takes_the_cheapest(self) -> None:
+        left, mask = "movs r0, #3; muls r1, r0, r1", "r1"
+        short, cheap = self.table((left, "muls r1, r1, r1", mask)), self.table((left, "adds r0, r1, r1; adds r1, r0, r1", mask), ("muls r0, r0, r0", "", ""))
+        for tables in ([short, cheap], [cheap, short]):
+            both = merged(tables)
+            self.assertEqual([(found.left[0], len(found.right)) for found in both.entries], [("muls r0, r0, r0", 0), ("movs r0, #3", 2)])
+            self.assertEqual(both.head, short.head)
+        for head in (self.HEAD.replace("32", "31"), "peep 3\npool 3\nscratch 0\n"):
+            with self.assertRaises(TableError):
+                merged([short, self.table(head=head)])
+
+
 class Families(unittest.TestCase):
     def test_text_comes_back(self) -> None:
         text = "peep 3\nscratch 0\nstate 1\nentry\nleft a\nmask r0\nproof\nentry\nleft b\nmask\nproof\n1 0 2 0\nopen 3\n4 0\nfamily 2 9 0 255\nproof\n5 0 1 0\n5 d 4 0\nfamily 1 8 8 9\nproof\nend\n"
