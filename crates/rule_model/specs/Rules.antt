@@ -8,7 +8,7 @@ use Rattle.thumb_model.specs.Flow.{LiveAfter}
 use Rattle.thumb_model.specs.Sides.{Equal, IsOneToOne, AreOver, is_named, register_count, normalised}
 use Rattle.thumb_model.specs.Replaced.{move_label, replaced}
 
--- a rule: its left side, its right side, the items that may be live after it, and the numbers of the shorter sequences that it leaves open
+-- a rule: its left side, its right side, the items that may be live after it, and the numbers of the sequences that it leaves open
 pub record Rule : Type 0 where
   pub left : List Instr
   pub right : List Instr

@@ -51,7 +51,7 @@ AreShortest t = (k : ℕ) (e : table.Rule) → slice_get t.rules k ≡ Some e �
 abbrev pub AreRightlyOpen : table.Table → Type 0
 AreRightlyOpen t = (k : ℕ) (e : table.Rule) → slice_get t.rules k ≡ Some e → (i : ℕ) (o : table.Opened) → slice_get e.opens i ≡ Some o → IsRightlyOpen t e o
 
--- a family's entry holds for each value, and its right side is shortest for all of them together
+-- a family's entry holds for each value, and its right side is shortest, or cheapest, for all of them together
 pub record IsSoundFamily (t : table.Table) (f : table.Family) : Type 0 where
   pub entry : table.Rule
   pub is_entry : entry_of t f ≡ Some entry
@@ -62,7 +62,7 @@ pub record IsSoundFamily (t : table.Table) (f : table.Family) : Type 0 where
 abbrev pub AreSoundFamilies : table.Table → Type 0
 AreSoundFamilies t = (k : ℕ) (f : table.Family) → slice_get t.families k ≡ Some f → IsSoundFamily t f
 
--- a table's rules are sound and shortest, what they name open is rightly so, and its families hold for each of their values
+-- a table's rules are sound and shortest, or cheapest, what they name open is rightly so, and its families hold for each of their values
 pub record IsSound (t : table.Table) : Type 0 where
   pub sound : AreSound (numbers_of t)
   pub shortest : AreShortest t

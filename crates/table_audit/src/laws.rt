@@ -20,8 +20,8 @@ pub fn accepted_tables_are_not_refused()
     ensures { (t : Table) (r : Result code.Table AuditError) → IsAccepted t → Answers AuditError.Memory r (TableVerdict t) → IfErr r (λ e. e ≡ AuditError.Memory) }
 {}
 
-/// The rules of an accepted table are sound, and shortest but for what they name open, which is rightly so; and its families hold for each of
-/// their values.
+/// The rules of an accepted table are sound, and shortest, or with costs cheapest, but for what they name open, which is rightly so; and its
+/// families hold for each of their values.
 #[tactic(auto, using(crate::proofs::Sound::accepted_sound))]
 pub fn accepted_tables_are_sound()
     ensures { (t : Table) → IsTable t → IsAccepted t → IsSound t }
