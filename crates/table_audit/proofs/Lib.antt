@@ -21,3 +21,4 @@ pub mod Settling
 pub mod Covering
 pub mod Limits
 pub mod Growing
+pub mod Ones

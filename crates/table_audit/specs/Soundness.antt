@@ -1,5 +1,5 @@
 -- What the entries of an accepted table are.
-use Rattle.std.specs.Prelude.{ℕ, ◌≡◌, ◌≤◌, false, List, [], ◌∷◌, Option, None, Some, ◌++◌, filter, length, map, slice_get}
+use Rattle.std.specs.Prelude.{ℕ, ◌≡◌, ◌≤◌, ◌↔◌, false, List, [], ◌∷◌, Option, None, Some, ◌++◌, filter, length, map, replicate, slice_get}
 use Rattle.thumb_instr.specs.declared.instr.Instr.{Instr}
 use Rattle.thumb_instr.specs.Items.{has}
 use Rattle.rule_model.specs.Rules.{Rule, alone, AreSound}
@@ -43,6 +43,10 @@ numbers_of t = numbers_in t.rules t.families
 pub record IsShortest (h : Header) (e : table.Rule) : Type 0 where
   pub no_longer : length e.right ≤ length e.left
   pub least : (number : ℕ) (other : List Instr) → IsBelow h e.left e.right number other → is_named e.opens number ≡ false → Equal e.left other (items_in e.mask) → ⊥
+
+-- where each mnemonic costs 1, a right side is cheapest exactly where it would be shortest without costs
+abbrev pub CheapestIsShortest : Type 0
+CheapestIsShortest = (h : Header) (e : table.Rule) → h.costs ≡ Some (replicate 28 1) → IsShortest h e ↔ IsShortest (record h { costs = None }) e
 
 abbrev pub AreShortest : table.Table → Type 0
 AreShortest t = (k : ℕ) (e : table.Rule) → slice_get t.rules k ≡ Some e → IsShortest t.header e

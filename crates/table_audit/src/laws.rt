@@ -6,7 +6,7 @@ ghost use Rattle.rule_table.specs.Valid.{IsTable};
 ghost use Rattle.proof_logs.specs.Verdicts.{Answers};
 ghost use Rattle.table_audit.specs.declared.errors.AuditError.{AuditError};
 ghost use Rattle.table_audit.specs.Acceptance.{TableVerdict, IsAccepted};
-ghost use Rattle.table_audit.specs.Soundness.{IsSound};
+ghost use Rattle.table_audit.specs.Soundness.{IsSound, CheapestIsShortest};
 ghost use Rattle.table_audit.specs.Canonical.{CanonicalFormIsSide};
 
 /// The verdict on a table is one.
@@ -25,6 +25,11 @@ pub fn accepted_tables_are_not_refused()
 #[tactic(auto, using(crate::proofs::Sound::accepted_sound))]
 pub fn accepted_tables_are_sound()
     ensures { (t : Table) → IsTable t → IsAccepted t → IsSound t }
+{}
+
+/// Where each mnemonic costs 1, a right side is cheapest exactly where it would be shortest without costs.
+pub fn cheapest_is_shortest_at_costs_of_one()
+    ensures { CheapestIsShortest }
 {}
 
 /// The canonical form of a window is a canonical side, as long as the window, and its mask has no register but those that it names.
