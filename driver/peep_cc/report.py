@@ -2,6 +2,7 @@
 
 from __future__ import annotations
 
+import errno
 import json
 import os
 import sys
@@ -55,7 +56,9 @@ def write_facts(log: str | None, facts: Facts) -> None:
     try:
         at = os.open(log, os.O_WRONLY | os.O_APPEND | os.O_CREAT, 0o666)
         try:
-            os.write(at, facts.line().encode())
+            line = facts.line().encode()
+            if os.write(at, line) < len(line):
+                raise OSError(errno.ENOSPC, os.strerror(errno.ENOSPC))
         finally:
             os.close(at)
     except OSError as error:

@@ -14,7 +14,7 @@ from .program import Program, ProgramError
 from .recipe import LEARNING, Rewriter
 from .report import Facts, Left, Replacement, write_facts
 from .settings import Settings
-from .splice import SpliceError, spliced
+from .splice import spliced
 from .words import Compilation
 
 # what a compiler writes beside its listing, that belongs beside the object
@@ -110,7 +110,7 @@ class Unit:
         try:
             self._compiler(self.compilation.assembler_words(short, made, tells=False))
         except PlainError as error:
-            raise ProgramError("the assembler refuses the shorter listing: " + (str(error).strip().splitlines() or ["nothing said"])[-1]) from error
+            raise ProgramError(f"the assembler refuses the shorter listing: {error_of(str(error))}") from error
         size = text_size(made)
         if size >= self.facts.before:
             self.facts.notes.append("the object doesn't get smaller by what was replaced: alignment")
@@ -182,6 +182,12 @@ def put_in_place(made: str | os.PathLike[str], target: str) -> None:
             os.remove(beside)
 
 
+def error_of(said: str) -> str:
+    """The first line with an error of what a compiler said, or the last one."""
+    lines = said.strip().splitlines() or ["nothing said"]
+    return next((line for line in lines if "error" in line.lower()), lines[-1])
+
+
 def plain(settings: Settings, words: list[str]) -> int:
     """Asks the compiler as the build asked, in our place."""
     sys.stderr.flush()
@@ -208,10 +214,15 @@ def make(compilation: Compilation, settings: Settings, words: list[str]) -> int:
             sys.stderr.write(said)
             try:
                 unit.shorten()
-            except (ProgramError, SpliceError, OSError, ValueError) as error:
-                # the plain object stands
-                facts.error = str(error)
-    except PlainError:
+            except PlainError:
+                raise
+            except Exception as error:
+                # whatever fails, the plain object stands
+                facts.error = str(error) or type(error).__name__
+    except PlainError as error:
+        # told though the compiler may refuse the source: then there is no object, and the report has nothing to tell of it
+        facts.error = f"the way by a listing fails: {error_of(str(error))}"
+        write_facts(settings.log, facts)
         return plain(settings, words)
     except OSError as error:
         if not facts.before:
