@@ -42,6 +42,14 @@ append_none (x ∷ xs) = ap (λ ys. x ∷ ys) (append_none xs)
 pub kept_less : (p : ℕ → Bool) (n : ℕ) (old : List ℕ) → old ≡ filter p (numbers_from 0 n) → p n ≡ false → old ≡ filter p (numbers_from 0 (n + 1))
 kept_less p n old e h = e ∙ sym (append_none (filter p (numbers_from 0 n))) ∙ ap (λ b. filter p (numbers_from 0 n) ++ cond b (n ∷ []) []) (sym h) ∙ sym (numbers_more p n)
 
+-- numbers in a row of which none is kept
+pub kept_none : (p : ℕ → Bool) (n count : ℕ) → ((k : ℕ) → n ≤ k → k < n + count → p k ≡ false) → filter p (numbers_from 0 (n + count)) ≡ filter p (numbers_from 0 n)
+kept_none p n zero h = let none : n + 0 ≡ n = omega arith in rw none refl
+kept_none p n (suc count) h =
+    let one : n + suc count ≡ (n + count) + 1 = omega arith in
+    let last : p (n + count) ≡ false = h (n + count) (omega arith) (omega arith) in
+    rw one (sym (kept_less p (n + count) (filter p (numbers_from 0 (n + count))) refl last) ∙ kept_none p n count (λ k low high. h k low (omega (arith, high))))
+
 pub ascends_lower : (low high : ℕ) (xs : List ℕ) → low ≤ high → ascends_from high xs ≡ true → ascends_from low xs ≡ true
 unfolding ascends_from
 ascends_lower low high [] h a = refl

@@ -1,5 +1,5 @@
 //! Looks along columns: the first makes a short list of numbers, the others keep those at which their column agrees too.
-ghost use Rattle.std.specs.Prelude.{◌≡◌, ℕ, ◌<◌, ◌≤◌, ◌==◌, ◌&&◌, ◌||◌, not, true, IfOk, IfSome, filter, get_or, length};
+ghost use Rattle.std.specs.Prelude.{◌≡◌, ℕ, ◌+◌, ◌<◌, ◌≤◌, ◌==◌, ◌&&◌, ◌||◌, not, true, false, IfOk, IfSome, OnOk, filter, get_or, length};
 ghost use Rattle.std.specs.Int.{bit_at};
 ghost use Rattle.thumb_instr.specs.Items.{has};
 ghost use Rattle.window_exec.specs.State.{values_of};
@@ -9,9 +9,62 @@ ghost use Rattle.outcomes.specs.Looks.{flags_differ, keeps_word, AreAmong, AreTh
 
 use crate::columns::{Columns, word_at};
 use std::alloc::{AllocError, Global};
+use std::simd::prelude::*;
 use thumb_instr::Mask;
 use thumb_instr::items::{C, N, V, Z};
 use window_exec::WState;
+
+/// How many words of a column are compared at once.
+const BLOCK: usize = 16;
+
+/// Whether a column may have a word at one of the sixteen places from one on.
+#[inline(always)]
+fn is_near(column: &[u32], first: usize, word: u32) -> bool
+    requires { first + 16 ≤ length column.now }
+    ensures { result ≡ false → (k : ℕ) → first ≤ k → k < first + 16 → (get_or column.now k 0 == word) ≡ false }
+{
+    let block = u32x16::from_slice(&column[first..]);
+    block.simd_eq(u32x16::splat(word)).to_bitmask() != 0
+}
+
+/// Puts the numbers from one on and below another at which a column has a word behind those before.
+fn push_places(
+    places: &mut Vec<u64>,
+    column: &[u32],
+    first: usize,
+    end: usize,
+    word: u32,
+) -> Result<(), AllocError>
+    requires ordered { first ≤ end }
+    requires within { end ≤ length column.now }
+    requires before { places.old.items ≡ filter (λ q. get_or column.now q 0 == word) (numbers_from 0 first) }
+    ensures { OnOk result (places.new.items ≡ filter (λ q. get_or column.now q 0 == word) (numbers_from 0 end)) }
+{
+    for place in first..end {
+        if column[place] == word {
+            places.push(place as u64)?;
+        }
+    }
+    Ok(())
+}
+
+/// Puts the numbers of sixteen places at which a column has a word behind those before. Mostly it has none there.
+#[inline(always)]
+fn push_block(
+    places: &mut Vec<u64>,
+    column: &[u32],
+    first: usize,
+    word: u32,
+) -> Result<(), AllocError>
+    requires within { first + 16 ≤ length column.now }
+    requires before { places.old.items ≡ filter (λ q. get_or column.now q 0 == word) (numbers_from 0 first) }
+    ensures { OnOk result (places.new.items ≡ filter (λ q. get_or column.now q 0 == word) (numbers_from 0 (first + 16))) }
+{
+    if is_near(column, first, word) {
+        return push_places(places, column, first, first + BLOCK, word);
+    }
+    Ok(())
+}
 
 /// The numbers below a limit at which a column has a word.
 fn places_of(alloc: Global, column: &[u32], limit: usize, word: u32) -> Result<Vec<u64>, AllocError>
@@ -19,11 +72,11 @@ fn places_of(alloc: Global, column: &[u32], limit: usize, word: u32) -> Result<V
     ensures { IfOk result (λ v. v.items ≡ filter (λ q. get_or column.now q 0 == word) (numbers_from 0 limit)) }
 {
     let mut places = Vec::new(alloc);
-    for place in 0..limit {
-        if column[place] == word {
-            places.push(place as u64)?;
-        }
+    let blocks = limit / BLOCK;
+    for block in 0..blocks {
+        push_block(&mut places, column, block * BLOCK, word)?;
     }
+    push_places(&mut places, column, blocks * BLOCK, limit, word)?;
     Ok(places)
 }
 

@@ -1,15 +1,12 @@
-use Rattle.std.proofs.Common.{ℕ, Bool, ◌==◌, ap, sym, ◌∙◌, eq-eqb, ne_eqb, get_or, filter}
-use Rattle.outcomes.proofs.Looking.{numbers_none, kept_more, kept_less}
+use Rattle.std.proofs.Common.{◌≡◌, ◌+◌, ◌*◌, ◌==◌, ap, sym, ◌∙◌, arith, get_or, filter}
+use Rattle.seq_enum.specs.Lists.{numbers_from}
+use Rattle.outcomes.proofs.Looking.{numbers_none}
 use Rattle.outcomes.proofs.looks.places_of.Goals as goal
-use Rattle.outcomes.proofs.looks.places_of.Goals.{then-column-place+in_ok-push, else-column-place}
 
-pub loop-place-init : goal.loop-place-init
-loop-place-init c = c.new-places.ensures.items ∙ ap (filter (λ q. get_or c.args.column.now q 0 == c.args.word)) (sym numbers_none)
+pub loop-block-init : goal.loop-block-init
+loop-block-init c = c.new-places.ensures.items ∙ ap (filter (λ q. get_or c.args.column.now q 0 == c.args.word)) (sym numbers_none)
 
-pub loop-place-preserved : goal.loop-place-preserved
-loop-place-preserved c =
-    let p : ℕ → Bool = λ q. get_or c.args.column.now q 0 == c.args.word in
-    elim c.if-column-place.branch [
-      | then-column-place+in_ok-push w ↦ rw w.places-is (kept_more p c.loop-place.place c.loop-place.places.items w.push.new.self.items c.loop-place.invariant (eq-eqb _ _ w.if-column-place.true) w.in_ok-push.ensures.items)
-      | else-column-place w ↦ rw w.places-is (kept_less p c.loop-place.place c.loop-place.places.items c.loop-place.invariant (ne_eqb _ _ w.if-column-place.false))
-    ]
+pub loop-block-preserved : goal.loop-block-preserved
+loop-block-preserved c =
+    let next : c.loop-block.block * 16 + 16 ≡ (c.loop-block.block + 1) * 16 = omega arith in
+    c.in_ok-push_block.ensures ∙ ap (λ n. filter (λ q. get_or c.args.column.now q 0 == c.args.word) (numbers_from 0 n)) next
