@@ -46,4 +46,6 @@ measure "" bash learner.sh --costs "$top/examples/small-multiplier.costs" "$list
 measure cadical python3 exported.py "$work/rules"
 measure "python3 cc" bash faults.sh
 measure python3 bash fuzz.sh "$listings" 100000
+measure cadical python3 forger.py "$listings" "$work/forged"
+measure "" python3 limits.py "$listings" "$work/limits"
 exit "$failed"
