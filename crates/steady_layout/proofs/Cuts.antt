@@ -1,8 +1,9 @@
 -- What replacing does to lines: what stands before stays, a run without names gives way to one of no more bytes, and what stands behind stays.
 use Rattle.std.proofs.Common.{◌≡◌, ◌∙◌, inl, inr, ℕ, zero, suc, ◌+◌, ◌-◌, ◌*◌, ◌<◌, ◌≤◌, ◌==◌, ◌&&◌, Bool, true, false, List, [], ◌∷◌, ◌++◌, length, drop, map, Option, Some, None, refl, sym, ap, subst, arith, append_assoc, ne_eqb, if◌then◌else◌}
+use Rattle.std.specs.Prelude.{slice_get}
 use Rattle.std.proofs.lemmas.Bool.{and_parts, and_from, eqb-true}
 use Rattle.thumb_instr.specs.declared.instr.Instr.{Instr}
-use Rattle.thumb_model.specs.Listing.{Name, Mention, Value, Statement, Nothing, Runs, Words, Aligns, Sets, Line, Place, Op, Word, Label, places_in, places_of, labels_at, labels_from}
+use Rattle.thumb_model.specs.Listing.{Name, Mention, Value, Statement, Nothing, Runs, Words, Aligns, Sets, Line, Place, Op, Word, Label, places_in, places_of, is_op_place, labels_at, labels_from}
 use Rattle.thumb_model.specs.Layout.{instr_size, is_among, set_in, set_address}
 use Rattle.thumb_model.specs.ReplacedLines.{is_op, without, labels_kept, new_line, replaced_lines}
 use Rattle.thumb_model.proofs.LinesReplaced.{AllOutside, all_back, no_names}
@@ -24,6 +25,15 @@ abbrev pub AreBare : List Line → Type 0
 AreBare [] = Unit {0}
 AreBare (l ∷ ls) = IsBare l × AreBare ls
 
+-- lines without names
+abbrev pub AreUnnamed : List Line → Type 0
+AreUnnamed [] = Unit {0}
+AreUnnamed (l ∷ ls) = (l.names ≡ []) × AreUnnamed ls
+
+bare_unnamed : (ls : List Line) → AreBare ls → AreUnnamed ls
+bare_unnamed [] h = tt
+bare_unnamed (l ∷ ls) h = (h.0.names, bare_unnamed ls h.1)
+
 abbrev pub total : List Line → ℕ
 total [] = 0
 total (l ∷ ls) = most_of l.statement + total ls
@@ -34,7 +44,7 @@ flags x (l ∷ ls) = flags (ends_aligned x l.statement) ls
 
 -- a run of lines comes in place of another, without more bytes
 pub record IsNoLonger (old new : List Line) : Type 0 where
-  pub bare_old : AreBare old
+  pub unnamed_old : AreUnnamed old
   pub bare_new : AreBare new
   pub bytes : total new ≤ total old
   pub aligned : (x y : Bool) → (x ≡ true → y ≡ true) → flags x old ≡ true → flags y new ≡ true
@@ -58,6 +68,10 @@ start_is a b x y e f = cc
 pub ending_is : (here : Start) (ls : List Line) → ending most here ls ≡ record { at = here.at + total ls; aligned = flags here.aligned ls }
 ending_is here [] = start_is here.at (here.at + 0) here.aligned here.aligned (omega arith) refl
 ending_is here (l ∷ ls) = ending_is (after most here l.statement) ls ∙ start_is (here.at + most_of l.statement + total ls) (here.at + (most_of l.statement + total ls)) _ _ (omega arith) refl
+
+pub look_unnamed : (name : Name) (here : Start) (xs ys : List Line) → AreUnnamed xs → look most name here (xs ++ ys) ≡ look most name (ending most here xs) ys
+look_unnamed name here [] ys h = refl
+look_unnamed name here (x ∷ xs) ys h = rw (h.0) (look_unnamed name (after most here x.statement) xs ys h.1)
 
 pub look_bare : (name : Name) (here : Start) (xs ys : List Line) → AreBare xs → look most name here (xs ++ ys) ≡ look most name (ending most here xs) ys
 look_bare name here [] ys h = refl
@@ -224,7 +238,7 @@ fresh_sets write (i ∷ is) name ls = fresh_sets write is name ls
 window_no_longer : (write : Instr → List ℕ) (n : ℕ) (is : List Instr) (l : Line) (i : Instr) (ls : List Line) → l.statement ≡ Runs i None → instr_size i ≡ 2 → length is ≤ suc n → AreTwos is → (k : IsInner n ls)
     → IsNoLonger (bare_of l ∷ k.old) (map (new_line write) is ++ k.new)
 window_no_longer write n is l i ls e two short twos k = record {
-  bare_old = (record { names = refl; steady = λ labels sets base here. rw e refl }, k.bare_old);
+  unnamed_old = (refl, bare_unnamed k.old k.bare_old);
   bare_new = bare_append (map (new_line write) is) k.new (fresh_bare write is) k.bare_new;
   bytes =
       let size : most_of l.statement ≡ 2 = rw e two in
@@ -290,3 +304,56 @@ pub cut : (write : Instr → List ℕ) (at n : ℕ) (is : List Instr) → length
 cut write at n is short twos [] q zero e out h = absurd h
 cut write at n is short twos [] q (suc p) e out h = absurd h
 cut write at n is short twos (l ∷ ls) q p e out h = cut_step write at n q p is l l.statement ls short twos refl (cut write at n is short twos ls) e out h
+
+-- ---- an instruction that goes ----
+
+-- of one that surely ends at a multiple of 4 so does what stands before it
+begins_aligned : (x : Bool) (i : Instr) (m : Option Mention) → ends_aligned x (Runs i m) ≡ true → x ≡ true
+begins_aligned x i m h = (and_parts x (instr_size i == 4) h).0
+
+left_out : (ls : List Line) → without 0 ls ≡ ls
+left_out [] = refl
+left_out (l ∷ ls) = refl
+
+cut_head : (write : Instr → List ℕ) (l : Line) (i : Instr) (m : Option Mention) (ls : List Line) → l.statement ≡ Runs i m → IsCut (l ∷ ls) (labels_kept l l.names ++ (map (new_line write) [] ++ without (1 - 1) ls))
+cut_head write l i m ls e = record {
+  front = labels_kept l l.names;
+  old = bare_of l ∷ [];
+  new = [];
+  back = ls;
+  alike = alike_split l l.names ls refl;
+  is_new = ap (λ x. labels_kept l l.names ++ x) (left_out ls);
+  no_longer = record {
+    unnamed_old = (refl, tt);
+    bare_new = tt;
+    bytes = omega arith;
+    aligned = λ x y h q. h (begins_aligned x i m (rw e at q));
+    sets = λ name ms. rw e refl;
+  };
+}
+
+abbrev GoneRec : (Instr → List ℕ) → List Line → Type 0
+GoneRec write ls = (p : ℕ) → is_op_place (slice_get (places_of ls) p) ≡ true → IsCut ls (replaced_lines write p 1 [] ls)
+
+word_first : (ws : List Value) (ps : List Place) (p : ℕ) → is_op_place (slice_get (map Word ws ++ ps) p) ≡ true → (q : ℕ) × (p ≡ length (map Word ws) + q) × (is_op_place (slice_get ps q) ≡ true)
+word_first [] ps p h = (p, omega arith, h)
+word_first (w ∷ ws) ps zero h = absurd (cc)
+word_first (w ∷ ws) ps (suc p) h = let r = word_first ws ps p h in (r.0, let e = r.1 in omega arith, r.2)
+
+gone_behind : (write : Instr → List ℕ) (p q : ℕ) (l : Line) (s : Statement) (ls : List Line) → GoneRec write ls → p ≡ length (places_in s) + q → is_op_place (slice_get (places_of ls) q) ≡ true → IsCut (l ∷ ls) (l ∷ replaced_lines write (p - length (places_in s)) 1 [] ls)
+gone_behind write p q l s ls rec e h =
+    cut_cons l ls (replaced_lines write (p - length (places_in s)) 1 [] ls) (subst (λ j. IsCut ls (replaced_lines write j 1 [] ls)) (let z : q ≡ p - length (places_in s) = omega arith in z) (rec q h))
+
+gone_step : (write : Instr → List ℕ) (p : ℕ) (l : Line) (s : Statement) (ls : List Line) → l.statement ≡ s → GoneRec write ls → is_op_place (slice_get (places_in s ++ places_of ls) p) ≡ true
+    → IsCut (l ∷ ls) (if is_op s && (p == 0) then labels_kept l l.names ++ (map (new_line write) [] ++ without (1 - 1) ls) else l ∷ replaced_lines write (p - length (places_in s)) 1 [] ls)
+gone_step write p l (Words ws) ls f rec h = let r = word_first ws (places_of ls) p h in gone_behind write p r.0 l (Words ws) ls rec r.1 r.2
+gone_step write zero l (Runs i m) ls f rec h = cut_head write l i m ls f
+gone_step write (suc p) l (Runs i m) ls f rec h =
+    subst (λ b. IsCut (l ∷ ls) (if b then labels_kept l l.names ++ (map (new_line write) [] ++ without (1 - 1) ls) else l ∷ replaced_lines write (suc p - 1) 1 [] ls)) (sym (ne_eqb (suc p) 0 (λ z. absurd (omega arith))))
+    (gone_behind write (suc p) p l (Runs i m) ls rec (omega arith) h)
+gone_step write p l s ls f rec h = gone_behind write p p l s ls rec (omega arith) h
+
+-- whatever instruction goes, the lines are cut
+pub cut_op : (write : Instr → List ℕ) (ls : List Line) → GoneRec write ls
+cut_op write [] p h = absurd (cc)
+cut_op write (l ∷ ls) p h = gone_step write p l l.statement ls refl (cut_op write ls) h

@@ -21,7 +21,7 @@ use Rattle.steady_layout.specs.Steady.{first, widest_end, label_start, steady_at
 use Rattle.steady_layout.proofs.Nearer.{IsWithin, IsTold, AreTold, address_of, aim_free}
 use Rattle.steady_layout.proofs.Padding.{some_bytes, size_most, ends_told}
 use Rattle.steady_layout.proofs.Walks.{after, look, ending, steady_by, AreLess, IsLater, ahead_earlier, Tails, no_tails, ahead, backs_later, Known, IsWalked, walk, ending_append, steady_append}
-use Rattle.steady_layout.proofs.Cuts.{most, IsNoLonger, ending_is, look_bare, steady_bare, ArePlain, AreTwos, IsCut, cut}
+use Rattle.steady_layout.proofs.Cuts.{most, IsNoLonger, ending_is, look_bare, look_unnamed, steady_bare, ArePlain, AreTwos, IsCut, cut}
 
 -- ---- the definitions' layout is that of the greatest sizes ----
 
@@ -101,13 +101,13 @@ run_later old new r o n = rw (ending_is o old, ending_is n new) (record { old = 
 
 run_tails : (old new back : List Line) → IsNoLonger old new → Tails most most (old ++ back) (new ++ back)
 run_tails old new back r name o n w =
-    rw (look_bare name o old back r.bare_old, look_bare name n new back r.bare_new)
+    rw (look_unnamed name o old back r.unnamed_old, look_bare name n new back r.bare_new)
     (ahead_earlier o n (ending most o old) (ending most n new) _ _ (run_later old new r o n) (same_tails back name (ending most o old) (ending most n new) (run_within old new r o n w)))
 
 run_known : (old new back : List Line) → IsNoLonger old new → (lo ln : Name → Option Start) (o n : Start) → Known most most lo ln o n (old ++ back) (new ++ back) → Known most most lo ln (ending most o old) (ending most n new) back back
 run_known old new back r lo ln o n k name = elim (k name) [
   | inl b ↦ inl (backs_later o n (ending most o old) (ending most n new) (lo name) (ln name) (run_later old new r o n) b)
-  | inr e ↦ inr (e.0 ∙ look_bare name o old back r.bare_old, e.1 ∙ look_bare name n new back r.bare_new)
+  | inr e ↦ inr (e.0 ∙ look_unnamed name o old back r.unnamed_old, e.1 ∙ look_bare name n new back r.bare_new)
 ]
 
 front_sets : (name : Name) (xs ys zs : List Line) → set_address name ys ≡ set_address name zs → set_address name (xs ++ ys) ≡ set_address name (xs ++ zs)

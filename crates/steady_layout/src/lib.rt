@@ -7,4 +7,5 @@ mod laying;
 mod starts;
 
 pub use judging::is_steady;
+pub use laying::lay_widest;
 pub use starts::Start;
