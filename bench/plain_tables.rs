@@ -11,7 +11,7 @@ use std::io::Write;
 pub enum Operand { Register(u8), Number(u16) }
 
 /// An instruction of windows: its mnemonic's place in the list, and up to three operands.
-#[derive(Clone, Copy)]
+#[derive(Clone, Copy, PartialEq)]
 pub struct Instr { pub mnemonic: u8, pub operands: [Operand; 3], pub count: u8 }
 
 pub enum Line {

@@ -52,8 +52,11 @@ fn codes(literals: &[i32]) -> Vec<u32> {
     literals.iter().map(|literal| code(i64::from(*literal))).collect()
 }
 
-/// How many hints each line needs, where the proof refutes the formula; or why it doesn't.
+/// How many hints each line needs, where the proof refutes the formula; or why it doesn't. A proof without lines needs no checker.
 fn refutation(formula: Builder, proof: &[Line]) -> Result<Vec<usize>, String> {
+    if proof.is_empty() {
+        return if formula.clauses.iter().any(Vec::is_empty) { Ok(Vec::new()) } else { Err(String::from("3")) };
+    }
     let (checker, used) = checked(formula, proof).map_err(|line| format!("2 {line}"))?;
     if checker.refuted { Ok(used) } else { Err(String::from("3")) }
 }
@@ -202,7 +205,9 @@ impl<'a> Auditor<'a> {
     /// How many hints each line of an accepted entry's proof needs; or why the entry is refused.
     fn judge_entry(&mut self, entry: &Entry) -> Result<Vec<usize>, String> {
         let sides = self.sides(entry).ok_or("1")?;
-        let used = refutation(formula(&sides.left, &sides.right, sides.mask, sides.k), &entry.proof)?;
+        // the formula of a side against itself ends in the empty clause
+        let is_unshortened = entry.proof.is_empty() && entry.left == entry.right;
+        let used = if is_unshortened { Vec::new() } else { refutation(formula(&sides.left, &sides.right, sides.mask, sides.k), &entry.proof)? };
         let trials: Trials = self.states.iter().map(|state| (*state, run(&sides.left, *state))).collect();
         if let Some(number) = self.untold(&sides, &entry.opens, &trials) {
             return Err(format!("4 {number}"));

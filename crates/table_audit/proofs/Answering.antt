@@ -1,5 +1,12 @@
 -- The answer to the proof of an entry or a family.
-use Rattle.std.proofs.Common.{◌≡◌, ℕ, ◌⊎◌, inl, inr, List, Option, Some, None, Result, Ok, Err, ap, sym, ◌∙◌, subst}
+use Rattle.std.proofs.Common.{◌≡◌, ℕ, ℤ, suc, ◌⊎◌, inl, inr, List, [], ◌∷◌, ◌++◌, Option, Some, None, Result, Ok, Err, refl, ap, sym, ◌∙◌, subst, arith}
+use Rattle.std.specs.Prelude.{Any}
+use Rattle.std.proofs.lemmas.List.{append-nil}
+use Rattle.thumb_instr.specs.declared.instr.Instr.{Instr}
+use Rattle.thumb_model.specs.Sides.{AreOver}
+use Rattle.clause_model.specs.Literals.{codes_of}
+use Rattle.bit_blast.specs.Differences.{sides_formula}
+use Rattle.bit_blast.proofs.Exact.{itself_ends_in_empty}
 use Rattle.std.specs.Result.{IsErrAnd}
 use Rattle.lrat_check.specs.Content.{Content}
 use Rattle.proof_logs.specs.declared.faults.ProofFault.{ProofFault}
@@ -32,3 +39,19 @@ pub handed_on : {A F : Type 0} (memory f : F) (r : Result A F) (verdict : Option
 handed_on memory f (Ok a) verdict h p = absurd h
 handed_on memory f (Err e) verdict h (inl p) = inl (h ∙ p)
 handed_on memory f (Err e) verdict h (inr p) = inr (subst (λ x. verdict (Some x)) (sym h) p)
+
+-- ---- a side against itself ----
+
+-- codes among which an empty clause stands last
+last_empty : (clauses : List (List ℤ)) → Any (λ clause. clause ≡ []) (codes_of (clauses ++ [] ∷ []))
+last_empty [] = (0, [], omega arith, refl, refl)
+last_empty (clause ∷ clauses) = let r = last_empty clauses in (suc r.0, r.1, omega (arith, r.2), r.3, r.4)
+
+-- no line is needed where the right side is the left side itself
+pub unshortened_passes : (name : ProofFault → AuditError) (left right : List Instr) (mask k : ℕ) (lines : List Content) → AreOver k right → left ≡ right → lines ≡ [] → NamedVerdict name (codes_of (sides_formula left right mask k).clauses) lines None
+unshortened_passes name left right mask k lines over same none =
+    let ends = itself_ends_in_empty right mask k over in
+    let empty : Any (λ clause. clause ≡ []) (codes_of (sides_formula right right mask k).clauses) = subst (λ (cs : List (List ℤ)). Any (λ clause. clause ≡ []) (codes_of cs)) (sym ends.1) (last_empty ends.0) in
+    subst (λ ls. NamedVerdict name (codes_of (sides_formula left right mask k).clauses) ls None) (sym none)
+    (subst (λ side. NamedVerdict name (codes_of (sides_formula side right mask k).clauses) [] None) (sym same)
+    (tt, subst (λ cs. Any (λ clause. clause ≡ []) cs) (sym (append-nil (codes_of (sides_formula right right mask k).clauses))) empty))

@@ -420,6 +420,17 @@ pub few_enough : (costs : Option (List ℕ)) (letters : List Instr) (limit n pla
     → Queue costs letters limit n place numbers → length (sequences_below letters n) ≤ 128 * length (filter (is_lighter costs limit) (sequences_below letters n))
 few_enough costs letters limit n place count most numbers e d h queue = omega (arith, e, d, h, queue_few costs letters limit n place numbers queue)
 
+all_pass : (p : List Instr → Bool) (seqs : List (List Instr)) → ((q : ℕ) (seq : List Instr) → slice_get seqs q ≡ Some seq → p seq ≡ true) → length (filter p seqs) ≡ length seqs
+all_pass p [] h = refl
+all_pass p (seq ∷ seqs) h = rw (h 0 seq refl) (ap suc (all_pass p seqs (λ q other at. h (suc q) other at)))
+
+-- without costs all that are shorter than the limit are lighter
+pub all_lighter : (costs : Option (List ℕ)) (letters : List Instr) (limit n : ℕ) → costs ≡ None → n ≤ limit → length (sequences_below letters n) ≤ 128 * length (filter (is_lighter costs limit) (sequences_below letters n))
+all_lighter costs letters limit n none high =
+    let light : length (filter (is_lighter None limit) (sequences_below letters n)) ≡ length (sequences_below letters n) =
+    all_pass (is_lighter None limit) (sequences_below letters n) (λ q seq at. let l = located letters n q seq at in lt-ltb (length seq) limit (omega (arith, l.1, high))) in
+    subst (λ c. length (sequences_below letters n) ≤ 128 * length (filter (is_lighter c limit) (sequences_below letters n))) (sym none) (omega (arith, light))
+
 -- ---- the letters behind one sequence ----
 
 range_more : (f : ℕ → Bool) (first place : ℕ) → filter f (numbers_from first (place + 1)) ≡ filter f (numbers_from first place) ++ cond (f (first + place)) ((first + place) ∷ []) []

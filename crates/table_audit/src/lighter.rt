@@ -1,6 +1,6 @@
 //! The sequences that weigh less than a limit, where they are few beside those that are as long. Each letter weighs something, so a sequence without its last
 //! letter is lighter: all of them are found by putting letters behind those that were found before.
-ghost use Rattle.std.specs.Prelude.{◌≡◌, ◌<◌, ◌≤◌, ◌+◌, ◌*◌, ◌^◌, ◌++◌, IfOk, OnOk, MatchOption, filter, length};
+ghost use Rattle.std.specs.Prelude.{◌≡◌, ◌<◌, ◌≤◌, ◌+◌, ◌*◌, ◌^◌, ◌++◌, None, IfOk, IsTrue, OnOk, MatchOption, filter, length};
 ghost use Rattle.seq_enum.specs.Lists.{numbers_from};
 ghost use Rattle.seq_enum.specs.Costs.{cost_under};
 ghost use Rattle.outcomes.specs.Outcomes.{sequences_below};
@@ -51,8 +51,18 @@ fn push_longer(
     Ok(())
 }
 
+/// Whether there are no costs, and sequences of at most `longest` instructions weigh less than a limit.
+fn are_all_lighter(costs: &Option<Costs>, longest: u8, limit: u32) -> bool
+    ensures { IsTrue result → (costs.now ≡ None) × (longest + 1 ≤ limit) }
+{
+    match costs {
+        None => u32::from(longest) < limit,
+        Some(_) => false,
+    }
+}
+
 /// The numbers, ascending, of the sequences of at most `longest` instructions that weigh less than a limit. None where a table of outcomes that is so long
-/// has no more than 128 sequences for each of them.
+/// has no more than 128 sequences for each of them, as where there are no costs and each of its sequences is lighter.
 pub(crate) fn few_lighter(
     alloc: Global,
     costs: &Option<Costs>,
@@ -66,6 +76,9 @@ pub(crate) fn few_lighter(
         (length (sequences_below outcomes.now.letters (longest + 1)) ≤ 128 * length (filter (is_lighter costs.now limit) (sequences_below outcomes.now.letters (longest + 1))))
         (λ v. AreLighter costs.now limit (sequences_below outcomes.now.letters (longest + 1)) v.items)) }
 {
+    if are_all_lighter(costs, longest, limit) {
+        return Ok(None);
+    }
     let letters = outcomes.letters();
     let count = outcomes.count(longest);
     let most = (count / SHARE) as usize;

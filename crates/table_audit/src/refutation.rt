@@ -1,5 +1,5 @@
 //! The proof of an entry.
-ghost use Rattle.std.specs.Prelude.{◌≡◌, ◌≤◌, ◌+◌};
+ghost use Rattle.std.specs.Prelude.{◌≡◌, ◌≤◌, ◌+◌, [], IsTrue};
 ghost use Rattle.rule_table.specs.Views.{header_in, rule_of, table_of};
 ghost use Rattle.proof_logs.specs.Verdicts.{Answers};
 ghost use Rattle.table_audit.specs.declared.errors.AuditError.TheVariants.{Memory};
@@ -12,8 +12,10 @@ use crate::errors::{AuditError, EntryFault};
 use crate::sides::entry_formula;
 use proof_logs::ProofFault;
 use rule_table::{Entry, Table};
+use seq_enum::{Pool, number_of};
 use std::alloc::Global;
 use step_ledger::{Ledger, Steps};
+use thumb_instr::Seq;
 
 /// The fault of a proof as that of the entry of this number.
 fn fault_of(number: u64, fault: ProofFault) -> AuditError
@@ -32,7 +34,30 @@ fn fault_of(number: u64, fault: ProofFault) -> AuditError
     }
 }
 
-/// Tells the first line of an entry's proof that isn't accepted, or that it comes to no empty clause.
+/// Whether two sides are one sequence over r0 to r3 and a pool.
+fn is_same(pool: &Pool, left: &Seq, right: &Seq) -> bool
+    ensures { IsTrue result → left.now ≡ right.now }
+{
+    let Some(number) = number_of(4, pool, left) else {
+        return false;
+    };
+    let Some(other) = number_of(4, pool, right) else {
+        return false;
+    };
+    number == other
+}
+
+/// Whether the right side of an entry is its left side, and its proof has no line. It needs none: the formula of a side against itself ends in the empty
+/// clause.
+fn is_unshortened(pool: &Pool, entry: &Entry) -> bool
+    ensures sides { IsTrue result → entry.now.left ≡ entry.now.right }
+    ensures proof { IsTrue result → (rule_of entry.now).proof ≡ [] }
+{
+    entry.proof.is_empty() && is_same(pool, &entry.left, &entry.right)
+}
+
+/// Tells the first line of an entry's proof that isn't accepted, or that it comes to no empty clause. Where the right side is the left side itself, as in most
+/// entries that were learnt, no formula is made.
 pub(crate) fn check_proof<L: Ledger>(
     alloc: Global,
     table: &Table,
@@ -44,6 +69,9 @@ pub(crate) fn check_proof<L: Ledger>(
     ensures answers { Answers Memory result (EntryProofVerdict (table_of table.now) number (rule_of entry.now)) }
     ensures cost { steps.new ≤ steps.old + proof_cost (table_of table.now) (rule_of entry.now) }
 {
+    if is_unshortened(&table.pool, entry) {
+        return Ok(());
+    }
     let formula = entry_formula(alloc, table, entry)?;
     match proof_logs::check_proof(alloc, &formula, &entry.proof, steps) {
         Ok(()) => Ok(()),

@@ -2,7 +2,7 @@ use Rattle.std.proofs.Common.{◌≡◌, ◌≤◌, ◌<◌, ◌+◌, ◌-◌, �
 use Rattle.seq_enum.specs.Costs.{weight_under}
 use Rattle.outcomes.specs.Outcomes.{sequences_below}
 use Rattle.table_audit.specs.Lighter.{AreLighter}
-use Rattle.table_audit.proofs.Gathering.{Queue, queue_begun, queue_there, queue_light, queue_small, queue_step, queue_done, few_enough}
+use Rattle.table_audit.proofs.Gathering.{Queue, queue_begun, queue_there, queue_light, queue_small, queue_step, queue_done, few_enough, all_lighter}
 use Rattle.table_audit.proofs.lighter.few_lighter.Goals as goal
 use Rattle.table_audit.proofs.lighter.few_lighter.Goals.{then-loop-place-test+else-len-most, else-loop-place-test}
 
@@ -50,3 +50,8 @@ returns-else-len-most-2 c =
     let queue : Queue c.args.costs.now c.args.outcomes.now.letters c.args.limit (c.args.longest + 1) c.loop-place.place c.loop-place.numbers.items =
     subst (λ ls. Queue c.args.costs.now ls c.args.limit (c.args.longest + 1) c.loop-place.place c.loop-place.numbers.items) c.letters-letters.ensures.value c.loop-place.invariant in
     few_enough c.args.costs.now c.args.outcomes.now.letters c.args.limit (c.args.longest + 1) c.loop-place.place c.count-count.result (c.count-count.result / 128) c.loop-place.numbers.items c.count-count.ensures refl many queue
+
+pub returns-then-are_all_lighter : goal.returns-then-are_all_lighter
+returns-then-are_all_lighter c =
+    let all = c.are_all_lighter.ensures c.if-are_all_lighter.true in
+    all_lighter c.args.costs.now c.args.outcomes.now.letters c.args.limit (c.args.longest + 1) all.0 all.1
