@@ -89,6 +89,7 @@ impl Draft {
     ghost use Rattle.listing_parser.specs.Parsing.{line_mentioning, own_line};
     ghost use Rattle.listing_parser.specs.Retargeting.{aimed_lines};
     ghost use Rattle.listing_draft.specs.Drafted.{instr_in, lines_now, name_in, stands, unchanged};
+    ghost use Rattle.listing_draft.specs.Held.{IsDraft};
 
     /// A listing of which nothing is changed.
     pub fn new(alloc: Global, listing: Listing) -> Result<Self, AllocError>
@@ -114,7 +115,8 @@ impl Draft {
 
     /// How many places there are, with those that are gone.
     pub fn place_count(&self) -> u32
-        ensures { result ≡ length self.now.gone }
+        ensures count { result ≡ length self.now.gone }
+        ensures draft { IsDraft self.now }
     {
         self.kept.len()
     }
