@@ -28,7 +28,7 @@ use Rattle.window_runs.proofs.Joined.{run_window, window_in_run}
 use Rattle.window_rewrite.specs.declared.choice.Choice.{Choice}
 use Rattle.window_rewrite.specs.Rewriting.{setting_by}
 use Rattle.table_audit.specs.Sides.{IsCanonicalSide}
-use Rattle.window_rewrite.specs.Rules.{rules_in, side_length, is_marked, AreFit, AreLed, first_with}
+use Rattle.window_rewrite.specs.Rules.{rules_in, left_forms, side_length, is_marked, AreFit, AreLed, first_with}
 use Rattle.window_rewrite.specs.Forms.{form_of}
 use Rattle.window_rewrite.specs.Fitting.{left_registers, NoneStands, Lightens, Stands, StandsThere}
 use Rattle.window_rewrite.specs.Choices.{Awaits, choice_of, FitsIn, IsChoice, IsLowest, Meets, NoneAt, NoneOf, IsBest, NoneBefore, IsFirstChoice, of_length, longer}
@@ -38,7 +38,7 @@ use Rattle.window_rewrite.proofs.Alike.{led_to}
 
 -- ---- counts of rules ----
 
-taken_more : (c : ℕ) (rules : List Rule) (k n : ℕ) → k ≤ n → of_length c (take k rules) ≤ of_length c (take n rules)
+pub taken_more : (c : ℕ) (rules : List Rule) (k n : ℕ) → k ≤ n → of_length c (take k rules) ≤ of_length c (take n rules)
 unfolding of_length
 taken_more c [] zero zero h = omega arith
 taken_more c [] zero (suc n) h = omega arith
@@ -176,7 +176,7 @@ none_before asked costs base rules kept lines place window n at start steps ther
 pub search_next : (was asked : Bool) (costs : Option (List ℕ)) (base : ℕ) (rules : List Rule) (kept : List Bool) (lines : List Line) (place : ℕ) (window : List Instr) (n : ℕ) (at next : Option ℕ) (start steps after : ℕ) → IsWindow lines place window
     → IsSearch was costs base rules kept lines place window at start steps → at ≡ Some n → (was ≡ true → asked ≡ true)
     → (side_length rules n ≡ length window → (registers : List Low) → Meets asked (setting_by costs base (alone rules)) (made place n registers) lines → ⊥)
-    → ((rule : Rule) → slice_get rules n ≡ Some rule → is_marked kept n ≡ true → next ≡ first_with kept (form_of rule.left) (n + 1) (drop (n + 1) rules)) → after ≤ steps + from_bool (side_length rules n == length window)
+    → ((form : ℕ) → slice_get (left_forms rules) n ≡ Some form → is_marked kept n ≡ true → next ≡ first_with kept form (n + 1) (drop (n + 1) (left_forms rules))) → after ≤ steps + from_bool (side_length rules n == length window)
     → IsSearch asked costs base rules kept lines place window next start after
 search_next was asked costs base rules kept lines place window n at next start steps after there s is stays none more cost =
     let i = awaited costs rules kept window s.k n at s.awaits is in
@@ -189,7 +189,7 @@ search_next was asked costs base rules kept lines place window n at next start s
       fit = s.fit;
       led = s.led;
       k = n + 1;
-      awaits = i.more next (more i.rule i.at i.is_kept);
+      awaits = i.more next (more i.form i.has i.is_kept);
       none = λ o a e l h.
           let d = led_to asked costs base s.longest rules kept lines o s.fit s.led a in
           let no_later = d.no_later in

@@ -1,5 +1,5 @@
 -- A table's entries alone and with the families behind them: an entry's use is the same by both.
-use Rattle.std.proofs.Common.{◌≡◌, ℕ, ◌+◌, ◌-◌, ◌<◌, ◌≤◌, max, Bool, List, [], ◌∷◌, ◌++◌, length, map, Option, Some, sym, ap, ◌∙◌, subst, arith, inl, inr, length-append}
+use Rattle.std.proofs.Common.{◌≡◌, ℕ, ◌+◌, ◌-◌, ◌<◌, ◌≤◌, max, Bool, true, drop, List, [], ◌∷◌, ◌++◌, length, map, Option, Some, sym, ap, ◌∙◌, subst, arith, inl, inr, length-append}
 use Rattle.std.specs.Prelude.{slice_get}
 use Rattle.std.proofs.lemmas.Bool.{cases_lt}
 use Rattle.std.proofs.lemmas.List.{length-map}
@@ -18,8 +18,9 @@ use Rattle.table_audit.proofs.Instances.{entries_length, number_is, rule_at_befo
 use Rattle.window_rewrite.specs.declared.choice.Choice.{Choice}
 use Rattle.window_rewrite.specs.declared.finding.Rules.{Rules}
 use Rattle.window_rewrite.specs.Rewriting.{setting_by}
-use Rattle.window_rewrite.specs.Rules.{families_in, raised_rule, raised_rules, AreFit}
-use Rattle.window_rewrite.specs.Choices.{choice_of, entries_setting, setting_of, table_in, of_length, IsChoice, IsLowest, Meets, NoneOf}
+use Rattle.window_rewrite.specs.Rules.{families_in, first_with, is_marked, left_forms, raised_rule, raised_rules, rules_in, AreFit}
+use Rattle.window_rewrite.specs.Choices.{choice_of, entries_setting, setting_of, table_in, of_length, AreReady, IsChoice, IsLowest, Meets, NoneOf}
+use Rattle.window_rewrite.specs.Forms.{form_of}
 use Rattle.window_rewrite.specs.Families.{IsLowestFamily, NoneOfFamilies}
 use Rattle.window_rewrite.proofs.Applied.{meets}
 
@@ -148,3 +149,13 @@ pub of_length_both : (c : ℕ) (xs ys : List Rule) → of_length c (xs ++ ys) �
 unfolding of_length
 of_length_both c [] ys = omega arith
 of_length_both c (x ∷ xs) ys = let t = of_length_both c xs ys in omega (arith, t)
+
+-- ---- the chains of entries ----
+
+-- there is a next one, or none, of each entry
+pub entry_nexts_within : (r : Rules) (n : ℕ) → AreReady r → n < length r.entries.now → n < length r.index.now.entries.nexts.items
+entry_nexts_within r n ready h = omega (arith, h, ready.index.entry_chains.as_many, length-map (map rewriting_rule (map rule_of r.entries.now)) (λ s. form_of s.left), length-map (map rule_of r.entries.now) rewriting_rule, length-map r.entries.now rule_of)
+
+pub entry_next : (r : Rules) (n : ℕ) (next : Option ℕ) → AreReady r → slice_get r.index.now.entries.nexts.items n ≡ Some next
+    → (form : ℕ) → slice_get (left_forms (rules_in r.entries.now)) n ≡ Some form → is_marked r.index.now.entries.kept.items n ≡ true → next ≡ first_with r.index.now.entries.kept.items form (n + 1) (drop (n + 1) (left_forms (rules_in r.entries.now)))
+entry_next r n next ready follows form at kept = ready.index.entry_chains.nexts n form next (omega arith) at kept follows

@@ -19,6 +19,7 @@ pub mod Opened
 pub mod Results
 pub mod Joined
 pub mod Raised
+pub mod FamilySearch
 pub mod Rounds
 pub mod DueLines
 pub mod DuePlaces

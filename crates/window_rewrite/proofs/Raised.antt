@@ -318,16 +318,6 @@ none_more was asked r lines place count n stays none one o m here long from belo
   | inr l ↦ one o m here long (let e : o.entry ≡ length r.entries.now + n = omega arith in e)
 ]
 
--- where no family stands in a window, none meets this there
-pub none_behind : (asked : Bool) (r : Rules) (lines : List Line) (place : ℕ) (window : List Instr) (n : ℕ) → AreReady r → IsWindow lines place window → NoneStands r.costs.now (families_in (map rule_of r.entries.now) (map family_of r.families.now)) window
-    → NoneOfFamilies asked r lines place (length window) n
-none_behind asked r lines place window n ready there none o m here long from below =
-    let es : List tables.Rule = map rule_of r.entries.now in
-    let fs : List tables.Family = map family_of r.families.now in
-    let s = stands_in r.costs.now r.base r.longest (table_in r) lines place window o ready.fit there m.0 here long in
-    let past : length (alone (map rewriting_rule es)) ≤ o.entry = (let n = entries_length es fs in let k = length-map r.entries.now rule_of in omega (arith, n, k, from)) in
-    none (o.entry - length (alone (map rewriting_rule es))) o.instance s.rule s.registers (sym (rule_at_behind (alone (map rewriting_rule es)) (families_in es fs) o.entry o.instance past) ∙ s.at) s.lightens
-
 -- ---- what the tries cost ----
 
 -- a try of one family more

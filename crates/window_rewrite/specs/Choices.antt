@@ -14,7 +14,7 @@ use Rattle.window_rewrite.specs.declared.finding.Rules.{Rules}
 use Rattle.window_rewrite.specs.Rewriting.{setting_by, replacement_of, IsWhole}
 use Rattle.rule_table.specs.Views.{family_of, rule_of}
 use Rattle.table_audit.specs.Soundness.{numbers_in}
-use Rattle.window_rewrite.specs.Rules.{rules_in, raised_rules, first_with, with_open, AreFit, AreRaised, IsIndex}
+use Rattle.window_rewrite.specs.Rules.{rules_in, left_forms, raised_rules, first_with, with_open, AreFit, AreRaised, IsIndex}
 use Rattle.window_rewrite.specs.Forms.{form_of}
 use Rattle.window_rewrite.specs.Fitting.{Lightens}
 use Rattle.window_rewrite.specs.Settled.{MayGiveWay}
@@ -52,7 +52,7 @@ HaveForm costs rules window form = (k : ℕ) (rule : Rule) (registers : List Low
 pub record Awaits (costs : Option (List ℕ)) (rules : List Rule) (kept : List Bool) (window : List Instr) (k : ℕ) (next : Option ℕ) : Type 0 where
   pub form : ℕ
   pub have : HaveForm costs rules window form
-  pub is : next ≡ first_with kept form k (drop k rules)
+  pub is : next ≡ first_with kept form k (drop k (left_forms rules))
 
 -- ---- with and without a look at the lines that are left ----
 

@@ -1,15 +1,19 @@
 -- The families of a table at a window.
-use Rattle.std.specs.Prelude.{◌≡◌, ℕ, ◌+◌, ◌<◌, ◌≤◌, Bool, List, length}
+use Rattle.std.specs.Prelude.{◌≡◌, ℕ, ◌+◌, ◌<◌, ◌≤◌, Bool, List, Option, drop, length, map}
 use Rattle.thumb_instr.specs.declared.instr.Instr.{Instr}
 use Rattle.thumb_instr.specs.declared.instr.Instr.TheVariants as instr
 use Rattle.thumb_model.specs.Listing.{Line}
 use Rattle.bit_blast.specs.Slots.{Byte, IsValue, instance}
 use Rattle.rule_table.specs.Table.{Rule, Family}
+use Rattle.rule_table.specs.Views.{family_of, rule_of}
 use Rattle.table_audit.specs.Families.{symbol_of}
 use Rattle.rule_model.specs.Rewriting.{Replacement, AppliesIn, left_length}
 use Rattle.window_rewrite.specs.declared.choice.Choice.{Choice}
 use Rattle.window_rewrite.specs.declared.families.Instance.{Instance}
 use Rattle.window_rewrite.specs.declared.finding.Rules.{Rules}
+use Rattle.window_rewrite.specs.Forms.{form_of}
+use Rattle.window_rewrite.specs.Rules.{first_with, raised_forms}
+use Rattle.window_rewrite.specs.Shapes.{blind}
 use Rattle.window_rewrite.specs.Choices.{choice_of, setting_of, IsChoice, Meets}
 
 -- movs, cmp, adds or subs with this number in 8 bits
@@ -30,6 +34,10 @@ pub record IsOnlyInstance (f : Family) (e : Rule) (side : List Instr) (i : Insta
   pub among : IsValue (symbol_of f) value
   pub is : IsInstance f e value i
   pub only : (x : Byte) → instance f.number e.left x ≡ side → x ≡ value
+
+-- of the families from the k-th on, the next one whose left side has the number of this side, both with 0 for 8-bit numbers, is this
+abbrev pub AwaitsFamily : Rules → List Instr → ℕ → Option ℕ → Type 0
+AwaitsFamily r side k next = next ≡ first_with r.index.now.families.kept.items (form_of (map blind side)) k (drop k (raised_forms (map rule_of r.entries.now) (map family_of r.families.now)))
 
 -- ---- choices ----
 

@@ -1,5 +1,5 @@
 -- The rules of a table, and how they are found by their left sides.
-use Rattle.std.specs.Prelude.{◌≡◌, ℕ, suc, ◌+◌, ◌==◌, ◌<◌, ◌≤◌, ◌&&◌, Bool, true, false, List, [], ◌∷◌, length, map, take, drop, nat_lt, Option, Some, None, slice_get, if◌then◌else◌}
+use Rattle.std.specs.Prelude.{◌≡◌, ℕ, suc, ◌+◌, ◌==◌, ◌<◌, ◌≤◌, ◌&&◌, Bool, true, false, List, [], ◌∷◌, length, map, replicate, take, drop, nat_lt, Option, Some, None, slice_get, if◌then◌else◌}
 use Rattle.std.specs.List.{list_any}
 use Rattle.thumb_instr.specs.declared.instr.Instr.{Instr}
 use Rattle.rule_model.specs.Rules.{Rule, alone, rule_at, IsSoundRule}
@@ -157,31 +157,39 @@ pub record AreKept (costs : Option (List ℕ)) (rules : List Rule) (n : ℕ) (k 
   pub lighter : (j : ℕ) (rule : Rule) → slice_get rules j ≡ Some rule → is_marked k.kept.items j ≡ true → is_lighter costs rule ≡ true
   pub led : AreLed costs rules k.kept.items n
 
--- ---- left sides by their numbers ----
+-- ---- rules by numbers ----
 
--- the first rule that is kept and whose left side has this number, where they are numbered from n on
-abbrev pub first_with : List Bool → ℕ → ℕ → List Rule → Option ℕ
+-- the numbers of left sides
+abbrev pub left_forms : List Rule → List ℕ
+left_forms rules = map (λ r. form_of r.left) rules
+
+abbrev pub AreSmall : List ℕ → Type 0
+AreSmall forms = (k form : ℕ) → slice_get forms k ≡ Some form → form < 65536
+
+-- the first rule that is kept and has this number, where they are counted from n on
+abbrev pub first_with : List Bool → ℕ → ℕ → List ℕ → Option ℕ
 first_with kept form n [] = None
-first_with kept form n (r ∷ rs) = if is_marked kept n && form_of r.left == form then Some n else first_with kept form (n + 1) rs
+first_with kept form n (f ∷ fs) = if is_marked kept n && f == form then Some n else first_with kept form (n + 1) fs
 
 -- of each number the first rule that is kept from the n-th on, and of each of these rules the next one
-abbrev pub AreFirsts : List Rule → List Bool → List (Option ℕ) → ℕ → Type 0
-AreFirsts rules kept firsts n = (form : ℕ) (first : Option ℕ) → slice_get firsts form ≡ Some first → first ≡ first_with kept form n (drop n rules)
+abbrev pub AreFirsts : List ℕ → List Bool → List (Option ℕ) → ℕ → Type 0
+AreFirsts forms kept firsts n = (form : ℕ) (first : Option ℕ) → slice_get firsts form ≡ Some first → first ≡ first_with kept form n (drop n forms)
 
-abbrev pub AreNexts : List Rule → List Bool → List (Option ℕ) → ℕ → Type 0
-AreNexts rules kept nexts n = (k : ℕ) (rule : Rule) (next : Option ℕ) → n ≤ k → slice_get rules k ≡ Some rule → is_marked kept k ≡ true → slice_get nexts k ≡ Some next → next ≡ first_with kept (form_of rule.left) (k + 1) (drop (k + 1) rules)
+abbrev pub AreNexts : List ℕ → List Bool → List (Option ℕ) → ℕ → Type 0
+AreNexts forms kept nexts n = (k form : ℕ) (next : Option ℕ) → n ≤ k → slice_get forms k ≡ Some form → is_marked kept k ≡ true → slice_get nexts k ≡ Some next → next ≡ first_with kept form (k + 1) (drop (k + 1) forms)
 
--- the chains of the rules from the n-th on
-pub record AreChains (rules : List Rule) (n : ℕ) (chains : Chains) : Type 0 where
-  pub many_kept : length chains.kept.items ≡ length rules
+-- the chains of the rules from the n-th on, which have these numbers
+pub record AreChains (forms : List ℕ) (n : ℕ) (chains : Chains) : Type 0 where
+  pub many_kept : length chains.kept.items ≡ length forms
   pub many_firsts : length chains.firsts.items ≡ 65536
-  pub firsts : AreFirsts rules chains.kept.items chains.firsts.items n
-  pub as_many : length chains.nexts.items ≡ length rules
-  pub nexts : AreNexts rules chains.kept.items chains.nexts.items n
+  pub firsts : AreFirsts forms chains.kept.items chains.firsts.items n
+  pub as_many : length chains.nexts.items ≡ length forms
+  pub nexts : AreNexts forms chains.kept.items chains.nexts.items n
 
 pub record IsIndex (costs : Option (List ℕ)) (entries : List tables.Rule) (families : List tables.Family) (index : Index) : Type 0 where
   pub marks : AreNoted costs left_side (alone (map rewriting_rule entries)) (length entries) index.marks
   pub holes : AreNoted costs blind_side (families_in entries families) (length families) index.holes
-  pub led : AreLed costs (map rewriting_rule entries) index.chains.kept.items (length (map rewriting_rule entries))
-  pub chains : AreChains (map rewriting_rule entries) 0 index.chains
-  pub forms : index.forms.items ≡ raised_forms entries families
+  pub led : AreLed costs (map rewriting_rule entries) index.entries.kept.items (length (map rewriting_rule entries))
+  pub entry_chains : AreChains (left_forms (map rewriting_rule entries)) 0 index.entries
+  pub family_chains : AreChains (raised_forms entries families) 0 index.families
+  pub all : index.families.kept.items ≡ replicate (length families) true

@@ -1,80 +1,71 @@
-//! The entries of a table by their left sides.
-ghost use Rattle.std.specs.Prelude.{◌≡◌, ◌+◌, ◌<◌, length, drop, slice_get, true, Some, IfOk};
-ghost use Rattle.rule_model.specs.Rules.{Rule};
-ghost use Rattle.window_rewrite.specs.Rules.{first_with, is_marked, rules_in, AreChains, AreLed};
-ghost use Rattle.window_rewrite.specs.Forms.{form_of};
+//! The rules of a table by numbers: its entries by those of their left sides, its families by those of left sides with 0 for 8-bit numbers.
+ghost use Rattle.std.specs.Prelude.{◌≡◌, ◌+◌, ◌<◌, length, slice_get, true, Some, IfOk};
+ghost use Rattle.window_rewrite.specs.Rules.{is_marked, AreChains, AreSmall};
 
-use crate::forms::form_of;
-use crate::shadows::kept_entries;
 use crate::shapes::SHAPES;
 use listing_parser::Memory;
-use rule_table::Entry;
-use seq_enum::Costs;
 use std::alloc::Global;
 
-/// The entries that are kept, by numbers of their left sides. Seldom have two left sides one number.
+/// The rules that are kept, by numbers of theirs. Seldom have two left sides one number.
 #[derive(Drop)]
 pub(crate) struct Chains {
-    /// Whether an entry is kept.
+    /// Whether a rule is kept.
     kept: Vec<bool>,
-    /// Of each number the first entry that is kept and whose left side has it, and of each of these the next one.
+    /// Of each number the first rule that is kept and has it, and of each of these the next one.
     firsts: Vec<Option<usize>>,
     nexts: Vec<Option<usize>>,
 }
 
 impl Chains {
-    /// The chains of these entries.
-    pub(crate) fn of(
-        alloc: Global,
-        costs: &Option<Costs>,
-        entries: &[Entry],
-    ) -> Result<Chains, Memory>
-        ensures chains { IfOk result (λ chains. AreChains (rules_in entries.now) 0 chains) }
-        ensures led { IfOk result (λ chains. AreLed costs.now (rules_in entries.now) chains.kept.items (length (rules_in entries.now))) }
+    /// The chains of rules that have these numbers.
+    pub(crate) fn of(alloc: Global, kept: Vec<bool>, forms: &[usize]) -> Result<Chains, Memory>
+        requires many { length kept.items ≡ length forms.now }
+        requires small { AreSmall forms.now }
+        ensures chains { IfOk result (λ chains. AreChains forms.now 0 chains) }
+        ensures kept { IfOk result (λ chains. chains.kept ≡ kept) }
     {
         let mut chains = Chains {
-            kept: kept_entries(alloc, costs, entries)?,
+            kept,
             firsts: vec![in alloc; None; SHAPES]?,
-            nexts: vec![in alloc; None; entries.len()]?,
+            nexts: vec![in alloc; None; forms.len()]?,
         };
-        let mut number = entries.len();
+        let mut number = forms.len();
         while number > 0 {
             number -= 1;
             if chains.kept[number] {
-                chains.add(entries, number);
+                chains.add(forms, number);
             }
         }
         Ok(chains)
     }
 
-    /// Puts an entry, which is kept, before those that are behind it.
-    fn add(&mut self, entries: &[Entry], number: usize)
-        requires number { number < length entries.now }
+    /// Puts a rule, which is kept, before those that are behind it.
+    fn add(&mut self, forms: &[usize], number: usize)
+        requires number { number < length forms.now }
+        requires small { AreSmall forms.now }
         requires kept { is_marked self.old.kept.items number ≡ true }
-        requires chains { AreChains (rules_in entries.now) (number + 1) self.old }
-        ensures chains { AreChains (rules_in entries.now) number self.new }
+        requires chains { AreChains forms.now (number + 1) self.old }
+        ensures chains { AreChains forms.now number self.new }
         ensures kept { self.new.kept ≡ self.old.kept }
     {
-        let form = form_of(entries[number].left.as_slice());
+        let form = forms[number];
         let next = self.firsts[form];
         self.nexts[number] = next;
         self.firsts[form] = Some(number);
     }
 
-    /// The first entry that is kept and whose left side has this number.
-    pub(crate) fn first(&self, form: usize, _entries: &[Entry]) -> Option<usize>
-        requires chains { AreChains (rules_in _entries.now) 0 self.now }
-        requires small { form < 65536 }
-        ensures { result ≡ first_with self.now.kept.items form 0 (rules_in _entries.now) }
+    /// The first rule that is kept and has this number.
+    pub(crate) fn first(&self, form: usize) -> Option<usize>
+        requires { form < length self.now.firsts.items }
+        ensures { slice_get self.now.firsts.items form ≡ Some result }
     {
         self.firsts[form]
     }
 
-    /// The next entry that is kept and whose left side has the number of that of this one, which is kept.
-    pub(crate) fn next(&self, number: usize, _entries: &[Entry]) -> Option<usize>
-        requires chains { AreChains (rules_in _entries.now) 0 self.now }
-        requires number { number < length _entries.now }
-        ensures { (rule : Rule) → slice_get (rules_in _entries.now) number ≡ Some rule → is_marked self.now.kept.items number ≡ true → result ≡ first_with self.now.kept.items (form_of rule.left) (number + 1) (drop (number + 1) (rules_in _entries.now)) }
+    /// The next rule that is kept and has the number of this one, which is kept.
+    pub(crate) fn next(&self, number: usize) -> Option<usize>
+        requires { number < length self.now.nexts.items }
+        ensures { slice_get self.now.nexts.items number ≡ Some result }
     {
         self.nexts[number]
     }

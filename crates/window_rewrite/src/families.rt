@@ -7,9 +7,9 @@ ghost use Rattle.rule_table.specs.Views.{family_of, rule_of};
 ghost use Rattle.table_audit.specs.Families.{entry_at, is_hole, symbol_of};
 ghost use Rattle.step_ledger.specs.Counts.{RisesByAtLeast};
 ghost use Rattle.window_rewrite.specs.Fitting.{IsForm, StandsThere};
-ghost use Rattle.window_rewrite.specs.Families.{IsByteOf, IsInstance, IsOnlyInstance, IsFamilyChoice, IsLowestFamily, NoneOfFamily, NoneOfFamilies};
+ghost use Rattle.window_rewrite.specs.Families.{AwaitsFamily, IsByteOf, IsInstance, IsOnlyInstance, IsFamilyChoice, IsLowestFamily, NoneOfFamily, NoneOfFamilies};
 ghost use Rattle.window_rewrite.specs.Forms.{form_of};
-ghost use Rattle.window_rewrite.specs.Rules.{raised_forms, side_length, IsRaised};
+ghost use Rattle.window_rewrite.specs.Rules.{side_length, IsRaised};
 ghost use Rattle.window_rewrite.specs.Shapes.{blind};
 ghost use Rattle.window_rewrite.specs.Choices.{families_sides, of_length, AreReady};
 ghost use Rattle.window_rewrite.specs.Scenes.{lines_seen, number_seen, IsLook};
@@ -18,7 +18,6 @@ ghost use Rattle.window_rewrite.specs.Layouts.{Moves};
 use crate::choice::Choice;
 use crate::finding::{Look, Rules, try_rule};
 use crate::forms::{Form, form_of};
-use crate::fronts::may_raise;
 use crate::shapes::blind_all;
 use listing_parser::Memory;
 use rule_table::{Entry, Family};
@@ -118,24 +117,13 @@ fn entry_raised<'a>(entries: &'a [Entry], family: &Family) -> &'a Entry
     &entries[family.entry as usize - 1]
 }
 
-/// The number of the left side of a family's entry with 0 for 8-bit numbers.
-fn hidden_of(rules: &Rules<'_>, number: usize) -> usize
-    requires ready { AreReady rules.now }
-    requires number { number < length rules.now.families.now }
-    ensures { slice_get (raised_forms (map rule_of rules.now.entries.now) (map family_of rules.now.families.now)) number ≡ Some result }
-{
-    rules.index.forms[number]
-}
-
-/// What the family of a number makes of a window at the place, of which this is told, where its entry's left side is as long. `hidden` is the number of the
-/// window's canonical form with 0 for 8-bit numbers, which is that of each left side that may stand there. `refused` comes to be true where an
-/// instance fits and what it leaves is refused.
+/// What the family of a number makes of a window at the place, of which this is told, where its entry's left side is as long. `refused` comes to be true
+/// where an instance fits and what it leaves is refused.
 fn try_family<L: Ledger>(
     alloc: Global,
     look: &Look<'_>,
     window: &[Instr],
     form: &Form,
-    hidden: usize,
     number: usize,
     refused: &mut bool,
     steps: &mut Steps<L>,
@@ -144,7 +132,6 @@ fn try_family<L: Ledger>(
     requires stands { StandsThere (lines_seen look.now) (number_seen look.now) window.now form.now.live.bits }
     requires within { length window.now ≤ length look.now.site.now.run.letters }
     requires form { IsForm window.now form.now }
-    requires hidden { hidden ≡ form_of (map blind form.now.side) }
     requires number { number < length look.now.rules.now.families.now }
     ensures some { IfOk result (λ o. IfSome o (IsFamilyChoice look.now.rules.now (lines_seen look.now) (number_seen look.now) (length window.now) number)) }
     ensures moved { IfOk result (λ o. IfSome o (λ c. Moves look.now.scene.now.layout c.window c.new c.moved)) }
@@ -153,9 +140,6 @@ fn try_family<L: Ledger>(
     ensures cost { steps.new ≤ steps.old + from_bool (side_length (families_sides look.now.rules.now) number == length window.now) }
     ensures rises { IfOk result (λ o. RisesByAtLeast steps.old steps.new (from_bool (is_some o))) }
 {
-    if hidden_of(look.rules, number) != hidden {
-        return Ok(None);
-    }
     let family = &look.rules.families[number];
     let entry = entry_raised(look.rules.entries, family);
     if entry.left.len() != window.len() {
@@ -177,35 +161,20 @@ fn try_family<L: Ledger>(
     }
 }
 
-/// The lowest of all families that applies to a window at the place, of which this is told.
-fn first_family<L: Ledger>(
-    alloc: Global,
-    look: &Look<'_>,
-    window: &[Instr],
-    form: &Form,
-    refused: &mut bool,
-    steps: &mut Steps<L>,
-) -> Result<Option<Choice>, Memory>
-    requires look { IsLook look.now }
-    requires stands { StandsThere (lines_seen look.now) (number_seen look.now) window.now form.now.live.bits }
-    requires within { length window.now ≤ length look.now.site.now.run.letters }
-    requires form { IsForm window.now form.now }
-    ensures some { IfOk result (λ o. IfSome o (IsLowestFamily look.now.rules.now (lines_seen look.now) (number_seen look.now) (length window.now))) }
-    ensures moved { IfOk result (λ o. IfSome o (λ c. Moves look.now.scene.now.layout c.window c.new c.moved)) }
-    ensures none { IfOk result (λ o. IfNone o (NoneOfFamilies refused.new look.now.rules.now (lines_seen look.now) (number_seen look.now) (length window.now) (length look.now.rules.now.families.now))) }
-    ensures stays { OnOk result (refused.old ≡ true → refused.new ≡ true) }
-    ensures cost { steps.new ≤ steps.old + of_length (length window.now) (families_sides look.now.rules.now) }
-    ensures rises { IfOk result (λ o. RisesByAtLeast steps.old steps.new (from_bool (is_some o))) }
+/// The number of a window's canonical form, of which this is told, with 0 for 8-bit numbers.
+fn hidden_of(form: &Form) -> usize
+    ensures value { result ≡ form_of (map blind form.now.side) }
+    ensures small { result < 65536 }
 {
-    let hidden = form_of(blind_all(form.side.as_slice()).as_slice());
-    for number in 0..look.rules.families.len() {
-        if let Some(choice) = try_family(
-            alloc, look, window, form, hidden, number, refused, steps,
-        )? {
-            return Ok(Some(choice));
-        }
-    }
-    Ok(None)
+    form_of(blind_all(form.side.as_slice()).as_slice())
+}
+
+/// The first family whose left side may stand in a window, of which this is told: the numbers that its holes have aside.
+fn first_number(rules: &Rules<'_>, form: &Form) -> Option<usize>
+    requires { AreReady rules.now }
+    ensures { AwaitsFamily rules.now form.now.side 0 result }
+{
+    rules.index.families.first(hidden_of(form))
 }
 
 /// The lowest family that applies to a window at the place, of which this is told.
@@ -228,8 +197,15 @@ pub(crate) fn lowest_family<L: Ledger>(
     ensures cost { steps.new ≤ steps.old + of_length (length window.now) (families_sides look.now.rules.now) }
     ensures rises { IfOk result (λ o. RisesByAtLeast steps.old steps.new (from_bool (is_some o))) }
 {
-    if !may_raise(look.rules, window) {
+    if look.rules.families.is_empty() {
         return Ok(None);
     }
-    first_family(alloc, look, window, form, refused, steps)
+    let mut at = first_number(look.rules, form);
+    while let Some(number) = at {
+        if let Some(choice) = try_family(alloc, look, window, form, number, refused, steps)? {
+            return Ok(Some(choice));
+        }
+        at = look.rules.index.families.next(number);
+    }
+    Ok(None)
 }

@@ -230,9 +230,9 @@ fn try_entry<L: Ledger>(
 fn first_number(rules: &Rules<'_>, _window: &[Instr], form: &Form) -> Option<usize>
     requires ready { AreReady rules.now }
     requires form { IsForm _window.now form.now }
-    ensures { Awaits rules.now.costs.now (rules_in rules.now.entries.now) rules.now.index.now.chains.kept.items _window.now 0 result }
+    ensures { Awaits rules.now.costs.now (rules_in rules.now.entries.now) rules.now.index.now.entries.kept.items _window.now 0 result }
 {
-    rules.index.chains.first(form.number, rules.entries)
+    rules.index.entries.first(form.number)
 }
 
 /// The lowest entry that applies to a window at the place, of which this is told.
@@ -260,7 +260,7 @@ fn lowest_by<L: Ledger>(
         if let Some(choice) = try_entry(alloc, look, window, form, number, refused, steps)? {
             return Ok(Some(choice));
         }
-        at = look.rules.index.chains.next(number, look.rules.entries);
+        at = look.rules.index.entries.next(number);
     }
     Ok(None)
 }

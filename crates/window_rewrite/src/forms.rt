@@ -10,7 +10,7 @@ ghost use Rattle.table_audit.specs.Families.{entry_at};
 ghost use Rattle.table_audit.specs.Sides.{IsCanonicalSide};
 ghost use Rattle.window_rewrite.specs.Fitting.{IsForm, Stands};
 ghost use Rattle.window_rewrite.specs.Forms.{form_of, letter_number, next_form};
-ghost use Rattle.window_rewrite.specs.Rules.{raised_form, raised_forms};
+ghost use Rattle.window_rewrite.specs.Rules.{left_forms, raised_form, raised_forms, rules_in};
 
 use crate::shapes::{SHAPES, blind_all};
 use listing_parser::Memory;
@@ -61,6 +61,17 @@ pub(crate) fn form_of(instrs: &[Instr]) -> usize
         form = next_form(form, instr);
     }
     form
+}
+
+/// The numbers of the left sides of entries.
+pub(crate) fn left_forms(alloc: Global, entries: &[Entry]) -> Result<Vec<usize>, Memory>
+    ensures { IfOk result (λ forms. forms.items ≡ left_forms (rules_in entries.now)) }
+{
+    let mut forms = Vec::new(alloc);
+    for entry in entries {
+        forms.push(form_of(entry.left.as_slice()))?;
+    }
+    Ok(forms)
 }
 
 /// The number of the left side of the entry that a family raises, with 0 for 8-bit numbers.

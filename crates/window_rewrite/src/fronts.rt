@@ -84,7 +84,7 @@ pub(crate) fn reach(rules: &Rules<'_>, run: &[Instr]) -> usize
 }
 
 /// Whether an instance of a family may stand in a window, but for registers and 8-bit numbers.
-pub(crate) fn may_raise(rules: &Rules<'_>, window: &[Instr]) -> bool
+fn may_raise(rules: &Rules<'_>, window: &[Instr]) -> bool
     requires ready { AreReady rules.now }
     ensures { result ≡ false → NoneStands rules.now.costs.now (families_in (map rule_of rules.now.entries.now) (map family_of rules.now.families.now)) window.now }
 {

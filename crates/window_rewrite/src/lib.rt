@@ -7,7 +7,7 @@
 //! What may be replaced is decided by the items that are live, by the labels, by how many lines would be left and by their layout. Marks of numbers that all
 //! windows share which differ in registers alone reject most windows. Others are put in canonical form, and meet the entries whose left side that is, but for
 //! chance, and of these only such as have the items in their mask that are live. An entry is left out where an earlier one has its left side, its mask and a right
-//! side as long, and needs a scratch register only if it does. A family is tried with the one value that its number has in the window. A scratch register is looked
+//! side as long, and needs a scratch register only if it does. Families are met by their left sides with 0 for 8-bit numbers, and each is tried with the one value that its number has in the window. A scratch register is looked
 //! for last, by what is live after the window.
 //!
 //! The listing keeps the numbers of its places while windows give way, and with them what is live before each and, where that has to be asked, its layout, in which

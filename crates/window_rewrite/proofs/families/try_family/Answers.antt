@@ -11,7 +11,7 @@ use Rattle.window_rewrite.specs.Rules.{entry_rule}
 use Rattle.window_rewrite.specs.Choices.{AreReady, IsChoiceBy}
 use Rattle.window_rewrite.specs.declared.finding.Rules.{Rules}
 use Rattle.window_rewrite.specs.Scenes.{lines_seen, number_seen}
-use Rattle.window_rewrite.proofs.Raised.{family_choice, family_length, family_read, instance_fit, instance_long, none_hidden_at, none_long, none_stands, none_tried, raised_at, IsFamily}
+use Rattle.window_rewrite.proofs.Raised.{family_choice, family_length, family_read, instance_fit, instance_long, none_long, none_stands, none_tried, raised_at, IsFamily}
 use Rattle.window_rewrite.proofs.Results.{if_none}
 use Rattle.window_rewrite.proofs.families.try_family.Goals as goal
 
@@ -78,7 +78,3 @@ returns-in-Some-clause-cost g c =
     let long = sym c.len.ensures.value ∙ c.if-len-window.false in
     let own = family_length c.args.look.now.rules.now c.args.number (family_of (slice_index_or c.args.look.now.rules.now.families.now c.args.number c.index-look-number.result)) (rule_of c.entry_raised-entry.result.now) k in
     counted _ _ c.args.steps.now c.try_rule.new.steps (own ∙ long) c.try_rule.ensures.cost
-
-pub returns-then-hidden_of-hidden-clause-none : goal.returns-then-hidden_of-hidden-clause-none
-returns-then-hidden_of-hidden-clause-none g c =
-    none_hidden_at _ c.args.look.now.rules.now c.args.number c.hidden_of.result c.args.hidden (lines_seen c.args.look.now) (number_seen c.args.look.now) c.args.window.now c.args.form.now c.requires.number c.requires.look.ready c.requires.stands.is_window c.requires.form c.hidden_of.ensures c.requires.hidden c.if-hidden_of-hidden.true
