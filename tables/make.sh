@@ -90,10 +90,12 @@ widened() {
     cp "$now" "$room/wide.peep"
 }
 
-# shipped TABLE WINDOWS BYTES: learns some windows anew, by the few states that they need, and ships the entries that aren't longer, audited and with trimmed proofs.
+# shipped TABLE WINDOWS BYTES [CLAUSES]: learns some windows anew, by the few states that they need, and ships the entries that aren't longer, and whose formulas
+# haven't more clauses, audited and with trimmed proofs.
 shipped() {
     learnt "$2"
     "$top/driver/peep-table" filter "$2.peep" "$2.kept.peep" "$3"
+    [ -z "${4:-}" ] || "$top/driver/peep-table" light "$2.kept.peep" "$2.kept.peep" "$2.heavy.peep" "$4"
     "$top/driver/peep-table" merge "$here/$1.peep" "$2.kept.peep"
     "$top/peep" trim "$here/$1.peep" "$here/$1.peep"
 }
@@ -138,7 +140,7 @@ cut_all
 rules size 4 3 1000 "$usual"
 widened size
 used size wide 2
-shipped size "$folder/size/used2" 5000
+shipped size "$folder/size/used2" 5000 1000
 used size wide 1
 "$top/driver/peep-table" without "$folder/size/rest.windows" "$folder/size/used1.windows" "$here/size.peep"
 shipped size-rare "$folder/size/rest" 20000
