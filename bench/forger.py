@@ -39,8 +39,19 @@ SETTINGS = {
     "plain": ["--budget", "1000"],
     "scratch": ["--regs", "2", "--left", "2", "--scratch", "1", "--budget", "50", "--pool", "0,1,24,255"],
     "open": ["--regs", "2", "--left", "2", "--budget", "3", "--pool", "0,24"],
-    "costs": ["--regs", "2", "--left", "2", "--pool", "1,3,24", "--costs", str(TOP / "examples/small-multiplier.costs")],
+    "costs": ["--regs", "2", "--left", "2", "--budget", "100", "--pool", "1,3,24", "--costs", str(TOP / "examples/small-multiplier.costs")],
 }
+# sides and masks whose numbers can be raised, some of them for their own value alone
+RAISED = (
+    (("movs r0, #24", "adds r1, r1, r0"), ("adds r1, #24",), "r1 n z c v"),
+    (("movs r0, #24", "cmp r1, r0"), ("cmp r1, #24",), "r1 n z c v"),
+    (("movs r0, #0",), ("eors r0, r0",), "z"),
+    (("movs r0, #0",), ("eors r0, r0",), "r0"),
+    (("adds r0, #0",), (), "r0"),
+    (("subs r0, #0",), ("cmp r0, #0",), "r0 c"),
+    (("movs r0, #0", "orrs r0, r1"), ("movs r0, r1",), "r0 n z"),
+    (("movs r0, #24", "ands r0, r1"), ("movs r0, #24", "ands r0, r1"), "r0"),
+)
 HOLES = ("movs", "cmp", "adds", "subs")
 # of more sequences it isn't looked through here which of them no state tells
 SEQUENCES = 500_000
@@ -219,7 +230,10 @@ class Judge:
         fault = proof_fault(self.formula(left, right, mask, most), entry["proof"])
         if fault is not None:
             return f"2 {fault}" if fault else "3"
-        if over.count(over.longest + 1) > SEQUENCES and right:
+        if not right:
+            # nothing is below it
+            return f"5 {entry['opens'][0][0]}" if entry["opens"] else None
+        if over.count(over.longest + 1) > SEQUENCES:
             return "many"
         states, bits = [state_of(line) for line in table.states], tables.mask_bits(mask)
         named = {number for number, _ in entry["opens"]}
@@ -387,8 +401,8 @@ def forged_heads(rng, table):
         yield "costs where there were none", other
 
 
-def forged_families(rng, table, judge, count):
-    """Changes of the families of a table of one entry."""
+def forged_families(rng, table, others, judge, count):
+    """Changes of the families of a table of one entry, for which others lend their proofs."""
     for at, family in enumerate(table.families):
 
         def but(**parts):
@@ -406,8 +420,8 @@ def forged_families(rng, table, judge, count):
         yield "a family without its number", but(numbers=[entry, number, number + 1, max(high, number + 1)])
         yield "a family of no entry", but(numbers=[entry + 1, number, low, high])
         yield "a family with its entry's proof", but(proof=table.entries[0]["proof"])
-        other = rng.choice(table.families)
-        yield "another family's proof", but(proof=other["proof"])
+        for other in rng.sample(others, min(3, len(others))):
+            yield "another family's proof", but(proof=other["proof"])
         most = min(len(tables.registers_of(table.entries[0]["left"])) + table.one("scratch"), 4)
         formula = judge.family(tuple(table.entries[0]["left"]), tuple(table.entries[0]["right"]), tuple(family["numbers"]), tuple(table.entries[0]["mask"]), most)
         for what, lines in changed_proofs(rng, family["proof"], formula.clauses, count):
@@ -418,11 +432,11 @@ def forged_families(rng, table, judge, count):
 
 
 def near_pairs(most):
-    """Pairs of a left and a right side with a mask which no seeded state and none of 300 random ones tells apart, and one with an edge in it does: some of each kind."""
+    """Pairs of a left and a right side with a mask which no seeded state and none of 100 random ones tells apart, and one with an edge in it does: some of each kind."""
     chance = random.Random(3)
     for k, pool, masks in ((1, [1, 255], ("r0", "r0 n z", "r0 c", "r0 n z c", "n", "z", "c", "v", "n z c v", "z c", "r0 v")), (2, [0], ("r0", "r0 r1 z", "z", "c", "v", "z c", "n z"))):
         letters = tables.alphabet(k, pool)
-        usual = tables.seeded(42) + [([chance.getrandbits(32) for _ in range(4)], chance.getrandbits(4)) for _ in range(300)]
+        usual = tables.seeded(42) + [([chance.getrandbits(32) for _ in range(4)], chance.getrandbits(4)) for _ in range(100)]
         edges = [([*words, 0, 0][:4], n) for words in itertools.product(EDGES, repeat=k) for n in (0, 15)]
         sides = [[]] + [[letter] for letter in letters] + [[one, two] for one in letters for two in letters if k == 1]
         sides = [side for side in sides if tables.registers_of(side) == list(range(len(tables.registers_of(side))))]
@@ -509,6 +523,17 @@ def learnt(room, listing):
     return made
 
 
+def by_hand(room):
+    """Tables of the sides above, of version 3 and by costs of version 4."""
+    for version in (3, 4):
+        head = f"peep {version}\nregs 2\nleft 2\nseed 42\nbudget 20000\npool 0 24\nscratch 0\n" + ("costs" + " 1" * 28 + "\n") * (version == 4)
+        entries = (["entry", *(f"left {it}" for it in left), *(f"right {it}" for it in right), f"mask {mask}", "proof"] for left, right, mask in RAISED)
+        path = room / f"raised-{version}.peep"
+        path.write_text(head + "".join(tables.state_line(state) + "\n" for state in tables.seeded(42)) + "".join("\n".join([*entry, ""]) for entry in entries) + "end\n")
+        raise_all(path)
+        yield path
+
+
 def raise_all(path):
     """Raises the entries of a table, each number to the first range that holds."""
     table = Table(path.read_text())
@@ -533,7 +558,7 @@ def forgeries(judge, path, count):
         others = [other for other in whole.entries if other is not entry]
         yield from forged_entries(rng, table, entry, others, 1 if len(entry["proof"]) > 300 else 4)
         yield from forged_heads(rng, table)
-        yield from forged_families(rng, table, judge, 2)
+        yield from forged_families(rng, table, whole.families, judge, 2)
 
 
 def cause(said):
@@ -547,7 +572,7 @@ def cause(said):
 def tried(path, room, count):
     """Tries what is made of a table, or where there is none the sides that differ in few states: the causes by what was done, and what is to be said of wrong answers."""
     judge, counts, said_wrong, seen = Judge(), collections.defaultdict(collections.Counter), [], set()
-    for what, table in forgeries(judge, path, count) if path else near_tables(room, 25 * count):
+    for what, table in forgeries(judge, path, count) if path else near_tables(room, 6 * count):
         text = table.text()
         if text in seen:
             continue
@@ -569,6 +594,7 @@ def main():
     room.mkdir(parents=True, exist_ok=True)
     paths = [TOP / "examples" / name for name in EXAMPLES] + [TOP / "tables" / name for name in SHIPPED]
     counts, wrong = collections.defaultdict(collections.Counter), []
+    paths += by_hand(room)
     with ProcessPoolExecutor(JOBS) as pool:
         near = pool.submit(tried, None, room, count)
         for made in pool.map(learnt, itertools.repeat(room), sorted(folder.glob("*.s"))):

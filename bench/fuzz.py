@@ -306,7 +306,7 @@ def run_batch(lines):
     for line, answer in zip(lines, told):
         status, words = check(line, answer), line.split()[4:]
         counts[words[0], status] += 1
-        version = re.match(rb"peep ([1-4])\n", bytes.fromhex(line[1:15])) if "t" in words and words[0] != "learn" else None
+        version = re.match(rb"peep ([1-4])\n", bytes.fromhex(line.split()[0][1:15])) if "t" in words and words[0] != "learn" else None
         if version:
             versions[int(version[1]), status] += 1
     return counts, versions

@@ -192,9 +192,9 @@ def try_descriptors():
     ends("no text of costs", "learn l o --costs none", 7, b"")
     ends("a folder as a listing to be tidied", "tidy . o", 3, b"")
     ends("a listing without end to be tidied", "tidy /dev/zero o", 6, b"")
-    for words in ("tidy l {}", "upgrade t {}", "trim t {}", "generalise t 1 24 0 255 {}", "export t 2 {} o", "export t 2 - {}", "learn l {} --regs 1 --left 1"):
+    for words in ("tidy l {}", "upgrade t {}", "trim t {}", "generalise t 1 0 0 0 {}", "export t 2 {} o", "export t 2 - {}", "learn l {} --regs 1 --left 1"):
         for name in (".", "/dev/full", "no/o"):
-            ends(f"{name} as OUT of {words}", words.format(name), 3, b"", {"texts": (RAISED, CHAIN)})
+            ends(f"{name} as OUT of {words}", words.format(name), 3, b"", {"texts": (PROOF, CHAIN)})
     ends("a name too long", "audit " + "n" * 5000, 7, b"")
     ends("an empty name", ["audit", ""], 7, b"")
     ends("a name with a zero", ["audit", "no such name"], 7, b"")
