@@ -341,7 +341,8 @@ def forged_entries(rng, table, entry, others, count):
     for n, (number, log) in enumerate(entry["opens"][:count]):
         opens = lambda *new: but(opens=[*entry["opens"][:n], *new, *entry["opens"][n + 1 :]])
         yield "an open number less", opens()
-        yield "another open number", opens((number + 1, log))
+        if number + 1 not in dict(entry["opens"]):
+            yield "another open number", opens((number + 1, log))
         other = rng.choice(entry["opens"])
         yield "a log of another number", opens((number, other[1]))
         for what, lines in changed_proofs(rng, log, [[]], 1):
@@ -534,6 +535,18 @@ def by_hand(room):
         yield path
 
 
+def with_open_names(room):
+    """Tables whose budgets are too small, so that numbers are left open with their logs, of version 2 and by costs of version 4."""
+    listing, costs = room / "open.s", room / "open.costs"
+    listing.write_text("\teors r0, r1\n\teors r0, r1\n\tbx lr\n")
+    costs.write_text("costs 1\nmuls 3\neors 4\nsubs 3\nadds 3\n")
+    for name, options in (("1", ["--budget", "1"]), ("3", ["--budget", "3"]), ("costs", ["--budget", "1", "--costs", str(costs)])):
+        path = room / f"open-{name}.peep"
+        status, said = peep("learn", listing, path, "--left", "2", "--regs", "2", "--pool", "255", *options)
+        assert status == 0, said
+        yield path
+
+
 def raise_all(path):
     """Raises the entries of a table, each number to the first range that holds."""
     table = Table(path.read_text())
@@ -594,7 +607,7 @@ def main():
     room.mkdir(parents=True, exist_ok=True)
     paths = [TOP / "examples" / name for name in EXAMPLES] + [TOP / "tables" / name for name in SHIPPED]
     counts, wrong = collections.defaultdict(collections.Counter), []
-    paths += by_hand(room)
+    paths += [*by_hand(room), *with_open_names(room)]
     with ProcessPoolExecutor(JOBS) as pool:
         near = pool.submit(tried, None, room, count)
         for made in pool.map(learnt, itertools.repeat(room), sorted(folder.glob("*.s"))):
