@@ -4,7 +4,7 @@
 Usage: bench/forger.py FOLDER ROOM [COUNT]
 
 FOLDER has listings. From them tables of each version are learnt into ROOM, outside the repository, and their entries are raised to families; the tables of examples/ and tables/
-come with them. Of each at most COUNT entries (8) are taken, each with its families as a table of its own, and changed: right sides, also such that differ from the left side in
+come with them. Of each at most COUNT entries (3) are taken, each with its families as a table of its own, and changed: right sides, also such that differ from the left side in
 one word alone, masks, costs, numbers and ranges of families, lines of proofs, names that are left open and their logs, and what stands in one entry where another's belongs. The
 verdict that is due is worked out here, from `formulas.py` and `read_tables.py`, with the checker of `lrat_lines.py`, so that a changed table that is accepted is one whose proof that
 checker accepts too. PEEP names another program than the repository's; JOBS runs go at a time, two without it. With `cadical` on the path a right side that differs in one word has the proof
