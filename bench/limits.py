@@ -46,7 +46,7 @@ class Inputs:
 
     def blocks(self, lines):
         """Functions that mention nothing outside: windows, branches and words."""
-        block = "f{0}:\n\tlsls r0, r0, #24\n\tlsrs r0, r0, #24\n\tcmp r0, #1\n\tbeq e{0}\n\tmovs r2, #200\n\tadds r3, r3, r2\n\tmovs r2, #0\ne{0}:\n\tbx lr\n"
+        block = "f{0}:\n\tlsls r0, r0, #24\n\tlsrs r0, r0, #24\n\tcmp r0, #1\n\tbeq e{0}\n\tmovs r2, #50\n\tadds r3, r3, r2\n\tmovs r2, #0\ne{0}:\n\tbx lr\n"
         count = block.count("\n")
         return self.made(f"blocks-{lines}.s", lambda: "".join(block.format(n) for n in range(lines // count)))
 
@@ -55,9 +55,10 @@ class Inputs:
         return self.made(f"loop-{lines}.s", lambda: "f:\n" + "\tadds r0, #1\n\tnop\n" * (lines // 2 - 2) + "\tbl f\n\tbx lr\n")
 
     def families(self, count):
-        """A table of one entry and so many families."""
-        numbers = lambda n: f"family 1 24 {n % 25} {24 + n // 25 % 232}\nproof\n"
-        return self.made(f"families-{count}.peep", lambda: HEAD.format(3, 1) + "scratch 0\n" + STATES + SUM + "".join(map(numbers, range(count))) + "end\n")
+        """A table of one entry and so many families, whose lines are short, so that 2,900,000 fit."""
+        numbers = lambda n: f"family 1 9 {n % 10} {9 + n // 10 % 90}\nproof\n"
+        head = (HEAD.format(3, 1) + "scratch 0\n" + STATES + SUM).replace("pool 24", "pool 9").replace("#24", "#9")
+        return self.made(f"families-{count}.peep", lambda: head + "".join(map(numbers, range(count))) + "end\n")
 
     def repeated(self, name, source, room, version=None):
         """A table's entries again and again, as many as fit into so many bytes."""
@@ -125,7 +126,7 @@ def cases(inputs):
     yield "generalise, just too long, and half", lambda share: ["generalise", inputs.hints(int(BYTES * share), 3), "1", "24", "0", "255", out]
     yield "trim, bytes of proofs", lambda share: ["trim", proofs(share), out]
     yield "trim, 290,000 families", lambda share: ["trim", fewer(share), out]
-    yield "generalise, a family more than 290,000", lambda share: ["generalise", fewer(share), "1", "24", "0", "255", out]
+    yield "generalise, a family more than 290,000", lambda share: ["generalise", fewer(share), "1", "9", "0", "255", out]
     yield "tidy, lines that gcc wrote", lambda share: ["tidy", lines(share), out]
     yield "tidy, 8,000 and 4,000 branches to the next place", lambda share: ["tidy", inputs.branches(int(8_000 * share)), out]
 
