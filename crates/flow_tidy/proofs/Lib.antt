@@ -15,3 +15,10 @@ pub mod Rounds
 pub mod Causes
 pub mod Settled
 pub mod Worked
+pub mod Lefts
+pub mod Branches
+pub mod Rooms
+pub mod Hopping
+pub mod Quickly
+pub mod Handing
+pub mod Draftings

@@ -5,3 +5,4 @@ pub mod Worked
 pub mod Tidying
 pub mod Made
 pub mod Due
+pub mod Quick

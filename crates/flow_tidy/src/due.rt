@@ -76,7 +76,7 @@ impl Due {
     }
 
     /// Makes a place due.
-    fn put(&mut self, place: usize)
+    pub(crate) fn put(&mut self, place: usize)
         requires { place < length self.old }
         ensures { self.new ≡ slice_set self.old place true }
     {
@@ -103,6 +103,13 @@ impl Due {
         ensures { self.new ≡ replicate (length (remove self.old place)) true }
     {
         let _mark = self.marks.remove(place as usize);
+        self.marks.fill(true);
+        self.least = 0;
+    }
+    /// Makes all places due.
+    pub(crate) fn put_all(&mut self)
+        ensures { self.new ≡ replicate (length self.old) true }
+    {
         self.marks.fill(true);
         self.least = 0;
     }

@@ -3,12 +3,15 @@
 
 mod chains;
 mod changing;
+mod drafted;
 mod due;
 mod errors;
 mod found;
 pub mod laws;
 mod limits;
 mod marks;
+mod outcome;
+mod quick;
 mod searching;
 mod settling;
 mod tidied;

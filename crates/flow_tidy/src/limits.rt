@@ -1,14 +1,15 @@
 //! Whether lines may stand as they are: they can be laid out, and there are neither too many nor too long ones.
-ghost use Rattle.std.specs.Prelude.{◌≡◌, ◌↔◌, IsTrue, IfOk, map};
+ghost use Rattle.std.specs.Prelude.{◌≡◌, ◌↔◌, ◌&&◌, true, IsTrue, IfOk, map};
 ghost use Rattle.std.specs.List.{prefix_len};
 ghost use Rattle.listing_parser.specs.Grammar.{longest_line, most_lines};
 ghost use Rattle.listing_parser.specs.Views.{line_view};
 ghost use Rattle.flow_tidy.specs.Tidying.{setting};
 ghost use Rattle.flow_tidy.specs.Made.{is_no_newline, AreShort, AreWithin, IsAccepted, IsWithin};
+ghost use Rattle.flow_tidy.specs.Quick.{counts_for, HaveRoom};
 
 use crate::found::Changed;
 use label_layout::{LayoutError, layout};
-use listing_parser::{Line, Listing, Memory};
+use listing_parser::{Line, Listing, Memory, Statement};
 use std::alloc::Global;
 
 /// How many lines a listing may have.
@@ -76,4 +77,28 @@ pub(crate) fn accepted(
         Err(LayoutError::Line { .. }) => Ok(None),
         Err(LayoutError::Memory) => Err(Memory),
     }
+}
+
+/// How many lines a line counts for: two where it may leave one for its labels.
+fn counts_for(line: &Line) -> usize
+    ensures { result ≡ counts_for (line_view line.now) }
+{
+    match &line.statement {
+        Statement::Runs { .. } => { if line.names.is_empty() { 1 } else { 2 } }
+        _ => 1,
+    }
+}
+
+/// Whether lines surely stay within the limits, whichever of their instructions go.
+pub(crate) fn leave_room(lines: &[Line]) -> bool
+    ensures { result ≡ true → HaveRoom most_lines longest_line (map line_view lines.now) }
+{
+    let mut taken = 0;
+    for line in lines {
+        taken += counts_for(line);
+        if taken > MOST_LINES {
+            return false;
+        }
+    }
+    are_short(lines)
 }

@@ -2,6 +2,7 @@
 ghost use Rattle.std.specs.Prelude.{◌≡◌, IfOk, length};
 
 use code_flow::Reached;
+use listing_draft::Draft;
 use std::alloc::{AllocError, Global};
 use std::marker::Model;
 
@@ -22,6 +23,7 @@ impl Model for Marks {
 impl Marks {
     ghost use Rattle.std.specs.Prelude.{◌≡◌, ◌<◌, Some, IfOk, length, slice_get};
     ghost use Rattle.std.specs.List.{remove};
+    ghost use Rattle.flow_tidy.specs.Quick.{left};
 
     /// The marks of so many places as they are.
     pub(crate) fn of(alloc: Global, reached: &Reached, count: u32) -> Result<Self, AllocError>
@@ -30,6 +32,22 @@ impl Marks {
     {
         let mut marks = Vec::with_capacity(alloc, count as usize)?;
         for place in 0..count {
+            marks.push(reached.at(place))?;
+        }
+        Ok(Marks { marks })
+    }
+
+    /// The marks of the kept places of a draft, by those of all.
+    pub(crate) fn kept(alloc: Global, reached: &Reached, draft: &Draft) -> Result<Self, AllocError>
+        requires { length reached.now ≡ length draft.now.gone }
+        ensures { IfOk result (λ m. m ≡ left draft.now.gone reached.now) }
+    {
+        let count = draft.place_count();
+        let mut marks = Vec::with_capacity(alloc, count as usize)?;
+        for place in 0..count {
+            if draft.is_gone(place) {
+                continue;
+            }
             marks.push(reached.at(place))?;
         }
         Ok(Marks { marks })

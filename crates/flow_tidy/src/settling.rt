@@ -47,7 +47,7 @@ fn lets_on(listing: &Listing, place: u32) -> bool
 }
 
 /// Where a listing lies that can be laid out.
-fn laid_out(alloc: Global, listing: &Listing, base: u32) -> Result<Layout, Memory>
+pub(crate) fn laid_out(alloc: Global, listing: &Listing, base: u32) -> Result<Layout, Memory>
     requires { Layable base listing.now }
     ensures base { IfOk result (λ l. l.base ≡ base) }
     ensures laid { IfOk result (λ l. AreAddresses listing.now l) }

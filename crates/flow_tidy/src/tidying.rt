@@ -6,17 +6,22 @@ ghost use Rattle.thumb_model.specs.Literals.{HasLiterals};
 ghost use Rattle.thumb_model.specs.Same.{Same};
 ghost use Rattle.code_flow.specs.Marks.{AreMarks};
 ghost use Rattle.label_layout.specs.Addresses.{AreAddresses};
+ghost use Rattle.listing_draft.specs.Drafted.{lines_now};
+ghost use Rattle.flow_tidy.specs.Quick.{left, IsSure};
 ghost use Rattle.flow_tidy.specs.Tidying.{setting, tidying_cost, AreTidiedBy, IsRefusal};
 
 use crate::due::Due;
 use crate::errors::TidyError;
 use crate::found::{Changed, Found};
 use crate::marks::Marks;
+use crate::outcome::Outcome;
+use crate::quick::{first_change as first_gone, is_sure};
 use crate::searching::first_change;
-use crate::settling::settle;
+use crate::settling::{laid_out, settle};
 use crate::tidied::Tidy;
-use code_flow::reached;
+use code_flow::{Reached, reached};
 use label_layout::{Layout, layout};
+use listing_draft::Draft;
 use listing_parser::{Listing, Memory};
 use std::alloc::Global;
 use step_ledger::{Ledger, Steps};
@@ -59,6 +64,55 @@ fn tidied(
     Ok(Tidy { listing, changes })
 }
 
+/// What is left of the lines of a draft, from where a branch may have to go elsewhere.
+fn tidied_on(alloc: Global, draft: Draft, base: u32, reached: &Reached) -> Result<Tidy, Memory>
+    requires layable { Layable base (lines_now draft) }
+    requires all { length reached.now ≡ length draft.gone }
+    requires reached { AreMarks (code_of (lines_now draft)) (left draft.gone reached.now) }
+    ensures { IfOk result (λ new. AreTidiedBy base (lines_now draft) new.listing new.changes) }
+{
+    let marks = Marks::kept(alloc, reached, &draft)?;
+    let listing = draft.into_listing(alloc)?;
+    let laid = laid_out(alloc, &listing, base)?;
+    tidied(alloc, listing, laid, marks)
+}
+
+/// What is left of a listing that surely can be laid out whichever of its instructions go: by places that stay, until a branch may have to go elsewhere.
+fn tidied_by_places(
+    alloc: Global,
+    listing: Listing,
+    base: u32,
+    reached: &Reached,
+) -> Result<Tidy, Memory>
+    requires sure { IsSure base listing }
+    requires reached { AreMarks (code_of listing) reached.now }
+    ensures { IfOk result (λ new. AreTidiedBy base listing new.listing new.changes) }
+{
+    let places = listing.place_count();
+    let mut draft = Draft::new(alloc, listing)?;
+    let mut due = Due::all(alloc, places)?;
+    let mut count = 0;
+    loop {
+        match first_gone(&mut draft, &mut due, reached) {
+            Outcome::Made => count += 1,
+            Outcome::Nothing => {
+                let listing = draft.into_listing(alloc)?;
+                return Ok(Tidy {
+                    listing,
+                    changes: count,
+                });
+            }
+            Outcome::Unsure => {
+                let Tidy { listing, changes } = tidied_on(alloc, draft, base, reached)?;
+                return Ok(Tidy {
+                    listing,
+                    changes: count + changes,
+                });
+            }
+        }
+    }
+}
+
 /// Tidies a listing for an image that begins at the base: at the least place where a change is possible, a branch to the next place goes; else a branch goes
 /// to the end of the chain that it leads to; else an instruction goes that nothing reaches; until none is possible. What is left runs as the given listing does.
 /// One that cannot be laid out from the base is refused at its first such line.
@@ -77,6 +131,10 @@ pub fn tidy<L: Ledger>(
 {
     let laid = layout(alloc, &listing, base)?;
     let reached = reached(alloc, &listing, steps)?;
+    if is_sure(alloc, &listing, base)? {
+        let left = tidied_by_places(alloc, listing, base, &reached)?;
+        return Ok(left);
+    }
     let marks = Marks::of(alloc, &reached, listing.place_count())?;
     let tidy = tidied(alloc, listing, laid, marks)?;
     Ok(tidy)

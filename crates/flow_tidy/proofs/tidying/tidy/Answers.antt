@@ -14,3 +14,8 @@ returns-clause-same g c = λ literals.
 
 pub returns-clause-cost : goal.returns-clause-cost
 returns-clause-cost g c = once_spent c.args.steps.now c.reached.new.steps c.in_ok-tidy.tidy.changes c.args.listing c.reached.ensures.cost
+
+pub returns-then-branch-clause-same : goal.returns-then-branch-clause-same
+returns-then-branch-clause-same g c = λ literals.
+    let done = c.in_ok-left.ensures in
+    (tidied_keep (setting c.args.base) c.args.listing done.changes c.in_ok-left.left.listing done.are).same literals

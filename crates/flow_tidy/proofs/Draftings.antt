@@ -1,0 +1,80 @@
+-- What is known of a draft stays known while its instructions go.
+use Rattle.std.proofs.Common.{◌≡◌, ◌∙◌, ◌<◌, ℕ, zero, suc, Bool, true, false, List, [], ◌∷◌, length, replicate, ap, refl, subst, sym, arith}
+use Rattle.std.specs.Prelude.{slice_set}
+use Rattle.thumb_model.specs.Listing.{code_of, places_of, Line}
+use Rattle.thumb_model.specs.ReplacedLines.{replaced_lines}
+use Rattle.code_flow.specs.Marks.{AreMarks}
+use Rattle.kept_places.specs.Marks.{is_gone, rank}
+use Rattle.listing_parser.specs.Parsing.{own_line}
+use Rattle.listing_draft.specs.Drafted.{lines_now, unchanged, Drafted}
+use Rattle.listing_draft.proofs.Drafts.{set_length}
+use Rattle.flow_tidy.specs.Tidied.{GoesToNext, IsIdle}
+use Rattle.flow_tidy.specs.Due.{AreDue, HasEnd, IsCaused}
+use Rattle.flow_tidy.specs.Quick.{left, GoesSoonest, IsQuick}
+use Rattle.flow_tidy.proofs.Quickly.{code_goes, due_no_more, reached_left, soonest_idle, soonest_next}
+use Rattle.flow_tidy.proofs.Settled.{all_due, MayVanish}
+
+-- what the code tells where an instruction goes at a kept place
+pub record IsLeft (d e : Drafted) (p : ℕ) (dues : List Bool) : Type 0 where
+  pub gone : e.gone ≡ slice_set d.gone p true
+  pub lines : lines_now e ≡ replaced_lines own_line (rank d.gone p) 1 [] (lines_now d)
+  pub many : length dues ≡ length e.gone
+  pub due : AreDue (code_of (lines_now e)) (left e.gone dues)
+
+pub left_same : (d same e : Drafted) (p : ℕ) (dues : List Bool) → same ≡ d → IsLeft same e p dues → IsLeft d e p dues
+left_same d same e p dues f h = subst (λ (x : Drafted). IsLeft x e p dues) f h
+
+pub quick_left : (d e : Drafted) (p : ℕ) (marks dues new : List Bool) → p < length d.gone → is_gone d.gone p ≡ false → MayVanish (code_of (lines_now d)) (rank d.gone p) → IsQuick d marks dues → IsLeft d e p new → IsQuick e marks new
+quick_left d e p marks dues new within kept goes q h = record {
+  many = h.many;
+  all = q.all ∙ sym (set_length d.gone p true) ∙ ap length (sym h.gone);
+  reached =
+      subst (λ (gs : List Bool). AreMarks (code_of (lines_now e)) (left gs marks)) (sym h.gone)
+      (reached_left d.gone p (code_of (lines_now d)) (code_of (lines_now e)) within kept goes (code_goes (lines_now d) (lines_now e) (rank d.gone p) goes h.lines) marks q.all q.reached);
+  due = h.due;
+}
+
+pub next_left : (d e : Drafted) (p : ℕ) (dues : List Bool) → GoesToNext (code_of (lines_now d)) (rank d.gone p) → IsLeft d e p dues → GoesSoonest (lines_now d) (lines_now e) (rank d.gone p)
+next_left d e p dues g h = soonest_next (lines_now d) (lines_now e) (rank d.gone p) g h.lines
+
+pub idle_left : (d e : Drafted) (p : ℕ) (dues : List Bool) → (GoesToNext (code_of (lines_now d)) (rank d.gone p) → ⊥) → (HasEnd (code_of (lines_now d)) (rank d.gone p) → ⊥) → IsIdle (code_of (lines_now d)) (rank d.gone p) → IsLeft d e p dues
+    → GoesSoonest (lines_now d) (lines_now e) (rank d.gone p)
+idle_left d e p dues next end i h = soonest_idle (lines_now d) (lines_now e) (rank d.gone p) next end i h.lines
+
+pub same_quick : (d same : Drafted) (marks dues : List Bool) → same ≡ d → IsQuick d marks dues → IsQuick same marks dues
+same_quick d same marks dues f q = subst (λ (x : Drafted). IsQuick x marks dues) (sym f) q
+
+pub taken_quick : (d : Drafted) (p : ℕ) (marks dues new : List Bool) → is_gone d.gone p ≡ false → (IsCaused (code_of (lines_now d)) (rank d.gone p) → ⊥) → new ≡ slice_set dues p false → IsQuick d marks dues → IsQuick d marks new
+taken_quick d p marks dues new kept never e q = record {
+  many = ap length e ∙ set_length dues p false ∙ q.many;
+  all = q.all;
+  reached = q.reached;
+  due = subst (λ (ms : List Bool). AreDue (code_of (lines_now d)) (left d.gone ms)) (sym e) (due_no_more d.gone dues p (code_of (lines_now d)) kept q.due never);
+}
+
+-- ---- a draft of which nothing is changed ----
+
+left_none : (n : ℕ) (xs : List Bool) → length xs ≡ n → left (replicate n false) xs ≡ xs
+left_none zero xs e = refl
+left_none (suc n) [] e = refl
+left_none (suc n) (x ∷ xs) e = ap (λ (ys : List Bool). x ∷ ys) (left_none n xs (omega arith))
+
+length_of : (n : ℕ) (b : Bool) → length (replicate n b) ≡ n
+length_of zero b = refl
+length_of (suc n) b = ap suc (length_of n b)
+
+pub quick_first : (ls : List Line) (d : Drafted) (marks dues : List Bool) (n : ℕ) → d ≡ unchanged ls → lines_now d ≡ ls → AreMarks (code_of ls) marks → n ≡ length (places_of ls) → dues ≡ replicate n true → IsQuick d marks dues
+quick_first ls d marks dues n is lines a e f =
+    let m : ℕ = length (places_of ls) in
+    let gone : d.gone ≡ replicate m false = ap (λ (x : Drafted). x.gone) is in
+    let many : length d.gone ≡ m = ap length gone ∙ length_of m false in
+    let all : length marks ≡ m = a.len in
+    let due_many : length dues ≡ m = ap length f ∙ length_of n true ∙ e in
+    let marks_so : left d.gone marks ≡ marks = ap (λ (gs : List Bool). left gs marks) gone ∙ left_none m marks all in
+    let dues_so : left d.gone dues ≡ replicate n true = ap (λ (gs : List Bool). left gs dues) gone ∙ left_none m dues due_many ∙ f in
+    record {
+      many = due_many ∙ sym many;
+      all = all ∙ sym many;
+      reached = subst (λ (l : List Line). AreMarks (code_of l) (left d.gone marks)) (sym lines) (subst (AreMarks (code_of ls)) (sym marks_so) a);
+      due = subst (λ (l : List Line). AreDue (code_of l) (left d.gone dues)) (sym lines) (subst (AreDue (code_of ls)) (sym dues_so) (all_due (code_of ls) n e));
+    }

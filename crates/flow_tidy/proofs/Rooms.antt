@@ -1,0 +1,101 @@
+-- Lines that have room stay few and short when an instruction goes.
+use Rattle.std.proofs.Common.{◌≡◌, ℕ, zero, suc, ◌+◌, ◌-◌, ◌≤◌, ◌==◌, ◌&&◌, Bool, true, false, List, [], ◌∷◌, ◌++◌, length, map, take, Some, refl, sym, ap, subst, inl, inr, arith, if◌then◌else◌}
+use Rattle.std.specs.Prelude.{slice_get}
+use Rattle.std.proofs.lemmas.Bool.{cases_Bool}
+use Rattle.std.proofs.lemmas.Option.{same_Some}
+use Rattle.thumb_instr.specs.declared.instr.Instr.{Instr}
+use Rattle.thumb_model.specs.Listing.{Name, Line, places_in}
+use Rattle.thumb_model.specs.ReplacedLines.{is_op, labels_kept, replaced_lines, without}
+use Rattle.listing_parser.specs.declared.line.Line.{Line as Lines}
+use Rattle.listing_parser.specs.Grammar.{front_of}
+use Rattle.listing_parser.specs.Views.{line_view, names_view}
+use Rattle.flow_tidy.specs.Tidied.{line_length}
+use Rattle.flow_tidy.specs.Made.{AreShort}
+use Rattle.flow_tidy.specs.Quick.{counts_for, room_taken, some_name, AllShort, HaveRoom}
+
+pub get_short : (longest : ℕ) (ls : List Line) (k : ℕ) (l : Line) → AllShort longest ls → slice_get ls k ≡ Some l → line_length l.text ≤ longest
+get_short longest [] k l h e = absurd (cc)
+get_short longest (m ∷ ls) zero l h e = subst (λ (x : Line). line_length x.text ≤ longest) (same_Some m l e) h.0
+get_short longest (m ∷ ls) (suc k) l h e = get_short longest ls k l h.2 e
+
+counts_one : (l : Line) → 1 ≤ counts_for l
+counts_one l = elim (is_op l.statement && some_name l.names) as (λ b. 1 ≤ (if b then 2 else 1)) [ true ↦ omega arith | false ↦ omega arith ]
+
+pub counts_few : (l : Line) → counts_for l ≤ 2
+counts_few l = elim (is_op l.statement && some_name l.names) as (λ b. (if b then 2 else 1) ≤ 2) [ true ↦ omega arith | false ↦ omega arith ]
+
+pub lines_few : (ls : List Line) → length ls ≤ room_taken ls
+lines_few [] = omega arith
+lines_few (l ∷ ls) = let r = lines_few ls in let o = counts_one l in omega arith
+
+-- ---- an instruction that goes ----
+
+left_out : (ls : List Line) → without 0 ls ≡ ls
+left_out [] = refl
+left_out (l ∷ ls) = refl
+
+kept_room : (l : Line) (ns : List Name) (rest : List Line) → room_taken (labels_kept l ns ++ rest) ≤ (if some_name ns then 2 else 1) + room_taken rest
+kept_room l [] rest = omega arith
+kept_room l (n ∷ ns) rest = omega arith
+
+kept_short : (longest : ℕ) (l : Line) (ns : List Name) (rest : List Line) → line_length l.front ≤ longest → AllShort longest rest → AllShort longest (labels_kept l ns ++ rest)
+kept_short longest l [] rest f h = h
+kept_short longest l (n ∷ ns) rest f h = (f, f, h)
+
+abbrev one_or_two : Bool → ℕ
+one_or_two b = if b then 2 else 1
+
+only_op : (a b c : Bool) → (a && b) ≡ true → one_or_two (a && c) ≡ one_or_two c
+only_op true b c e = refl
+only_op false b c e = absurd (cc)
+
+room_left : (write : Instr → List ℕ) (p : ℕ) (ls : List Line) → room_taken (replaced_lines write p 1 [] ls) ≤ room_taken ls
+room_left write p [] = omega arith
+room_left write p (l ∷ ls) = elim (cases_Bool (is_op l.statement && (p == 0))) [
+  | inl h ↦ rw h (
+      let k = kept_room l l.names (without (1 - 1) ls) in
+      let r : room_taken (without (1 - 1) ls) ≡ room_taken ls = ap room_taken (left_out ls) in
+      let o = only_op (is_op l.statement) (p == 0) (some_name l.names) h in
+      omega arith)
+  | inr h ↦ rw h (let r = room_left write (p - length (places_in l.statement)) ls in omega arith)
+]
+
+short_left : (longest : ℕ) (write : Instr → List ℕ) (p : ℕ) (ls : List Line) → AllShort longest ls → AllShort longest (replaced_lines write p 1 [] ls)
+short_left longest write p [] h = tt
+short_left longest write p (l ∷ ls) h = elim (cases_Bool (is_op l.statement && (p == 0))) [
+  | inl e ↦ rw e (kept_short longest l l.names (without (1 - 1) ls) h.1 (subst (AllShort longest) (sym (left_out ls)) h.2))
+  | inr e ↦ rw e (h.0, h.1, short_left longest write (p - length (places_in l.statement)) ls h.2)
+]
+
+pub have_left : (most longest : ℕ) (write : Instr → List ℕ) (p : ℕ) (ls : List Line) → HaveRoom most longest ls → HaveRoom most longest (replaced_lines write p 1 [] ls)
+have_left most longest write p ls h = record { few = let r = room_left write p ls in let f = h.few in omega arith; short = short_left longest write p ls h.short }
+
+-- ---- lines as they are read ----
+
+front_short : (n : ℕ) (text : List ℕ) → line_length (take n text ++ 10 ∷ []) ≤ line_length text
+front_short zero text = omega arith
+front_short (suc n) [] = omega arith
+front_short (suc n) (b ∷ bs) =
+    let r = front_short n bs in
+    elim (b == 10) as (λ t. (if t then 0 else line_length (take n bs ++ 10 ∷ []) + 1) ≤ (if t then 0 else line_length bs + 1)) [ true ↦ omega arith | false ↦ omega arith ]
+
+labels_short : (longest : ℕ) (ns : List Name) (n : ℕ) (text : List ℕ) → line_length text ≤ longest → line_length (front_of ns n text) ≤ longest
+labels_short longest [] n text h = omega arith
+labels_short longest (name ∷ names) n text h = let r = front_short n text in omega arith
+
+pub short_lines : (longest : ℕ) (ls : List Lines) → AreShort longest (map line_view ls) → AllShort longest (map line_view ls)
+short_lines longest [] h = tt
+short_lines longest (l ∷ ls) h =
+    let here : line_length l.text.items ≤ longest = h 0 (line_view l) refl in
+    (here, labels_short longest (names_view l) l.front l.text.items here, short_lines longest ls (λ k m e. h (suc k) m e))
+
+pub room_more : (ls : List Line) (i : ℕ) (l : Line) → slice_get ls i ≡ Some l → room_taken (take (suc i) ls) ≡ room_taken (take i ls) + counts_for l
+room_more [] i l e = absurd (cc)
+room_more (m ∷ ls) zero l e = let s : counts_for m ≡ counts_for l = ap counts_for (same_Some m l e) in omega arith
+room_more (m ∷ ls) (suc i) l e = let r = room_more ls i l e in omega arith
+
+pub room_all : (ls : List Line) (i : ℕ) → length ls ≤ i → room_taken (take i ls) ≡ room_taken ls
+room_all [] zero h = refl
+room_all [] (suc i) h = refl
+room_all (l ∷ ls) zero h = absurd (omega arith)
+room_all (l ∷ ls) (suc i) h = let r = room_all ls i (omega arith) in omega arith

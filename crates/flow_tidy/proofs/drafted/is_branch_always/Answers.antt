@@ -1,0 +1,22 @@
+use Rattle.std.proofs.Common.{◌≡◌, ◌∙◌, ◌≤◌, ℕ, zero, suc, List, [], ◌∷◌, length, None, refl, sym, ap, arith}
+use Rattle.std.specs.Prelude.{slice_get}
+use Rattle.thumb_model.specs.Listing.{places_of}
+use Rattle.listing_draft.specs.Drafted.{aim_at, stands}
+use Rattle.listing_draft.proofs.Stands.{aimed_to, stands_at}
+use Rattle.flow_tidy.specs.Due.{is_branch_always}
+use Rattle.flow_tidy.proofs.drafted.is_branch_always.Goals as goal
+
+past : {A : Type 0} (xs : List A) (p : ℕ) → length xs ≤ p → slice_get xs p ≡ None
+past [] p h = refl
+past (x ∷ xs) zero h = absurd (omega arith)
+past (x ∷ xs) (suc p) h = past xs p (omega arith)
+
+pub returns-then-place-place_count : goal.returns-then-place-place_count
+returns-then-place-place_count c =
+    let d = c.args.draft.now in
+    let h = c.place_count.ensures.draft in
+    let many = h.marks in
+    let none : stands d c.args.place ≡ None =
+    stands_at d.given d.gone d.aims c.args.place h.ops c.requires.kept
+    ∙ ap (λ o. aimed_to o (aim_at d.aims c.args.place)) (past (places_of d.given) c.args.place (omega (arith, many, c.place_count.ensures.count, c.if-place-place_count.true))) in
+    ap is_branch_always (sym none)

@@ -1,0 +1,143 @@
+//! What stands at the places of a draft. A place that is kept has its rank as its number in the lines now.
+ghost use Rattle.std.specs.Prelude.{◌≡◌, ◌<◌, ◌↔◌, true, false, length, option_and_then, option_map, IfSome, IsTrue};
+ghost use Rattle.kept_places.specs.Marks.{is_gone, rank};
+ghost use Rattle.thumb_model.specs.Listing.{code_of, place_of};
+ghost use Rattle.code_flow.specs.Marks.{AreMarks};
+ghost use Rattle.listing_draft.specs.Drafted.{lines_now, stands};
+ghost use Rattle.flow_tidy.specs.Due.{HasEnd, is_branch_always as branches_always, is_branch_if as branches_if, lets_on as code_lets_on};
+ghost use Rattle.flow_tidy.specs.Tidied.{GoesToNext, IsIdle};
+ghost use Rattle.flow_tidy.specs.Made.{label_of_always, label_of_branch};
+ghost use Rattle.flow_tidy.specs.Quick.{left};
+
+use crate::chains::{is_always, is_branch};
+use code_flow::Reached;
+use listing_draft::Draft;
+use listing_parser::is_call;
+
+/// The kept place that the branch at a kept place goes to.
+pub(crate) fn target(draft: &mut Draft, place: u32) -> Option<u32>
+    requires within { place < length draft.old.gone }
+    requires kept { is_gone draft.old.gone place ≡ false }
+    ensures place { option_map (rank draft.old.gone) result ≡ option_and_then (place_of (code_of (lines_now draft.old))) (label_of_branch (stands draft.old place)) }
+    ensures within { IfSome result (λ q. q < length draft.old.gone) }
+    ensures kept { IfSome result (λ q. is_gone draft.old.gone q ≡ false) }
+    ensures same { draft.new ≡ draft.old }
+{
+    match draft.instr(place) {
+        None => None,
+        Some(instr) => {
+            if is_branch(&instr) {
+                draft.goes_to(place)
+            } else {
+                None
+            }
+        }
+    }
+}
+
+/// The kept place that the branch without a condition at a kept place goes to.
+fn hop(draft: &mut Draft, place: u32) -> Option<u32>
+    requires within { place < length draft.old.gone }
+    requires kept { is_gone draft.old.gone place ≡ false }
+    ensures place { option_map (rank draft.old.gone) result ≡ option_and_then (place_of (code_of (lines_now draft.old))) (label_of_always (stands draft.old place)) }
+    ensures within { IfSome result (λ q. q < length draft.old.gone) }
+    ensures kept { IfSome result (λ q. is_gone draft.old.gone q ≡ false) }
+    ensures same { draft.new ≡ draft.old }
+{
+    match draft.instr(place) {
+        None => None,
+        Some(instr) => {
+            if is_always(&instr) {
+                draft.goes_to(place)
+            } else {
+                None
+            }
+        }
+    }
+}
+
+/// Whether a branch stands at a kept place that goes to a branch without a condition, but for one to itself. Else no chain that begins with it has an end.
+pub(crate) fn leads_on(draft: &mut Draft, place: u32) -> bool
+    requires within { place < length draft.old.gone }
+    requires kept { is_gone draft.old.gone place ≡ false }
+    ensures none { result ≡ false → HasEnd (code_of (lines_now draft.old)) (rank draft.old.gone place) → ⊥ }
+    ensures same { draft.new ≡ draft.old }
+{
+    match target(draft, place) {
+        None => false,
+        Some(to) => match hop(draft, to) {
+            None => false,
+            Some(next) => next != to,
+        },
+    }
+}
+
+/// Whether a branch to the next place stands at a kept one.
+pub(crate) fn goes_to_next(draft: &mut Draft, place: u32) -> bool
+    requires within { place < length draft.old.gone }
+    requires kept { is_gone draft.old.gone place ≡ false }
+    ensures next { IsTrue result ↔ GoesToNext (code_of (lines_now draft.old)) (rank draft.old.gone place) }
+    ensures same { draft.new ≡ draft.old }
+{
+    match target(draft, place) {
+        None => false,
+        Some(to) => {
+            if to <= place {
+                return false;
+            }
+            draft.node(place + 1) == to
+        }
+    }
+}
+
+/// Whether an instruction that nothing reaches stands at a kept place, and no call.
+pub(crate) fn is_idle(draft: &Draft, reached: &Reached, place: u32) -> bool
+    requires within { place < length draft.now.gone }
+    requires kept { is_gone draft.now.gone place ≡ false }
+    requires marks { place < length reached.now }
+    requires reached { AreMarks (code_of (lines_now draft.now)) (left draft.now.gone reached.now) }
+    ensures { IsTrue result ↔ IsIdle (code_of (lines_now draft.now)) (rank draft.now.gone place) }
+{
+    match draft.instr(place) {
+        None => false,
+        Some(instr) => !is_call(&instr) && !reached.at(place),
+    }
+}
+
+/// Whether a branch with a condition stands at a kept place.
+fn is_branch_if(draft: &Draft, place: u32) -> bool
+    requires within { place < length draft.now.gone }
+    requires kept { is_gone draft.now.gone place ≡ false }
+    ensures { result ≡ branches_if (stands draft.now place) }
+{
+    match draft.instr(place) {
+        None => false,
+        Some(instr) => is_branch(&instr) && !is_always(&instr),
+    }
+}
+
+/// Whether a branch without one stands at a kept place, or at the end.
+fn is_branch_always(draft: &Draft, place: u32) -> bool
+    requires kept { is_gone draft.now.gone place ≡ false }
+    ensures { result ≡ branches_always (stands draft.now place) }
+{
+    if place >= draft.place_count() {
+        return false;
+    }
+    match draft.instr(place) {
+        None => false,
+        Some(instr) => is_always(&instr),
+    }
+}
+
+/// Whether chains may go on that ended at a kept place, once the instruction there goes.
+pub(crate) fn lets_on(draft: &mut Draft, place: u32) -> bool
+    requires within { place < length draft.old.gone }
+    requires kept { is_gone draft.old.gone place ≡ false }
+    ensures on { result ≡ code_lets_on (code_of (lines_now draft.old)) (rank draft.old.gone place) }
+    ensures same { draft.new ≡ draft.old }
+{
+    let _places = draft.place_count();
+    let next = draft.node(place + 1);
+    is_branch_if(draft, place) && is_branch_always(draft, next)
+}
