@@ -3,11 +3,14 @@
 must-fail edits, user's and system's together, as a table of docs/MEASURED.md.
 
     bench/gate.py [--each] [NAME..]      --each: every edit's seconds too, the dearest first; NAME..: these crates and those below them alone
+    bench/gate.py --watch                of a run of the gate that has been begun elsewhere on this machine, which is the one that counts
 
 It runs `rt ci` from a folder of links to the toolchain, in which this script stands in the prover's place, runs the prover and notes what the process took with
 those that it started. What the run keeps goes with that folder, so it spares the gate nothing. The first edit of a crate is checked from nothing; where it has
-more, each further one is checked over what those before it left, and so is the crate itself, once, behind the last. The status is that of `rt ci`.
+more, each further one is checked over what those before it left, and so is the crate itself, once, behind the last. The status is that of `rt ci`. Where it only
+watches, it looks every two seconds what each prover of the run has taken, so that of each up to two seconds are missed.
 """
+import contextlib
 import json
 import os
 import shutil
@@ -20,6 +23,12 @@ import time
 LOG, REAL = "GATE_LOG", "GATE_PROVER"
 
 
+def note_of(words, at, seconds):
+    """Returns what is noted of a prover's process: its words, the folder that it works in, and its seconds."""
+    part = "edits" if "/rt-edit-" in at else "tests" if "--test" in words else "proof"
+    return {"crate": words[words.index("--crate-name") + 1], "part": part, "seconds": seconds}
+
+
 def prove():
     """Runs the prover with the words given, and notes its time."""
     child = subprocess.Popen([os.environ[REAL], *sys.argv[1:]])
@@ -28,13 +37,8 @@ def prove():
     _, status, used = os.wait4(child.pid, 0)
     words = sys.argv[1:]
     if "--crate-name" in words:
-        note = {
-            "crate": words[words.index("--crate-name") + 1],
-            "part": "edits" if "/rt-edit-" in os.getcwd() else "tests" if "--test" in words else "proof",
-            "seconds": used.ru_utime + used.ru_stime,
-        }
         with open(os.environ[LOG], "a", encoding="utf-8") as log:
-            log.write(json.dumps(note) + "\n")
+            log.write(json.dumps(note_of(words, os.getcwd(), used.ru_utime + used.ru_stime)) + "\n")
     if os.WIFSIGNALED(status):
         signal.signal(os.WTERMSIG(status), signal.SIG_DFL)
         os.kill(os.getpid(), os.WTERMSIG(status))
@@ -63,19 +67,60 @@ def edits_of(crate):
     return sorted(it for it in os.listdir(folder) if it.endswith(".edit")) if os.path.isdir(folder) else []
 
 
-def main():
-    kit = os.path.dirname(os.path.dirname(os.path.realpath(shutil.which("rt"))))
-    names = [it for it in sys.argv[1:] if it != "--each"]
+def kit():
+    """Returns the toolchain's folder."""
+    return os.path.dirname(os.path.dirname(os.path.realpath(shutil.which("rt"))))
+
+
+def measured(names):
+    """Runs the gate, and returns what was noted and its status."""
     with tempfile.TemporaryDirectory(prefix="gate-") as room:
         # (what a run passed is kept beside the toolchain's folder)
         os.mkdir(f"{room}/kit")
-        rt, log = linked(kit, f"{room}/kit"), f"{room}/log"
-        given = {**os.environ, LOG: log, REAL: f"{kit}/bin/rattle"}
-        begun = time.time()
-        ran = subprocess.run([rt, "ci", *names], env=given)
-        took = time.time() - begun
+        rt, log = linked(kit(), f"{room}/kit"), f"{room}/log"
+        ran = subprocess.run([rt, "ci", *names], env={**os.environ, LOG: log, REAL: f"{kit()}/bin/rattle"})
         with open(log, encoding="utf-8") as it:
-            notes = [json.loads(line) for line in it]
+            return [json.loads(line) for line in it], ran.returncode
+
+
+def processes():
+    """Returns, of each process by its number, the one that began it, its words, and the seconds that it and those that it waited for have taken."""
+    found, tick = {}, os.sysconf("SC_CLK_TCK")
+    for number in filter(str.isdigit, os.listdir("/proc")):
+        with contextlib.suppress(OSError):
+            with open(f"/proc/{number}/cmdline", encoding="utf-8", errors="replace") as it:
+                words = it.read().split("\0")
+            with open(f"/proc/{number}/stat", encoding="utf-8", errors="replace") as it:
+                fields = it.read().rsplit(")", 1)[1].split()
+            found[int(number)] = int(fields[1]), words, sum(map(int, fields[11:15])) / tick
+    return found
+
+
+def is_below(found, number, gates):
+    """Tells whether a process was begun by one of these, or by one that was."""
+    while number in found and number not in gates:
+        number = found[number][0]
+    return number in gates
+
+
+def watched():
+    """Notes what the provers of a gate take that runs elsewhere, until it ends."""
+    notes = {}
+    while True:
+        found = processes()
+        gates = [number for number, (_, words, _) in found.items() if words[2:3] == ["ci"] and os.path.basename(words[1]) == "rt"]
+        if not gates:
+            return [*notes.values()], 0
+        for number, (_, words, seconds) in found.items():
+            if "--crate-name" in words and is_below(found, number, gates):
+                with contextlib.suppress(OSError):
+                    at = os.readlink(f"/proc/{number}/cwd")
+                    notes[number, words[words.index("--crate-name") + 1]] = note_of(words, at, seconds)
+        time.sleep(2)
+
+
+def table(notes):
+    """Prints the table, and returns the seconds in all, and those of each edit with its name."""
     parts, rows, each = ("proof", "tests", "edits"), {}, []
     for note in notes:
         row = rows.setdefault(note["crate"], {it: [] for it in parts})
@@ -89,11 +134,19 @@ def main():
         print(f"| `{crate}` | " + " | ".join(f"{it:.0f}" for it in sums) + " |")
         each += [(seconds, f"{crate}/{edit}") for edit, seconds in zip([*edits_of(crate), "the crate itself"], row["edits"])]
     print("| all | " + " | ".join(f"{it:.0f}" for it in total) + " |")
-    with open(f"{kit}/KIT-ID", encoding="utf-8") as it:
-        print(f"\n{total[3] / 60:.0f} processor minutes, {took / 60:.0f} by the clock, {os.cpu_count()} processors, {it.read().strip()}")
-    if "--each" in sys.argv[1:]:
+    return total[3], each
+
+
+def main():
+    words, begun = sys.argv[1:], time.time()
+    notes, status = watched() if "--watch" in words else measured([it for it in words if it != "--each"])
+    took = time.time() - begun
+    total, each = table(notes)
+    with open(f"{kit()}/KIT-ID", encoding="utf-8") as it:
+        print(f"\n{total / 60:.0f} processor minutes, {took / 60:.0f} by the clock, {os.cpu_count()} processors, {it.read().strip()}")
+    if "--each" in words:
         print("".join(f"{seconds:6.1f} {edit}\n" for seconds, edit in sorted(each, reverse=True)), end="")
-    return ran.returncode
+    return status
 
 
 if __name__ == "__main__":

@@ -128,7 +128,7 @@ def cases(inputs):
     yield "trim, 290,000 families", lambda share: ["trim", fewer(share), out]
     yield "generalise, a family more than 290,000", lambda share: ["generalise", fewer(share), "1", "9", "0", "255", out]
     yield "tidy, lines that gcc wrote", lambda share: ["tidy", lines(share), out]
-    yield "tidy, 8,000 and 4,000 branches to the next place", lambda share: ["tidy", inputs.branches(int(8_000 * share)), out]
+    yield "tidy, 87,381 and 43,690 branches to the next place", lambda share: ["tidy", inputs.branches(int(LINES // 3 * share)), out]
 
 
 def measured(words):
