@@ -90,6 +90,10 @@ class Inputs:
         subprocess.run([PEEP, "learn", listing, table, "--left", "2", "--regs", "2", "--budget", "1", "--pool", "255"], check=True, stdout=subprocess.DEVNULL)
         return self.repeated("open", table, room)
 
+    def four(self):
+        """A window of four instructions on two registers, so that all sequences of three are run."""
+        return self.made("four.s", lambda: "\tmovs r0, #0\n\tadds r0, r0, r1\n\teors r1, r0\n\tmuls r1, r0\n\tbx lr\n")
+
     def branches(self, count):
         """Branches to the next place."""
         return self.made(f"branches-{count}.s", lambda: "".join(f"\tb n{n}\nn{n}:\n\tnop\n" for n in range(count)))
@@ -115,8 +119,8 @@ def cases(inputs):
     yield "learn, lines", lambda share: ["learn", lines(share), out, "--budget", "1000"]
     yield "learn, lines, a scratch register", lambda share: ["learn", lines(share), out, "--budget", "1000", "--scratch", "1"]
     yield "learn, lines, by costs", lambda share: ["learn", lines(share), out, "--budget", "1000", "--left", "2", *costs]
-    yield "learn, 4,438,005 and 2,317,525 sequences", lambda share: ["learn", TOP / "examples/firmware.s", out, "--regs", "2", "--left", "4", "--budget", "100", "--pool", few(share)]
-    yield "learn, 4,438,005 and 2,317,525 sequences by costs", lambda share: ["learn", TOP / "examples/firmware.s", out, "--regs", "2", "--left", "3", "--budget", "100", "--pool", few(share), *costs]
+    yield "learn, 4,438,005 and 2,317,525 sequences", lambda share: ["learn", inputs.four(), out, "--regs", "2", "--left", "4", "--budget", "100", "--pool", few(share)]
+    yield "learn, 4,438,005 and 2,317,525 sequences by costs", lambda share: ["learn", inputs.four(), out, "--regs", "2", "--left", "3", "--budget", "100", "--pool", few(share), *costs]
     yield "export of the last of 2,900,000 families", lambda share: ["export", families(share), str(int(FAMILIES * share) + 1), out, other]
     yield "trace, lines, 1,000,000 and 500,000 steps", lambda share: ["trace", inputs.loop(int(LINES * share)), "f", str(int(1_000_000 * share))]
     yield "demo, 20,000 and 10,000 windows", lambda share: ["demo", str(int(20_000 * share))]
