@@ -22,3 +22,7 @@ pub mod Hopping
 pub mod Quickly
 pub mod Handing
 pub mod Draftings
+pub mod Wholes
+pub mod Safes
+pub mod Endings
+pub mod Grounds

@@ -1,10 +1,10 @@
--- Tidying by places that stay: what is known of a draft when an instruction goes, and that what goes is the first change.
+-- Tidying by places that stay: what is known of a draft when an instruction goes, and that a change that is made is the first.
 use Rattle.std.proofs.Common.{◌≡◌, ◌∙◌, inl, inr, ℕ, zero, suc, ◌+◌, ◌<◌, ◌≤◌, Bool, true, false, List, [], ◌∷◌, length, replicate, Some, refl, sym, ap, subst, arith}
 use Rattle.std.specs.Prelude.{slice_get, slice_set}
 use Rattle.std.specs.List.{remove}
 use Rattle.std.proofs.lemmas.Bool.{cases_Bool, cases_eq, cases_lt}
 use Rattle.std.proofs.lemmas.Option.{slice_get_within}
-use Rattle.thumb_model.specs.Listing.{Line, Code, code_of, is_op_place}
+use Rattle.thumb_model.specs.Listing.{Name, Line, Code, code_of, is_op_place, places_of}
 use Rattle.thumb_model.specs.Layout.{Layable}
 use Rattle.thumb_model.specs.Replaced.{replaced}
 use Rattle.thumb_model.specs.ReplacedLines.{replaced_lines}
@@ -12,14 +12,15 @@ use Rattle.code_flow.specs.Marks.{AreMarks}
 use Rattle.kept_places.specs.Marks.{is_gone, rank, IsNode}
 use Rattle.kept_places.proofs.Ranks.{marked_other, marked_set, rank_gone, rank_kept, rank_set_before, ranks_grow}
 use Rattle.listing_parser.specs.Grammar.{longest_line, most_lines}
-use Rattle.listing_parser.specs.Parsing.{own_line}
+use Rattle.listing_parser.specs.Parsing.{line_mentioning, own_line}
+use Rattle.listing_parser.specs.Retargeting.{aimed_lines}
 use Rattle.listing_draft.proofs.Drafts.{node_rank, set_length}
 use Rattle.steady_layout.specs.Steady.{IsSteady}
 use Rattle.steady_layout.proofs.Cuts.{cut_op}
 use Rattle.steady_layout.proofs.Laws.{cut_stays, steady_is_layable}
-use Rattle.flow_tidy.specs.Tidied.{Cause, ToNext, ToEnd, Idle, GoesToNext, IsIdle, HasCause, NonePossible, lines_by, rank as turn}
+use Rattle.flow_tidy.specs.Tidied.{Cause, ToNext, ToEnd, Idle, GoesToNext, GoesToEnd, IsIdle, HasCause, NonePossible, lines_by, rank as turn}
 use Rattle.flow_tidy.specs.Due.{before_is_due, lets_on, AreDue, HasEnd, IsCaused, IsLeast, IsNextAt}
-use Rattle.flow_tidy.specs.Quick.{left, GoesSoonest, HaveRoom, IsSure}
+use Rattle.flow_tidy.specs.Quick.{left, ChangesSoonest, HaveRoom, IsSure}
 use Rattle.flow_tidy.specs.Tidying.{setting}
 use Rattle.flow_tidy.proofs.Lefts.{left_all, left_as_many, left_at, left_free, left_gone, left_set, left_unset}
 use Rattle.flow_tidy.proofs.Lines.{without_one}
@@ -136,11 +137,19 @@ none_left gone due code p e f a h = λ r c.
 
 -- ---- the first change ----
 
-pub soonest_next : (ls new : List Line) (r : ℕ) → GoesToNext (code_of ls) r → new ≡ replaced_lines own_line r 1 [] ls → GoesSoonest ls new r
-soonest_next ls new r g e = record { cause = ToNext; has = g; soonest = λ o h. omega arith; op = ap is_op_place g.stands; cut = e; lines = λ base. e ∙ without_one base r ls }
+pub soonest_next : (ls new : List Line) (r : ℕ) → GoesToNext (code_of ls) r → new ≡ replaced_lines own_line r 1 [] ls → ChangesSoonest ls new r
+soonest_next ls new r g e = record { cause = ToNext; has = g; soonest = λ o h. omega arith; lines = λ base. e ∙ without_one base r ls }
 
-pub soonest_idle : (ls new : List Line) (r : ℕ) → (GoesToNext (code_of ls) r → ⊥) → (HasEnd (code_of ls) r → ⊥) → IsIdle (code_of ls) r → new ≡ replaced_lines own_line r 1 [] ls → GoesSoonest ls new r
-soonest_idle ls new r next end i e = record { cause = Idle; has = i; soonest = later; op = ap is_op_place i.stands; cut = e; lines = λ base. e ∙ without_one base r ls }
+pub soonest_end : (ls new : List Line) (r : ℕ) (label : Name) → (GoesToNext (code_of ls) r → ⊥) → GoesToEnd (code_of ls) r label → new ≡ aimed_lines line_mentioning r label ls → ChangesSoonest ls new r
+soonest_end ls new r label next g e = record { cause = ToEnd label; has = g; soonest = later; lines = λ base. e }
+  where
+    later : (o : Cause) → HasCause (code_of ls) r o → turn (ToEnd label) ≤ turn o
+    later ToNext h = absurd (next h)
+    later (ToEnd other) h = omega arith
+    later Idle h = omega arith
+
+pub soonest_idle : (ls new : List Line) (r : ℕ) → (GoesToNext (code_of ls) r → ⊥) → (HasEnd (code_of ls) r → ⊥) → IsIdle (code_of ls) r → new ≡ replaced_lines own_line r 1 [] ls → ChangesSoonest ls new r
+soonest_idle ls new r next end i e = record { cause = Idle; has = i; soonest = later; lines = λ base. e ∙ without_one base r ls }
   where
     later : (o : Cause) → HasCause (code_of ls) r o → turn Idle ≤ turn o
     later ToNext h = absurd (next h)
@@ -155,21 +164,20 @@ no_cause code r next end idle c = by c.cause c.is
     by (ToEnd label) h = end (record { label = label; goes = h })
     by Idle h = idle h
 
--- lines that surely can be laid out stay so
-pub still_sure : (base : ℕ) (ls new : List Line) (r : ℕ) → GoesSoonest ls new r → IsSure base ls → IsSure base new
-still_sure base ls new r g s = record {
+-- lines that surely can be laid out stay so when an instruction goes
+pub still_sure : (base : ℕ) (ls new : List Line) (r : ℕ) → is_op_place (slice_get (places_of ls) r) ≡ true → new ≡ replaced_lines own_line r 1 [] ls → IsSure base ls → IsSure base new
+still_sure base ls new r op e s = record {
   whole_words = s.whole_words;
-  steady = subst (IsSteady base) (sym g.cut) (cut_stays base ls (replaced_lines own_line r 1 [] ls) (cut_op own_line ls r g.op) s.steady);
-  room = subst (HaveRoom most_lines longest_line) (sym g.cut) (have_left most_lines longest_line own_line r ls s.room);
+  steady = subst (IsSteady base) (sym e) (cut_stays base ls (replaced_lines own_line r 1 [] ls) (cut_op own_line ls r op) s.steady);
+  room = subst (HaveRoom most_lines longest_line) (sym e) (have_left most_lines longest_line own_line r ls s.room);
 }
 
 pub sure_layable : (base : ℕ) (ls : List Line) → IsSure base ls → Layable base ls
 sure_layable base ls s = steady_is_layable base ls s.whole_words s.steady
 
--- so what goes is the first change
-pub goes_first : (base : ℕ) (ls new : List Line) (r : ℕ) → GoesSoonest ls new r → ((k : ℕ) → k < r → IsCaused (code_of ls) k → ⊥) → IsSure base ls → IsNextAt (setting base) r ls new
-goes_first base ls new r g none s =
-    let sure = still_sure base ls new r g s in
+-- a change that leaves sure lines is the first one, where none has its cause before
+pub goes_first : (base : ℕ) (ls new : List Line) (r : ℕ) → ChangesSoonest ls new r → ((k : ℕ) → k < r → IsCaused (code_of ls) k → ⊥) → IsSure base new → IsNextAt (setting base) r ls new
+goes_first base ls new r g none sure =
     let to : new ≡ lines_by (setting base) r g.cause ls = g.lines base in
     let fits : IsSure base (lines_by (setting base) r g.cause ls) = subst (IsSure base) to sure in
     record {

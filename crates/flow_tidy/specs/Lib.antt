@@ -5,4 +5,5 @@ pub mod Worked
 pub mod Tidying
 pub mod Made
 pub mod Due
+pub mod Ground
 pub mod Quick

@@ -1,18 +1,22 @@
--- Tidying by places that stay, as far as instructions go and no chain has an end.
-use Rattle.std.specs.Prelude.{◌≡◌, ℕ, ◌+◌, ◌%◌, ◌<◌, ◌≤◌, ◌&&◌, Bool, true, false, List, [], ◌∷◌, length, slice_get, if◌then◌else◌}
-use Rattle.thumb_model.specs.Listing.{Name, Line, code_of, is_op_place, places_of}
-use Rattle.thumb_model.specs.ReplacedLines.{is_op, replaced_lines}
+-- Tidying by places that stay, as far as each change surely can be made.
+use Rattle.std.specs.Prelude.{◌≡◌, ℕ, ◌+◌, ◌%◌, ◌<◌, ◌≤◌, ◌&&◌, Bool, true, false, List, [], ◌∷◌, length, Some, if◌then◌else◌}
+use Rattle.thumb_instr.specs.declared.instr.Instr.{Instr}
+use Rattle.thumb_model.specs.Listing.{Name, Line, code_of}
+use Rattle.thumb_model.specs.ReplacedLines.{is_op}
 use Rattle.code_flow.specs.Marks.{AreMarks}
 use Rattle.kept_places.specs.Marks.{is_gone, rank}
-use Rattle.listing_draft.specs.Drafted.{Drafted, lines_now}
+use Rattle.listing_draft.specs.Drafted.{Drafted, instr_in, lines_now, name_in, now_of, stands}
+use Rattle.listing_draft.specs.Held.{IsDraft}
 use Rattle.listing_parser.specs.Grammar.{longest_line, most_lines}
-use Rattle.listing_parser.specs.Parsing.{own_line}
+use Rattle.listing_parser.specs.Parsing.{line_mentioning}
 use Rattle.steady_layout.specs.Steady.{IsSteady}
+use Rattle.flow_tidy.specs.declared.ground.Ground.{Ground}
 use Rattle.flow_tidy.specs.declared.outcome.Outcome.{Outcome}
 use Rattle.flow_tidy.specs.declared.outcome.Outcome.TheVariants as outcome
-use Rattle.flow_tidy.specs.Tidied.{line_length, lines_by, rank as turn, Cause, HasCause}
+use Rattle.flow_tidy.specs.Tidied.{line_length, lines_by, rank as turn, Cause, GoesToEnd, HasCause}
 use Rattle.flow_tidy.specs.Tidying.{setting}
 use Rattle.flow_tidy.specs.Due.{AreDue, IsCaused}
+use Rattle.flow_tidy.specs.Ground.{IsGround, IsSteadyTo}
 
 -- of marks of all places, those of the places that are kept
 abbrev pub left : List Bool → List Bool → List Bool
@@ -60,23 +64,49 @@ pub record IsQuick (d : Drafted) (marks dues : List Bool) : Type 0 where
   pub reached : AreMarks (code_of (lines_now d)) (left d.gone marks)
   pub due : AreDue (code_of (lines_now d)) (left d.gone dues)
 
--- the instruction at a place of lines goes, for the cause that is tried soonest there
-pub record GoesSoonest (ls new : List Line) (r : ℕ) : Type 0 where
+-- the lines with none of the instructions gone
+abbrev pub whole : Drafted → List Line
+whole d = now_of [] d.aims d.given
+
+-- what stays while changes are made: the lines now are sure, those with none of the instructions gone are steady, and the ground is that of the given lines
+pub record IsSafe (g : Ground) (d : Drafted) : Type 0 where
+  pub draft : IsDraft d
+  pub ground : IsGround d.given g
+  pub sure : IsSure g.base (lines_now d)
+  pub steady : IsSteady g.base (whole d)
+
+-- the chain of the branch at a kept place has an end: the label that is mentioned at this other one
+pub record EndsAt (d : Drafted) (p last : ℕ) : Type 0 where
+  pub label : Name
+  pub goes : GoesToEnd (code_of (lines_now d)) (rank d.gone p) label
+  pub named : name_in (stands d last) ≡ Some label
+  pub within : last < length d.gone
+  pub kept : is_gone d.gone last ≡ false
+
+-- the branch at a kept place surely may go to a label, whichever instructions go: it stays within reach, and the branch's own line is short
+pub record MayAim (base : ℕ) (d : Drafted) (p : ℕ) (name : Name) : Type 0 where
+  pub i : Instr
+  pub is : instr_in (stands d p) ≡ Some i
+  pub reach : IsSteadyTo base d.given p i name
+  pub short : line_length (line_mentioning i (Some (record { name = name; plus = 0 }))) ≤ longest_line
+
+-- ---- changes ----
+
+-- a change is made at a place of lines, for the cause that is tried soonest there
+pub record ChangesSoonest (ls new : List Line) (r : ℕ) : Type 0 where
   pub cause : Cause
   pub has : HasCause (code_of ls) r cause
   pub soonest : (o : Cause) → HasCause (code_of ls) r o → turn cause ≤ turn o
-  pub op : is_op_place (slice_get (places_of ls) r) ≡ true
-  pub cut : new ≡ replaced_lines own_line r 1 [] ls
   pub lines : (base : ℕ) → new ≡ lines_by (setting base) r cause ls
 
 -- what became of a draft at a place, if that is kept
 abbrev pub IsOutcomeAt : Outcome → Drafted → ℕ → Drafted → Type 0
 IsOutcomeAt outcome.Nothing d p new = (new ≡ d) × (is_gone d.gone p ≡ false → IsCaused (code_of (lines_now d)) (rank d.gone p) → ⊥)
-IsOutcomeAt outcome.Made d p new = GoesSoonest (lines_now d) (lines_now new) (rank d.gone p)
+IsOutcomeAt outcome.Made d p new = ChangesSoonest (lines_now d) (lines_now new) (rank d.gone p)
 IsOutcomeAt outcome.Unsure d p new = new ≡ d
 
 -- and of its lines at the first place at which a change has its cause
 abbrev pub IsOutcome : Outcome → List Line → List Line → Type 0
 IsOutcome outcome.Nothing ls new = (new ≡ ls) × ((r : ℕ) → IsCaused (code_of ls) r → ⊥)
-IsOutcome outcome.Made ls new = (r : ℕ) × GoesSoonest ls new r × ((k : ℕ) → k < r → IsCaused (code_of ls) k → ⊥)
+IsOutcome outcome.Made ls new = (r : ℕ) × ChangesSoonest ls new r × ((k : ℕ) → k < r → IsCaused (code_of ls) k → ⊥)
 IsOutcome outcome.Unsure ls new = new ≡ ls

@@ -1,5 +1,5 @@
 //! What stands at the places of a draft. A place that is kept has its rank as its number in the lines now.
-ghost use Rattle.std.specs.Prelude.{◌≡◌, ◌<◌, ◌↔◌, true, false, length, option_and_then, option_map, IfSome, IsTrue};
+ghost use Rattle.std.specs.Prelude.{◌≡◌, ◌<◌, ◌↔◌, true, false, length, option_and_then, option_map, IfNone, IfSome, IsTrue};
 ghost use Rattle.kept_places.specs.Marks.{is_gone, rank};
 ghost use Rattle.thumb_model.specs.Listing.{code_of, place_of};
 ghost use Rattle.code_flow.specs.Marks.{AreMarks};
@@ -7,7 +7,7 @@ ghost use Rattle.listing_draft.specs.Drafted.{lines_now, stands};
 ghost use Rattle.flow_tidy.specs.Due.{HasEnd, is_branch_always as branches_always, is_branch_if as branches_if, lets_on as code_lets_on};
 ghost use Rattle.flow_tidy.specs.Tidied.{GoesToNext, IsIdle};
 ghost use Rattle.flow_tidy.specs.Made.{label_of_always, label_of_branch};
-ghost use Rattle.flow_tidy.specs.Quick.{left};
+ghost use Rattle.flow_tidy.specs.Quick.{left, EndsAt};
 
 use crate::chains::{is_always, is_branch};
 use code_flow::Reached;
@@ -56,20 +56,31 @@ fn hop(draft: &mut Draft, place: u32) -> Option<u32>
     }
 }
 
-/// Whether a branch stands at a kept place that goes to a branch without a condition, but for one to itself. Else no chain that begins with it has an end.
-pub(crate) fn leads_on(draft: &mut Draft, place: u32) -> bool
+/// The kept place of the last branch of the chain that the branch at a kept place begins, if the chain has an end: that branch goes to the end. A chain that goes on
+/// for as many hops as there are places never ends, and nor does one that comes to a branch to itself.
+pub(crate) fn chain_end(draft: &mut Draft, place: u32) -> Option<u32>
     requires within { place < length draft.old.gone }
     requires kept { is_gone draft.old.gone place ≡ false }
-    ensures none { result ≡ false → HasEnd (code_of (lines_now draft.old)) (rank draft.old.gone place) → ⊥ }
+    ensures end { IfSome result (λ last. EndsAt draft.old place last) }
+    ensures none { IfNone result (HasEnd (code_of (lines_now draft.old)) (rank draft.old.gone place) → ⊥) }
     ensures same { draft.new ≡ draft.old }
 {
-    match target(draft, place) {
-        None => false,
-        Some(to) => match hop(draft, to) {
-            None => false,
-            Some(next) => next != to,
-        },
+    let first = target(draft, place)?;
+    let mut next = hop(draft, first)?;
+    let mut last = first;
+    for _hops in 0..draft.place_count() {
+        if next == last {
+            return None;
+        }
+        match hop(draft, next) {
+            None => return Some(last),
+            Some(further) => {
+                last = next;
+                next = further;
+            }
+        }
     }
+    None
 }
 
 /// Whether a branch to the next place stands at a kept one.

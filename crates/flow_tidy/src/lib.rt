@@ -7,6 +7,7 @@ mod drafted;
 mod due;
 mod errors;
 mod found;
+mod ground;
 pub mod laws;
 mod limits;
 mod marks;

@@ -5,8 +5,8 @@
 pub(crate) enum Outcome {
     /// No change has its cause there.
     Nothing,
-    /// An instruction went.
+    /// A change was made.
     Made,
-    /// A branch may have to go elsewhere.
+    /// A branch may have to go elsewhere, and whether it can is not sure.
     Unsure,
 }

@@ -1,20 +1,20 @@
-//! Tidying by places that stay, as far as instructions go and no branch may have to go elsewhere. A listing is made of what is left only in the end, where
-//! making one for each change takes as long as there are lines.
-ghost use Rattle.std.specs.Prelude.{◌≡◌, ◌⊎◌, ◌<◌, [], true, false, IfOk, length, slice_set};
-ghost use Rattle.thumb_model.specs.Layout.{Layable};
+//! Tidying by places that stay, as long as each change surely can be made: an instruction goes, or a branch goes elsewhere that surely reaches where. A listing is
+//! made of what is left only in the end, where making one for each change takes as long as there are lines.
+ghost use Rattle.std.specs.Prelude.{◌≡◌, ◌⊎◌, ◌<◌, [], true, false, IfOk, IfSome, OnOk, List, Bool, Some, length, slice_set};
 ghost use Rattle.thumb_model.specs.Listing.{code_of};
 ghost use Rattle.thumb_model.specs.ReplacedLines.{replaced_lines};
 ghost use Rattle.listing_parser.specs.Parsing.{own_line};
-ghost use Rattle.code_flow.specs.Marks.{AreMarks};
 ghost use Rattle.kept_places.specs.Marks.{is_gone, rank};
-ghost use Rattle.listing_draft.specs.Drafted.{lines_now};
+ghost use Rattle.listing_draft.specs.Drafted.{lines_now, name_in, stands};
 ghost use Rattle.flow_tidy.specs.Tidied.{GoesToNext, IsIdle};
 ghost use Rattle.flow_tidy.specs.Due.{AreDue};
-ghost use Rattle.flow_tidy.specs.Quick.{left, IsOutcome, IsOutcomeAt, IsQuick, IsSure};
+ghost use Rattle.flow_tidy.specs.Ground.{IsGround};
+ghost use Rattle.flow_tidy.specs.Quick.{left, EndsAt, IsOutcome, IsOutcomeAt, IsQuick, IsSafe, IsSure, MayAim};
 
-use crate::drafted::{goes_to_next, is_idle, leads_on, lets_on};
+use crate::drafted::{chain_end, goes_to_next, is_idle, lets_on};
 use crate::due::Due;
-use crate::limits::leave_room;
+use crate::ground::{Ground, reaches};
+use crate::limits::{is_short_branch, leave_room};
 use crate::outcome::Outcome;
 use code_flow::Reached;
 use listing_draft::Draft;
@@ -43,6 +43,8 @@ fn remove(draft: &mut Draft, due: &mut Due, place: u32)
     requires many { length due.old ≡ length draft.old.gone }
     requires due { AreDue (code_of (lines_now draft.old)) (left draft.old.gone due.old) }
     requires goes { GoesToNext (code_of (lines_now draft.old)) (rank draft.old.gone place) ⊎ IsIdle (code_of (lines_now draft.old)) (rank draft.old.gone place) }
+    ensures given { draft.new.given ≡ draft.old.given }
+    ensures aims { draft.new.aims ≡ draft.old.aims }
     ensures gone { draft.new.gone ≡ slice_set draft.old.gone place true }
     ensures lines { lines_now draft.new ≡ replaced_lines own_line (rank draft.old.gone place) 1 [] (lines_now draft.old) }
     ensures many { length due.new ≡ length draft.new.gone }
@@ -62,63 +64,146 @@ fn remove(draft: &mut Draft, due: &mut Due, place: u32)
     }
 }
 
-/// Lets the instruction at a kept place go, if a change has its cause there and is sure to be one that it goes by.
-fn change(draft: &mut Draft, due: &mut Due, reached: &Reached, place: u32) -> Outcome
+/// The label that the branch at a kept place has as the end of its chain, where the branch surely may go to it. The other place is that of the chain's last branch.
+fn sure_end(
+    alloc: Global,
+    draft: &Draft,
+    ground: &Ground,
+    place: u32,
+    last: u32,
+) -> Result<Option<Vec<u8>>, Memory>
+    requires within { place < length draft.now.gone }
+    requires kept { is_gone draft.now.gone place ≡ false }
+    requires end { EndsAt draft.now place last }
+    requires safe { IsSafe ground.now draft.now }
+    ensures { IfOk result (λ o. IfSome o (λ name. (name_in (stands draft.now last) ≡ Some name.items) × MayAim ground.now.base draft.now place name.items)) }
+{
+    let Some(instr) = draft.instr(place) else {
+        return Ok(None);
+    };
+    let Some(name) = draft.name(last) else {
+        return Ok(None);
+    };
+    if !reaches(ground, draft.given(), place, &instr, name) {
+        return Ok(None);
+    }
+    if !is_short_branch(alloc, &instr, name)? {
+        return Ok(None);
+    }
+    let label = name.to_vec(alloc)?;
+    Ok(Some(label))
+}
+
+/// Lets the branch at a kept place go to the end of its chain, where it surely may. The other place is that of the chain's last branch.
+fn retarget(
+    alloc: Global,
+    draft: &mut Draft,
+    ground: &Ground,
+    place: u32,
+    last: u32,
+) -> Result<Outcome, Memory>
+    requires within { place < length draft.old.gone }
+    requires kept { is_gone draft.old.gone place ≡ false }
+    requires later { GoesToNext (code_of (lines_now draft.old)) (rank draft.old.gone place) → ⊥ }
+    requires end { EndsAt draft.old place last }
+    requires safe { IsSafe ground.now draft.old }
+    ensures outcome { IfOk result (λ o. IsOutcomeAt o draft.old place draft.new) }
+    ensures quick { OnOk result ((marks dues : List Bool) → IsQuick draft.old marks dues → IsQuick draft.new marks dues) }
+    ensures safe { OnOk result (IsSafe ground.now draft.new) }
+{
+    match sure_end(alloc, draft, ground, place, last)? {
+        None => Ok(Outcome::Unsure),
+        Some(label) => {
+            draft.aim(place, label);
+            Ok(Outcome::Made)
+        }
+    }
+}
+
+/// Makes the change at a kept place that is tried soonest, if it surely can be made.
+fn change(
+    alloc: Global,
+    draft: &mut Draft,
+    due: &mut Due,
+    reached: &Reached,
+    ground: &Ground,
+    place: u32,
+) -> Result<Outcome, Memory>
     requires within { place < length draft.old.gone }
     requires kept { is_gone draft.old.gone place ≡ false }
     requires quick { IsQuick draft.old reached.now due.old }
-    ensures outcome { IsOutcomeAt result draft.old place draft.new }
-    ensures quick { IsQuick draft.new reached.now due.new }
+    requires safe { IsSafe ground.now draft.old }
+    ensures outcome { IfOk result (λ o. IsOutcomeAt o draft.old place draft.new) }
+    ensures quick { OnOk result (IsQuick draft.new reached.now due.new) }
+    ensures safe { OnOk result (IsSafe ground.now draft.new) }
 {
     if goes_to_next(draft, place) {
         remove(draft, due, place);
-        return Outcome::Made;
+        return Ok(Outcome::Made);
     }
-    if leads_on(draft, place) {
-        return Outcome::Unsure;
+    if let Some(last) = chain_end(draft, place) {
+        return retarget(alloc, draft, ground, place, last);
     }
     if is_idle(draft, reached, place) {
         remove(draft, due, place);
-        return Outcome::Made;
+        return Ok(Outcome::Made);
     }
     due.take(place);
-    Outcome::Nothing
+    Ok(Outcome::Nothing)
 }
 
 /// What becomes of a place, where it is kept and due.
-fn change_if_due(draft: &mut Draft, due: &mut Due, reached: &Reached, place: u32) -> Outcome
+fn change_if_due(
+    alloc: Global,
+    draft: &mut Draft,
+    due: &mut Due,
+    reached: &Reached,
+    ground: &Ground,
+    place: u32,
+) -> Result<Outcome, Memory>
     requires within { place < length draft.old.gone }
     requires quick { IsQuick draft.old reached.now due.old }
-    ensures outcome { IsOutcomeAt result draft.old place draft.new }
-    ensures quick { IsQuick draft.new reached.now due.new }
+    requires safe { IsSafe ground.now draft.old }
+    ensures outcome { IfOk result (λ o. IsOutcomeAt o draft.old place draft.new) }
+    ensures quick { OnOk result (IsQuick draft.new reached.now due.new) }
+    ensures safe { OnOk result (IsSafe ground.now draft.new) }
 {
     if draft.is_gone(place) {
-        return Outcome::Nothing;
+        return Ok(Outcome::Nothing);
     }
     if !due.has(place) {
-        return Outcome::Nothing;
+        return Ok(Outcome::Nothing);
     }
-    change(draft, due, reached, place)
+    change(alloc, draft, due, reached, ground, place)
 }
 
 /// What becomes of the first place at which a change has its cause. Places that are gone are leapt over.
-pub(crate) fn first_change(draft: &mut Draft, due: &mut Due, reached: &Reached) -> Outcome
+pub(crate) fn first_change(
+    alloc: Global,
+    draft: &mut Draft,
+    due: &mut Due,
+    reached: &Reached,
+    ground: &Ground,
+) -> Result<Outcome, Memory>
     requires quick { IsQuick draft.old reached.now due.old }
-    ensures outcome { IsOutcome result (lines_now draft.old) (lines_now draft.new) }
-    ensures quick { IsQuick draft.new reached.now due.new }
+    requires safe { IsSafe ground.now draft.old }
+    ensures outcome { IfOk result (λ o. IsOutcome o (lines_now draft.old) (lines_now draft.new)) }
+    ensures quick { OnOk result (IsQuick draft.new reached.now due.new) }
+    ensures safe { OnOk result (IsSafe ground.now draft.new) }
 {
     let places = draft.place_count();
     let from = due.least() as u32;
     let mut place = draft.node(from);
     while place < places {
-        match change_if_due(draft, due, reached, place) {
+        let outcome = change_if_due(alloc, draft, due, reached, ground, place)?;
+        match outcome {
             Outcome::Nothing => {
                 let next = draft.node(place + 1);
                 place = next;
             }
-            Outcome::Made => return Outcome::Made,
-            Outcome::Unsure => return Outcome::Unsure,
+            Outcome::Made => return Ok(Outcome::Made),
+            Outcome::Unsure => return Ok(Outcome::Unsure),
         }
     }
-    Outcome::Nothing
+    Ok(Outcome::Nothing)
 }

@@ -1,18 +1,12 @@
-use Rattle.std.proofs.Common.{◌≡◌, ◌∙◌, ◌+◌, ℕ, length, ap, arith, refl, subst, sym, Bool, List}
+use Rattle.std.proofs.Common.{◌≡◌, ◌∙◌, ◌+◌, ℕ, length, ap, arith, refl, subst, sym}
 use Rattle.thumb_model.specs.Listing.{code_of}
 use Rattle.kept_places.specs.Marks.{rank, IsNode}
 use Rattle.listing_draft.specs.Drafted.{lines_now, Drafted}
 use Rattle.flow_tidy.specs.declared.outcome.Outcome.{Outcome}
 use Rattle.flow_tidy.specs.declared.outcome.Outcome.TheVariants as outcome
-use Rattle.flow_tidy.specs.Quick.{IsOutcome, IsOutcomeAt, IsQuick}
+use Rattle.flow_tidy.specs.Quick.{IsOutcome, IsOutcomeAt, IsQuick, IsSafe}
 use Rattle.flow_tidy.proofs.Quickly.{none_further, none_least, none_left, none_up_to, NoneSooner}
 use Rattle.flow_tidy.proofs.quick.first_change.Goals as goal
-
-pub node-place-requires : goal.node-place-requires
-node-place-requires c =
-    let m = c.requires.quick.many in
-    let e : length c.least-from.new.self ≡ length c.args.due.now = ap (λ (ms : List Bool). length ms) c.least-from.ensures.same in
-    omega (arith, m, c.least-from.ensures.least.within)
 
 pub loop-place-init : goal.loop-place-init
 loop-place-init c =
@@ -23,32 +17,22 @@ loop-place-init c =
     record {
       same = c.node-place.ensures.same;
       quick = subst (λ (x : Drafted). IsQuick x c.args.reached.now c.least-from.new.self) (sym c.node-place.ensures.same) quick;
+      safe = subst (IsSafe c.args.ground.now) (sym c.node-place.ensures.same) c.requires.safe;
       none = subst (λ (x : Drafted). NoneSooner x.gone (code_of (lines_now x)) c.node-place.result) (sym c.node-place.ensures.same) here;
     }
-
-pub node-next-requires : goal.node-next-requires
-node-next-requires c =
-    let d = c.loop-place.draft in
-    let o = subst (λ (x : Outcome). IsOutcomeAt x d c.loop-place.place c.change_if_due.new.draft) c.in-Nothing.is c.change_if_due.ensures.outcome in
-    let e : length c.change_if_due.new.draft.gone ≡ length c.args.draft.now.gone = ap (λ (x : Drafted). length x.gone) (o.0 ∙ c.loop-place.invariant.same) in
-    omega (arith, c.place_count-places.ensures.count, c.loop-place-test.true)
-
-pub loop-place-smaller : goal.loop-place-smaller
-loop-place-smaller c =
-    let on = c.node-next.ensures.node.from in
-    omega (arith, on, c.loop-place-test.true)
 
 pub loop-place-preserved : goal.loop-place-preserved
 loop-place-preserved c =
     let d = c.loop-place.draft in
     let p : ℕ = c.loop-place.place in
-    let o = subst (λ (x : Outcome). IsOutcomeAt x d p c.change_if_due.new.draft) c.in-Nothing.is c.change_if_due.ensures.outcome in
+    let o = subst (λ (x : Outcome). IsOutcomeAt x d p c.change_if_due.new.draft) c.in-Nothing.is c.in_ok-outcome.ensures.outcome in
     let same : c.node-next.new.self ≡ d = c.node-next.ensures.same ∙ o.0 in
     let node : IsNode d.gone (p + 1) c.node-next.result = subst (λ (x : Drafted). IsNode x.gone (p + 1) c.node-next.result) o.0 c.node-next.ensures.node in
     let none = none_up_to d.gone (code_of (lines_now d)) (p + 1) c.node-next.result node (none_further d.gone (code_of (lines_now d)) p c.loop-place.invariant.none o.1) in
     record {
       same = same ∙ c.loop-place.invariant.same;
-      quick = subst (λ (x : Drafted). IsQuick x c.args.reached.now c.change_if_due.new.due) (sym c.node-next.ensures.same) c.change_if_due.ensures.quick;
+      quick = subst (λ (x : Drafted). IsQuick x c.args.reached.now c.change_if_due.new.due) (sym c.node-next.ensures.same) c.in_ok-outcome.ensures.quick;
+      safe = subst (IsSafe c.args.ground.now) (sym c.node-next.ensures.same) c.in_ok-outcome.ensures.safe;
       none = subst (λ (x : Drafted). NoneSooner x.gone (code_of (lines_now x)) c.node-next.result) (sym same) none;
     }
 
@@ -63,19 +47,5 @@ pub returns-in-Made-clause-outcome : goal.returns-in-Made-clause-outcome
 returns-in-Made-clause-outcome c =
     let d = c.loop-place.draft in
     let i = c.loop-place.invariant in
-    let o = subst (λ (x : Outcome). IsOutcomeAt x d c.loop-place.place c.change_if_due.new.draft) c.in-Made.is c.change_if_due.ensures.outcome in
+    let o = subst (λ (x : Outcome). IsOutcomeAt x d c.loop-place.place c.change_if_due.new.draft) c.in-Made.is c.in_ok-outcome.ensures.outcome in
     subst (λ (x : Drafted). IsOutcome outcome.Made (lines_now x) (lines_now c.change_if_due.new.draft)) i.same (rank d.gone c.loop-place.place, o, i.none)
-
-pub returns-in-Unsure-clause-outcome : goal.returns-in-Unsure-clause-outcome
-returns-in-Unsure-clause-outcome c =
-    let d = c.loop-place.draft in
-    let o = subst (λ (x : Outcome). IsOutcomeAt x d c.loop-place.place c.change_if_due.new.draft) c.in-Unsure.is c.change_if_due.ensures.outcome in
-    ap lines_now (o ∙ c.loop-place.invariant.same)
-
-pub change_if_due-requires-clause-within : goal.change_if_due-requires-clause-within
-change_if_due-requires-clause-within c =
-    let e : length c.loop-place.draft.gone ≡ length c.args.draft.now.gone = ap (λ (x : Drafted). length x.gone) c.loop-place.invariant.same in
-    omega (arith, c.place_count-places.ensures.count, c.loop-place-test.true)
-
-pub change_if_due-requires-clause-quick : goal.change_if_due-requires-clause-quick
-change_if_due-requires-clause-quick c = c.loop-place.invariant.quick

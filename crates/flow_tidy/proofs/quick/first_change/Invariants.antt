@@ -1,7 +1,7 @@
 use Rattle.std.proofs.Common.{◌≡◌, ◌-◌}
 use Rattle.thumb_model.specs.Listing.{code_of}
 use Rattle.listing_draft.specs.Drafted.{lines_now}
-use Rattle.flow_tidy.specs.Quick.{IsQuick}
+use Rattle.flow_tidy.specs.Quick.{IsQuick, IsSafe}
 use Rattle.flow_tidy.proofs.Quickly.{NoneSooner}
 use Rattle.flow_tidy.proofs.quick.first_change.Given as goal
 
@@ -9,6 +9,7 @@ abbrev pub invariant-loop-place : goal.invariant-loop-place
 invariant-loop-place l = record {
   same : l.draft ≡ l.fn.draft;
   quick : IsQuick l.draft l.reached l.due;
+  safe : IsSafe l.ground l.draft;
   none : NoneSooner l.draft.gone (code_of (lines_now l.draft)) l.place;
 }
 

@@ -18,4 +18,4 @@ returns-clause-cost g c = once_spent c.args.steps.now c.reached.new.steps c.in_o
 pub returns-then-branch-clause-same : goal.returns-then-branch-clause-same
 returns-then-branch-clause-same g c = λ literals.
     let done = c.in_ok-left.ensures in
-    (tidied_keep (setting c.args.base) c.args.listing done.changes c.in_ok-left.left.listing done.are).same literals
+    (tidied_keep (setting c.in_ok-ground.ground.base) c.args.listing done.changes c.in_ok-left.left.listing done.are).same literals

@@ -1,0 +1,97 @@
+//! Where the lines and places of a listing begin in its widest layout: what tells that a branch surely reaches a label, whichever instructions go.
+ghost use Rattle.std.specs.Prelude.{◌≡◌, ◌++◌, ◌<◌, ◌≤◌, ◌^◌, Some, true, length, map, replicate, IfOk, OnOk};
+ghost use Rattle.thumb_model.specs.Listing.{places_of};
+ghost use Rattle.listing_parser.specs.Views.{line_view};
+ghost use Rattle.steady_layout.specs.Steady.{reaches as is_reached};
+ghost use Rattle.flow_tidy.specs.Ground.{places_begin, IsGround, IsSteadyTo};
+ghost use Rattle.flow_tidy.specs.Quick.{IsSure};
+
+use listing_parser::{Line, Listing, Memory};
+use std::alloc::{AllocError, Global};
+use steady_layout::{Start, lay_widest};
+use thumb_instr::Instr;
+
+/// Where the lines and places of a listing begin in its widest layout.
+#[derive(Drop)]
+pub(crate) struct Ground {
+    /// Where the listing begins.
+    pub(crate) base: u32,
+    /// Where each line begins.
+    pub(crate) lines: Vec<Start>,
+    /// For each place, where its line begins.
+    pub(crate) places: Vec<Start>,
+}
+
+/// Adds the start of so many places.
+fn put_starts(starts: &mut Vec<Start>, start: Start, count: usize) -> Result<(), AllocError>
+    ensures { OnOk result (starts.new.items ≡ starts.old.items ++ replicate count start) }
+{
+    for _place in 0..count {
+        starts.push(start)?;
+    }
+    Ok(())
+}
+
+/// For each place, where its line begins.
+fn place_starts(alloc: Global, lines: &[Line], starts: &[Start]) -> Result<Vec<Start>, AllocError>
+    requires { length starts.now ≡ length lines.now }
+    ensures { IfOk result (λ out. out.items ≡ places_begin starts.now (map line_view lines.now)) }
+{
+    let mut places = Vec::new(alloc);
+    for (n, line) in lines.iter().enumerate() {
+        put_starts(&mut places, starts[n], line.statement.places())?;
+    }
+    Ok(places)
+}
+
+/// Whether a branch that goes from -2 `half` to below 2 `half` bytes from its address and 4 reaches an address.
+fn is_within(half: u32, from: u32, to: u32) -> bool
+    requires { half ≤ 2 ^ 23 }
+    ensures { result ≡ is_reached half from (Some to) }
+{
+    let base = from as u64 + 4;
+    (to as u64) < base + 2 * half as u64 && base <= to as u64 + 2 * half as u64
+}
+
+/// The ground of a listing that surely can be laid out.
+pub(crate) fn ground_of(alloc: Global, listing: &Listing, base: u32) -> Result<Ground, Memory>
+    requires { IsSure base listing.now }
+    ensures base { IfOk result (λ g. g.base ≡ base) }
+    ensures ground { IfOk result (λ g. IsGround listing.now g) }
+{
+    match lay_widest(alloc, listing.lines(), base)? {
+        None => unreachable!(),
+        Some(lines) => {
+            let places = place_starts(alloc, listing.lines(), &lines)?;
+            Ok(Ground {
+                base,
+                lines,
+                places,
+            })
+        }
+    }
+}
+
+/// Whether a branch at a place surely reaches the label of a name, whichever instructions go. The ground is the listing's.
+pub(crate) fn reaches(
+    ground: &Ground,
+    listing: &Listing,
+    place: u32,
+    instr: &Instr,
+    name: &[u8],
+) -> bool
+    requires ground { IsGround listing.now ground.now }
+    requires within { place < length (places_of listing.now) }
+    ensures { result ≡ true → IsSteadyTo ground.now.base listing.now place instr.now name.now }
+{
+    let Some(line) = listing.label_line(name) else {
+        return false;
+    };
+    let from = ground.places[place as usize];
+    let to = ground.lines[line];
+    match instr {
+        Instr::BranchIf { .. } => is_within(128, from.at, to.at),
+        Instr::Branch { .. } => is_within(1024, from.at, to.at),
+        _ => false,
+    }
+}
