@@ -1,13 +1,10 @@
 -- Where the places of a listing begin, and what a branch surely reaches from there.
-use Rattle.std.proofs.Common.{◌≡◌, ◌∙◌, ℕ, zero, suc, ◌+◌, ◌<◌, ◌≤◌, true, List, [], ◌∷◌, ◌++◌, length, length-append, map, drop, get_or, drop-cons, add-one, replicate, Option, Some, refl, sym, ap, arith}
+use Rattle.std.proofs.Common.{◌≡◌, ◌∙◌, ℕ, zero, suc, ◌<◌, true, List, [], ◌∷◌, length, length-append, get_or, replicate, Option, Some, refl, sym, ap, arith}
 use Rattle.std.proofs.lemmas.Option.{slice_get_read}
 use Rattle.thumb_instr.specs.declared.instr.Instr.{Instr}
 use Rattle.thumb_model.specs.Listing.{Name, Line, places_in, places_of}
-use Rattle.listing_parser.specs.declared.line.Line.{Line as Lines}
 use Rattle.listing_parser.specs.TableWords.{label_line}
-use Rattle.listing_parser.specs.Views.{line_view, statement_view}
 use Rattle.listing_parser.proofs.LabelLemmas.{label_within}
-use Rattle.label_layout.proofs.Sums.{next_line}
 use Rattle.steady_layout.specs.declared.starts.Start.{Start}
 use Rattle.steady_layout.specs.Starts.{starts_from}
 use Rattle.steady_layout.specs.Steady.{behind, first, labels_in, sets_in, steady_aim}
@@ -30,19 +27,6 @@ as_many_places here (l ∷ ls) =
     let b = length-append (places_in l.statement) (places_of ls) in
     let c = repeated n here in
     omega arith
-
-pub begin_next : (ss : List Start) (ls : List Lines) (n : ℕ) (other : Start) (l : Lines) → n < length ss → n < length ls → l ≡ get_or ls n l
-    → places_begin (drop n ss) (map line_view (drop n ls)) ≡ replicate (length (places_in (statement_view l.statement))) (get_or ss n other) ++ places_begin (drop (n + 1) ss) (map line_view (drop (n + 1) ls))
-begin_next ss ls n other l f g e =
-    let start : drop n ss ≡ get_or ss n other ∷ drop (n + 1) ss = rw add-one (drop-cons ss n other f) in
-    ap (λ (xs : List Line). places_begin (drop n ss) xs) (next_line ls n l g e)
-    ∙ ap (λ (xs : List Start). places_begin xs (line_view l ∷ map line_view (drop (n + 1) ls))) start
-
-pub begin_end : (ss : List Start) (ls : List Line) (n : ℕ) → length ss ≤ n → places_begin (drop n ss) ls ≡ []
-begin_end [] ls zero h = refl
-begin_end [] ls (suc n) h = refl
-begin_end (s ∷ ss) ls zero h = absurd (omega arith)
-begin_end (s ∷ ss) ls (suc n) h = begin_end ss ls n (omega arith)
 
 -- ---- a branch to a label ----
 
