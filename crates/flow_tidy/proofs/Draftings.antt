@@ -9,8 +9,10 @@ use Rattle.listing_parser.specs.Parsing.{line_mentioning, own_line}
 use Rattle.listing_parser.specs.Retargeting.{aimed_lines}
 use Rattle.listing_draft.specs.Drafted.{lines_now, unchanged, Drafted}
 use Rattle.listing_draft.proofs.Drafts.{set_length}
-use Rattle.flow_tidy.specs.Tidied.{GoesToEnd, GoesToNext, IsIdle}
-use Rattle.flow_tidy.specs.Due.{AreDue, HasEnd, IsCaused}
+use Rattle.flow_tidy.specs.Made.{change}
+use Rattle.flow_tidy.specs.Tidied.{ToEnd, GoesToEnd, GoesToNext, IsIdle, IsPossible}
+use Rattle.flow_tidy.specs.Tidying.{setting}
+use Rattle.flow_tidy.specs.Due.{AreDue, IsCaused}
 use Rattle.flow_tidy.specs.Quick.{left, ChangesSoonest, IsQuick}
 use Rattle.flow_tidy.proofs.Aimed.{aimed_code, code_aimed}
 use Rattle.flow_tidy.proofs.Quickly.{code_goes, due_no_more, reached_left, soonest_idle, soonest_next}
@@ -38,12 +40,12 @@ quick_left d e p marks dues new within kept goes q h = record {
   due = h.due;
 }
 
-pub next_left : (d e : Drafted) (p : ℕ) (dues : List Bool) → GoesToNext (code_of (lines_now d)) (rank d.gone p) → IsLeft d e p dues → ChangesSoonest (lines_now d) (lines_now e) (rank d.gone p)
-next_left d e p dues g h = soonest_next (lines_now d) (lines_now e) (rank d.gone p) g h.lines
+pub next_left : (base : ℕ) (d e : Drafted) (p : ℕ) (dues : List Bool) → GoesToNext (code_of (lines_now d)) (rank d.gone p) → IsLeft d e p dues → ChangesSoonest base (lines_now d) (lines_now e) (rank d.gone p)
+next_left base d e p dues g h = soonest_next base (lines_now d) (lines_now e) (rank d.gone p) g h.lines
 
-pub idle_left : (d e : Drafted) (p : ℕ) (dues : List Bool) → (GoesToNext (code_of (lines_now d)) (rank d.gone p) → ⊥) → (HasEnd (code_of (lines_now d)) (rank d.gone p) → ⊥) → IsIdle (code_of (lines_now d)) (rank d.gone p) → IsLeft d e p dues
-    → ChangesSoonest (lines_now d) (lines_now e) (rank d.gone p)
-idle_left d e p dues next end i h = soonest_idle (lines_now d) (lines_now e) (rank d.gone p) next end i h.lines
+pub idle_left : (base : ℕ) (d e : Drafted) (p : ℕ) (dues : List Bool) → (GoesToNext (code_of (lines_now d)) (rank d.gone p) → ⊥) → ((label : Name) → IsPossible (setting base) (change (rank d.gone p) (ToEnd label)) (lines_now d) → ⊥) → IsIdle (code_of (lines_now d)) (rank d.gone p)
+    → IsLeft d e p dues → ChangesSoonest base (lines_now d) (lines_now e) (rank d.gone p)
+idle_left base d e p dues next end i h = soonest_idle base (lines_now d) (lines_now e) (rank d.gone p) next end i h.lines
 
 pub quick_aimed : (d e : Drafted) (p : ℕ) (label : Name) (marks dues : List Bool) → GoesToEnd (code_of (lines_now d)) (rank d.gone p) label → e.gone ≡ d.gone → lines_now e ≡ aimed_lines line_mentioning (rank d.gone p) label (lines_now d)
     → IsQuick d marks dues → IsQuick e marks dues

@@ -26,3 +26,4 @@ pub mod Wholes
 pub mod Safes
 pub mod Endings
 pub mod Grounds
+pub mod Halves

@@ -5,5 +5,6 @@ pub mod Worked
 pub mod Tidying
 pub mod Made
 pub mod Due
+pub mod Halves
 pub mod Ground
 pub mod Quick

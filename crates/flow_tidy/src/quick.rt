@@ -1,26 +1,29 @@
 //! Tidying by places that stay, as long as each change surely can be made: an instruction goes, or a branch goes elsewhere that surely reaches where. A listing is
 //! made of what is left only in the end, where making one for each change takes as long as there are lines.
-ghost use Rattle.std.specs.Prelude.{◌≡◌, ◌⊎◌, ◌<◌, [], true, false, IfOk, IfSome, OnOk, List, Bool, Some, length, slice_set};
-ghost use Rattle.thumb_model.specs.Listing.{code_of};
+ghost use Rattle.std.specs.Prelude.{◌≡◌, ◌⊎◌, ◌<◌, ◌^◌, [], true, false, IfOk, IfSome, OnOk, List, Bool, length, slice_set};
+ghost use Rattle.thumb_model.specs.Listing.{code_of, places_of, Name};
 ghost use Rattle.thumb_model.specs.ReplacedLines.{replaced_lines};
 ghost use Rattle.listing_parser.specs.Parsing.{own_line};
 ghost use Rattle.kept_places.specs.Marks.{is_gone, rank};
 ghost use Rattle.listing_draft.specs.Drafted.{lines_now, name_in, stands};
-ghost use Rattle.flow_tidy.specs.Tidied.{GoesToNext, IsIdle};
-ghost use Rattle.flow_tidy.specs.Due.{AreDue};
-ghost use Rattle.flow_tidy.specs.Ground.{IsGround};
-ghost use Rattle.flow_tidy.specs.Quick.{left, EndsAt, IsOutcome, IsOutcomeAt, IsQuick, IsSafe, IsSure, MayAim};
+ghost use Rattle.flow_tidy.specs.Tidied.{ToEnd, GoesToNext, IsIdle, IsPossible};
+ghost use Rattle.flow_tidy.specs.Tidying.{setting};
+ghost use Rattle.flow_tidy.specs.Due.{AreDue, HasEnd};
+ghost use Rattle.flow_tidy.specs.Halves.{halves};
+ghost use Rattle.flow_tidy.specs.Made.{change};
+ghost use Rattle.flow_tidy.specs.Quick.{left, EndsAt, IsOutcome, IsOutcomeAt, IsQuick, IsRedirected, IsSafe, IsSure, MayAim};
 
 use crate::drafted::{chain_end, goes_to_next, is_idle, lets_on};
 use crate::due::Due;
-use crate::ground::{Ground, reaches};
+use crate::ground::{Ground, is_beyond, reaches};
 use crate::limits::{is_short_branch, leave_room};
-use crate::outcome::Outcome;
+use crate::outcome::{Outcome, Redirected};
 use code_flow::Reached;
 use listing_draft::Draft;
 use listing_parser::{Listing, Memory};
 use std::alloc::Global;
 use steady_layout::is_steady;
+use thumb_instr::Instr;
 
 /// Whether a listing surely can be laid out from the base and stays within the limits, whichever of its instructions go.
 pub(crate) fn is_sure(alloc: Global, listing: &Listing, base: u32) -> Result<bool, Memory>
@@ -94,6 +97,45 @@ fn sure_end(
     Ok(Some(label))
 }
 
+/// How many half-words lie before a place in the lines now, at least.
+fn halves_before(draft: &Draft, ground: &Ground, place: u32) -> u64
+    requires within { place < length draft.now.gone }
+    requires safe { IsSafe ground.now draft.now }
+    ensures halves { result ≡ halves (places_of (lines_now draft.now)) (rank draft.now.gone place) }
+    ensures few { result < 2 ^ 33 }
+{
+    draft.number(place) as u64 + ground.wide[place as usize] as u64
+}
+
+/// Whether the branch at a kept place surely doesn't reach the end of its chain. The other place is that of the chain's last branch.
+fn is_out_of_reach(draft: &Draft, ground: &Ground, place: u32, last: u32) -> bool
+    requires within { place < length draft.now.gone }
+    requires kept { is_gone draft.now.gone place ≡ false }
+    requires end { EndsAt draft.now place last }
+    requires safe { IsSafe ground.now draft.now }
+    ensures { result ≡ true → (label : Name) → IsPossible (setting ground.now.base) (change (rank draft.now.gone place) (ToEnd label)) (lines_now draft.now) → ⊥ }
+{
+    let Some(instr) = draft.instr(place) else {
+        return false;
+    };
+    let Some(name) = draft.name(last) else {
+        return false;
+    };
+    let Some(label) = draft.given().label_place(name) else {
+        return false;
+    };
+    if label >= draft.place_count() {
+        return false;
+    }
+    let from = halves_before(draft, ground, place);
+    let to = halves_before(draft, ground, label);
+    match instr {
+        Instr::BranchIf { .. } => is_beyond(128, from, to),
+        Instr::Branch { .. } => is_beyond(1024, from, to),
+        _ => false,
+    }
+}
+
 /// Lets the branch at a kept place go to the end of its chain, where it surely may. The other place is that of the chain's last branch.
 fn retarget(
     alloc: Global,
@@ -101,27 +143,84 @@ fn retarget(
     ground: &Ground,
     place: u32,
     last: u32,
-) -> Result<Outcome, Memory>
+) -> Result<Redirected, Memory>
     requires within { place < length draft.old.gone }
     requires kept { is_gone draft.old.gone place ≡ false }
     requires later { GoesToNext (code_of (lines_now draft.old)) (rank draft.old.gone place) → ⊥ }
     requires end { EndsAt draft.old place last }
     requires safe { IsSafe ground.now draft.old }
-    ensures outcome { IfOk result (λ o. IsOutcomeAt o draft.old place draft.new) }
+    ensures redirected { IfOk result (λ o. IsRedirected o ground.now.base draft.old place draft.new) }
     ensures quick { OnOk result ((marks dues : List Bool) → IsQuick draft.old marks dues → IsQuick draft.new marks dues) }
     ensures safe { OnOk result (IsSafe ground.now draft.new) }
 {
     match sure_end(alloc, draft, ground, place, last)? {
-        None => Ok(Outcome::Unsure),
         Some(label) => {
             draft.aim(place, label);
-            Ok(Outcome::Made)
+            Ok(Redirected::Made)
+        }
+        None => {
+            if is_out_of_reach(draft, ground, place, last) {
+                Ok(Redirected::Refused)
+            } else {
+                Ok(Redirected::Unsure)
+            }
         }
     }
 }
 
+/// What becomes of the branch at a kept place that doesn't go to the next one.
+fn redirect(
+    alloc: Global,
+    draft: &mut Draft,
+    ground: &Ground,
+    place: u32,
+) -> Result<Redirected, Memory>
+    requires within { place < length draft.old.gone }
+    requires kept { is_gone draft.old.gone place ≡ false }
+    requires later { GoesToNext (code_of (lines_now draft.old)) (rank draft.old.gone place) → ⊥ }
+    requires safe { IsSafe ground.now draft.old }
+    ensures redirected { IfOk result (λ o. IsRedirected o ground.now.base draft.old place draft.new) }
+    ensures quick { OnOk result ((marks dues : List Bool) → IsQuick draft.old marks dues → IsQuick draft.new marks dues) }
+    ensures safe { OnOk result (IsSafe ground.now draft.new) }
+{
+    match chain_end(draft, place) {
+        None => Ok(Redirected::NoEnd),
+        Some(last) => retarget(alloc, draft, ground, place, last),
+    }
+}
+
+/// Lets the instruction at a kept place go, if nothing reaches it. Else the place is due no more, unless a branch stands there that is out of reach of its end.
+fn change_idle(
+    draft: &mut Draft,
+    due: &mut Due,
+    reached: &Reached,
+    ground: &Ground,
+    place: u32,
+    is_refused: bool,
+) -> Outcome
+    requires within { place < length draft.old.gone }
+    requires kept { is_gone draft.old.gone place ≡ false }
+    requires later { GoesToNext (code_of (lines_now draft.old)) (rank draft.old.gone place) → ⊥ }
+    requires refused { (label : Name) → IsPossible (setting ground.now.base) (change (rank draft.old.gone place) (ToEnd label)) (lines_now draft.old) → ⊥ }
+    requires end { is_refused ≡ false → HasEnd (code_of (lines_now draft.old)) (rank draft.old.gone place) → ⊥ }
+    requires quick { IsQuick draft.old reached.now due.old }
+    requires safe { IsSafe ground.now draft.old }
+    ensures outcome { IsOutcomeAt result ground.now.base draft.old place draft.new }
+    ensures quick { IsQuick draft.new reached.now due.new }
+    ensures safe { IsSafe ground.now draft.new }
+{
+    if is_idle(draft, reached, place) {
+        remove(draft, due, place);
+        return Outcome::Made;
+    }
+    if !is_refused {
+        due.take(place);
+    }
+    Outcome::Nothing
+}
+
 /// Makes the change at a kept place that is tried soonest, if it surely can be made.
-fn change(
+fn change_at(
     alloc: Global,
     draft: &mut Draft,
     due: &mut Due,
@@ -133,7 +232,7 @@ fn change(
     requires kept { is_gone draft.old.gone place ≡ false }
     requires quick { IsQuick draft.old reached.now due.old }
     requires safe { IsSafe ground.now draft.old }
-    ensures outcome { IfOk result (λ o. IsOutcomeAt o draft.old place draft.new) }
+    ensures outcome { IfOk result (λ o. IsOutcomeAt o ground.now.base draft.old place draft.new) }
     ensures quick { OnOk result (IsQuick draft.new reached.now due.new) }
     ensures safe { OnOk result (IsSafe ground.now draft.new) }
 {
@@ -141,15 +240,13 @@ fn change(
         remove(draft, due, place);
         return Ok(Outcome::Made);
     }
-    if let Some(last) = chain_end(draft, place) {
-        return retarget(alloc, draft, ground, place, last);
+    let redirected = redirect(alloc, draft, ground, place)?;
+    match redirected {
+        Redirected::NoEnd => Ok(change_idle(draft, due, reached, ground, place, false)),
+        Redirected::Refused => Ok(change_idle(draft, due, reached, ground, place, true)),
+        Redirected::Made => Ok(Outcome::Made),
+        Redirected::Unsure => Ok(Outcome::Unsure),
     }
-    if is_idle(draft, reached, place) {
-        remove(draft, due, place);
-        return Ok(Outcome::Made);
-    }
-    due.take(place);
-    Ok(Outcome::Nothing)
 }
 
 /// What becomes of a place, where it is kept and due.
@@ -164,7 +261,7 @@ fn change_if_due(
     requires within { place < length draft.old.gone }
     requires quick { IsQuick draft.old reached.now due.old }
     requires safe { IsSafe ground.now draft.old }
-    ensures outcome { IfOk result (λ o. IsOutcomeAt o draft.old place draft.new) }
+    ensures outcome { IfOk result (λ o. IsOutcomeAt o ground.now.base draft.old place draft.new) }
     ensures quick { OnOk result (IsQuick draft.new reached.now due.new) }
     ensures safe { OnOk result (IsSafe ground.now draft.new) }
 {
@@ -174,10 +271,10 @@ fn change_if_due(
     if !due.has(place) {
         return Ok(Outcome::Nothing);
     }
-    change(alloc, draft, due, reached, ground, place)
+    change_at(alloc, draft, due, reached, ground, place)
 }
 
-/// What becomes of the first place at which a change has its cause. Places that are gone are leapt over.
+/// What becomes of the first place at which a change is possible. Places that are gone are leapt over.
 pub(crate) fn first_change(
     alloc: Global,
     draft: &mut Draft,
@@ -187,7 +284,7 @@ pub(crate) fn first_change(
 ) -> Result<Outcome, Memory>
     requires quick { IsQuick draft.old reached.now due.old }
     requires safe { IsSafe ground.now draft.old }
-    ensures outcome { IfOk result (λ o. IsOutcome o (lines_now draft.old) (lines_now draft.new)) }
+    ensures outcome { IfOk result (λ o. IsOutcome o ground.now.base (lines_now draft.old) (lines_now draft.new)) }
     ensures quick { OnOk result (IsQuick draft.new reached.now due.new) }
     ensures safe { OnOk result (IsSafe ground.now draft.new) }
 {

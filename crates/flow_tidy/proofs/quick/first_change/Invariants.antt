@@ -1,5 +1,4 @@
 use Rattle.std.proofs.Common.{◌≡◌, ◌-◌}
-use Rattle.thumb_model.specs.Listing.{code_of}
 use Rattle.listing_draft.specs.Drafted.{lines_now}
 use Rattle.flow_tidy.specs.Quick.{IsQuick, IsSafe}
 use Rattle.flow_tidy.proofs.Quickly.{NoneSooner}
@@ -10,7 +9,7 @@ invariant-loop-place l = record {
   same : l.draft ≡ l.fn.draft;
   quick : IsQuick l.draft l.reached l.due;
   safe : IsSafe l.ground l.draft;
-  none : NoneSooner l.draft.gone (code_of (lines_now l.draft)) l.place;
+  none : NoneSooner l.ground.base l.draft.gone (lines_now l.draft) l.place;
 }
 
 abbrev pub decreases-loop-place : goal.decreases-loop-place

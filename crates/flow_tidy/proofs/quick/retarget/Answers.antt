@@ -24,22 +24,22 @@ found base d p last o label e h = subst (λ (x : Option (Vec ℕ Global)). IfSom
 goes_there : (base : ℕ) (d : Drafted) (p last : ℕ) (name : Name) → EndsAt d p last → IsFound base d p last name → GoesToEnd (code_of (lines_now d)) (rank d.gone p) name
 goes_there base d p last name h f = subst (GoesToEnd (code_of (lines_now d)) (rank d.gone p)) (same_Some h.label name (sym h.named ∙ f.0)) h.goes
 
-pub returns-in-Some-clause-outcome : goal.returns-in-Some-clause-outcome
-returns-in-Some-clause-outcome c =
+pub returns-in-Some-clause-redirected : goal.returns-in-Some-clause-redirected
+returns-in-Some-clause-redirected c =
     let d = c.args.draft.now in
-    let is = found c.args.ground.now.base d c.args.place c.args.last c.in_ok-sure_end.field-0 c.in-Some.label c.in-Some.is c.in_ok-sure_end.ensures in
+    let is = found c.args.ground.now.base d c.args.place c.args.last c.in_ok-label.field-0 c.in-Some.label c.in-Some.is c.in_ok-label.ensures in
     let there = goes_there c.args.ground.now.base d c.args.place c.args.last c.in-Some.label.items c.requires.end is in
-    soonest_end (lines_now d) (lines_now c.aim.new.self) (rank d.gone c.args.place) c.in-Some.label.items c.requires.later there c.aim.ensures.lines
+    soonest_end c.args.ground.now.base (lines_now d) (lines_now c.aim.new.self) (rank d.gone c.args.place) c.in-Some.label.items c.requires.later there c.aim.ensures.lines
 
 pub returns-in-Some-clause-quick : goal.returns-in-Some-clause-quick
 returns-in-Some-clause-quick c = λ marks dues quick.
     let d = c.args.draft.now in
-    let is = found c.args.ground.now.base d c.args.place c.args.last c.in_ok-sure_end.field-0 c.in-Some.label c.in-Some.is c.in_ok-sure_end.ensures in
+    let is = found c.args.ground.now.base d c.args.place c.args.last c.in_ok-label.field-0 c.in-Some.label c.in-Some.is c.in_ok-label.ensures in
     let there = goes_there c.args.ground.now.base d c.args.place c.args.last c.in-Some.label.items c.requires.end is in
     quick_aimed d c.aim.new.self c.args.place c.in-Some.label.items marks dues there c.aim.ensures.gone c.aim.ensures.lines quick
 
 pub returns-in-Some-clause-safe : goal.returns-in-Some-clause-safe
 returns-in-Some-clause-safe c =
     let d = c.args.draft.now in
-    let is = found c.args.ground.now.base d c.args.place c.args.last c.in_ok-sure_end.field-0 c.in-Some.label c.in-Some.is c.in_ok-sure_end.ensures in
+    let is = found c.args.ground.now.base d c.args.place c.args.last c.in_ok-label.field-0 c.in-Some.label c.in-Some.is c.in_ok-label.ensures in
     safe_aimed c.args.ground.now d c.aim.new.self c.args.place c.in-Some.label.items c.requires.within c.requires.kept is.1 c.aim.ensures.given c.aim.ensures.gone c.aim.ensures.aims c.aim.ensures.lines c.requires.safe

@@ -37,7 +37,7 @@ overflow_add-count c =
     let base = c.args.ground.now.base in
     let ls = lines_now c.loop-due.draft in
     let new = lines_now c.first_change.new.draft in
-    let o = subst (λ (x : Outcome). IsOutcome x ls new) c.in-Made.is c.in_ok-outcome.ensures.outcome in
+    let o = subst (λ (x : Outcome). IsOutcome x base ls new) c.in-Made.is c.in_ok-outcome.ensures.outcome in
     let left = next_room (setting base) ls new o.0 (goes_first base ls new o.0 o.1 o.2 c.in_ok-outcome.ensures.safe.sure) in
     let many = as_many c.args.listing c.in_ok-draft.draft c.place_count-places.result c.in_ok-draft.ensures.is c.place_count-places.ensures.draft c.place_count-places.ensures.count in
     let few : length (places_of c.args.listing) < 2 ^ 32 = omega (arith, many, c.place_count-places.type_inv) in
@@ -49,7 +49,7 @@ loop-due-smaller c =
     let base = c.args.ground.now.base in
     let ls = lines_now c.loop-due.draft in
     let new = lines_now c.first_change.new.draft in
-    let o = subst (λ (x : Outcome). IsOutcome x ls new) c.in-Made.is c.in_ok-outcome.ensures.outcome in
+    let o = subst (λ (x : Outcome). IsOutcome x base ls new) c.in-Made.is c.in_ok-outcome.ensures.outcome in
     let left = next_room (setting base) ls new o.0 (goes_first base ls new o.0 o.1 o.2 c.in_ok-outcome.ensures.safe.sure) in
     let less : room_of new < room_of ls = omega (arith, left) in
     less
@@ -60,7 +60,7 @@ loop-due-preserved c =
     let i = c.loop-due.invariant in
     let ls = lines_now c.loop-due.draft in
     let new = lines_now c.first_change.new.draft in
-    let o = subst (λ (x : Outcome). IsOutcome x ls new) c.in-Made.is c.in_ok-outcome.ensures.outcome in
+    let o = subst (λ (x : Outcome). IsOutcome x base ls new) c.in-Made.is c.in_ok-outcome.ensures.outcome in
     let next = goes_first base ls new o.0 o.1 o.2 c.in_ok-outcome.ensures.safe.sure in
     let left = next_room (setting base) ls new o.0 next in
     record {
@@ -75,7 +75,7 @@ returns-in-Nothing c =
     let base = c.args.ground.now.base in
     let ls = lines_now c.loop-due.draft in
     let new = lines_now c.first_change.new.draft in
-    let o = subst (λ (x : Outcome). IsOutcome x ls new) c.in-Nothing.is c.in_ok-outcome.ensures.outcome in
+    let o = subst (λ (x : Outcome). IsOutcome x base ls new) c.in-Nothing.is c.in_ok-outcome.ensures.outcome in
     subst (λ (l : List Line). AreTidiedBy base c.args.listing l c.loop-due.count) (sym (c.in_ok-listing-in-Nothing.ensures ∙ o.0))
     (all_made base c.args.listing ls c.loop-due.count c.loop-due.invariant.made (none_possible base ls o.1))
 
@@ -87,7 +87,7 @@ overflow_add-result c =
     let base = c.args.ground.now.base in
     let ls = lines_now c.loop-due.draft in
     let new = lines_now c.first_change.new.draft in
-    let o = subst (λ (x : Outcome). IsOutcome x ls new) c.in-Unsure.is c.in_ok-outcome.ensures.outcome in
+    let o = subst (λ (x : Outcome). IsOutcome x base ls new) c.in-Unsure.is c.in_ok-outcome.ensures.outcome in
     let tidy = c.in_ok-listing-in-Unsure.field-0 in
     let rest : AreTidiedBy base ls tidy.listing tidy.changes = subst (λ (l : List Line). AreTidiedBy base l tidy.listing tidy.changes) o c.in_ok-listing-in-Unsure.ensures in
     let many = as_many c.args.listing c.in_ok-draft.draft c.place_count-places.result c.in_ok-draft.ensures.is c.place_count-places.ensures.draft c.place_count-places.ensures.count in
@@ -100,7 +100,7 @@ returns-in-Unsure c =
     let base = c.args.ground.now.base in
     let ls = lines_now c.loop-due.draft in
     let new = lines_now c.first_change.new.draft in
-    let o = subst (λ (x : Outcome). IsOutcome x ls new) c.in-Unsure.is c.in_ok-outcome.ensures.outcome in
+    let o = subst (λ (x : Outcome). IsOutcome x base ls new) c.in-Unsure.is c.in_ok-outcome.ensures.outcome in
     let tidy = c.in_ok-listing-in-Unsure.field-0 in
     let rest : AreTidiedBy base ls tidy.listing tidy.changes = subst (λ (l : List Line). AreTidiedBy base l tidy.listing tidy.changes) o c.in_ok-listing-in-Unsure.ensures in
     handed_over base c.args.listing ls tidy.listing c.loop-due.count tidy.changes c.loop-due.invariant.made rest
