@@ -60,9 +60,6 @@ quick_aimed d e p label marks dues g gone lines q =
       due = subst (λ (gs : List Bool). AreDue (code_of (lines_now e)) (left gs dues)) (sym gone) (subst (λ (c : Code). AreDue c (left d.gone dues)) (sym code) (due_aimed old r label (left d.gone dues) g q.due));
     }
 
-pub same_quick : (d same : Drafted) (marks dues : List Bool) → same ≡ d → IsQuick d marks dues → IsQuick same marks dues
-same_quick d same marks dues f q = subst (λ (x : Drafted). IsQuick x marks dues) (sym f) q
-
 pub taken_quick : (d : Drafted) (p : ℕ) (marks dues new : List Bool) → is_gone d.gone p ≡ false → (IsCaused (code_of (lines_now d)) (rank d.gone p) → ⊥) → new ≡ slice_set dues p false → IsQuick d marks dues → IsQuick d marks new
 taken_quick d p marks dues new kept never e q = record {
   many = ap length e ∙ set_length dues p false ∙ q.many;

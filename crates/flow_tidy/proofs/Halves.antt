@@ -2,7 +2,6 @@
 use Rattle.std.proofs.Common.{◌≡◌, ◌∙◌, ◌⊎◌, inl, inr, ℕ, zero, suc, ◌+◌, ◌*◌, ◌<◌, ◌≤◌, ◌&&◌, true, false, List, [], ◌∷◌, ◌++◌, length, drop, map, append_assoc, Option, Some, None, refl, sym, ap, arith, if◌then◌else◌}
 use Rattle.std.specs.Prelude.{nat_le, nat_lt, slice_get}
 use Rattle.std.proofs.lemmas.Bool.{cases_Bool, cases_lt, and_parts, leb-true, ltb-true}
-use Rattle.std.proofs.lemmas.List.{append-nil}
 use Rattle.std.proofs.lemmas.Option.{same_Some}
 use Rattle.thumb_instr.specs.declared.instr.Instr.{Instr}
 use Rattle.thumb_instr.specs.declared.instr.Instr.TheVariants as instr
@@ -65,15 +64,6 @@ wides_more out n w ps p h e f =
     ∙ ap (λ k. out ++ (n ∷ wides_before (n + wide_of (slice_get ps p)) (drop k ps))) (let z : p + 1 ≡ suc p = omega arith in z)
     ∙ ap (λ (xs : List ℕ). out ++ xs) (sym (next_wides n ps p h))
     ∙ f
-
-past_all : (ps : List Place) (n p : ℕ) → length ps ≤ p → wides_before n (drop p ps) ≡ []
-past_all [] n zero h = refl
-past_all [] n (suc p) h = refl
-past_all (x ∷ xs) n zero h = absurd (omega arith)
-past_all (x ∷ xs) n (suc p) h = past_all xs n p (omega arith)
-
-pub wides_all : (out : List ℕ) (n : ℕ) (ps : List Place) (p : ℕ) → length ps ≤ p → out ++ wides_before n (drop p ps) ≡ wides_before 0 ps → out ≡ wides_before 0 ps
-wides_all out n ps p h e = sym (append-nil out) ∙ ap (λ (xs : List ℕ). out ++ xs) (sym (past_all ps n p h)) ∙ e
 
 -- ---- a draft ----
 

@@ -165,14 +165,6 @@ no_cause code r next end idle c = by c.cause c.is
     by (ToEnd label) h = end (record { label = label; goes = h })
     by Idle h = idle h
 
-pub none_at : (base : ℕ) (ls : List Line) (r : ℕ) → (GoesToNext (code_of ls) r → ⊥) → ((label : Name) → IsPossible (setting base) (change r (ToEnd label)) ls → ⊥) → (IsIdle (code_of ls) r → ⊥) → NoneAt base ls r
-none_at base ls r next end idle = by
-  where
-    by : (o : Cause) → IsPossible (setting base) (change r o) ls → ⊥
-    by ToNext h = next h.cause
-    by (ToEnd label) h = end label h
-    by Idle h = idle h.cause
-
 -- lines that surely can be laid out stay so when an instruction goes
 pub still_sure : (base : ℕ) (ls new : List Line) (r : ℕ) → is_op_place (slice_get (places_of ls) r) ≡ true → new ≡ replaced_lines own_line r 1 [] ls → IsSure base ls → IsSure base new
 still_sure base ls new r op e s = record {
