@@ -1,5 +1,5 @@
 -- Tidying by places that stay: what is known of a draft when an instruction goes, and that a change that is made is the first.
-use Rattle.std.proofs.Common.{◌≡◌, ◌∙◌, inl, inr, ℕ, zero, suc, ◌+◌, ◌<◌, ◌≤◌, Bool, true, false, List, [], ◌∷◌, length, replicate, Some, refl, sym, ap, subst, arith}
+use Rattle.std.proofs.Common.{◌≡◌, ◌∙◌, inl, inr, ℕ, zero, suc, ◌+◌, ◌-◌, ◌<◌, ◌≤◌, Bool, true, false, List, [], ◌∷◌, length, replicate, Some, refl, sym, ap, subst, arith}
 use Rattle.std.specs.Prelude.{slice_get, slice_set}
 use Rattle.std.specs.List.{remove}
 use Rattle.std.proofs.lemmas.Bool.{cases_Bool, cases_eq, cases_lt}
@@ -120,6 +120,18 @@ none_further base gone ls p h never = λ k lt o q. elim (cases_Bool (is_gone gon
 -- up to the next kept place there is no other
 pub none_up_to : (base : ℕ) (gone : List Bool) (ls : List Line) (p q : ℕ) → IsNode gone p q → NoneSooner base gone ls p → NoneSooner base gone ls q
 none_up_to base gone ls p q n h = λ k lt. h k (let r = node_rank gone p q n in omega arith)
+
+-- and none is possible at places that aren't due
+none_free_by : (n : ℕ) (base : ℕ) (gone due : List Bool) (ls : List Line) (p q : ℕ) → q ≡ n + p → AreDue (code_of ls) (left gone due) → ((k : ℕ) → p ≤ k → k < q → slice_get due k ≡ Some true → ⊥) → NoneSooner base gone ls p → NoneSooner base gone ls q
+none_free_by zero base gone due ls p q e a free h = subst (NoneSooner base gone ls) (let z : p ≡ q = omega arith in z) h
+none_free_by (suc n) base gone due ls p zero e a free h = absurd (omega arith)
+none_free_by (suc n) base gone due ls p (suc q) e a free h =
+    let before = none_free_by n base gone due ls p q (omega arith) a (λ k l m. free k l (omega arith)) h in
+    subst (NoneSooner base gone ls) (let z : q + 1 ≡ suc q = omega arith in z)
+    (none_further base gone ls q before (λ kept o c. free q (omega arith) (omega arith) (sym (left_at gone due q kept) ∙ a.each (rank gone q) (record { cause = o; is = c.cause }))))
+
+pub none_free : (base : ℕ) (gone due : List Bool) (ls : List Line) (p q : ℕ) → p ≤ q → AreDue (code_of ls) (left gone due) → ((k : ℕ) → p ≤ k → k < q → slice_get due k ≡ Some true → ⊥) → NoneSooner base gone ls p → NoneSooner base gone ls q
+none_free base gone due ls p q e = none_free_by (q - p) base gone due ls p q (omega arith)
 
 -- as many are left as places
 pub none_left : (base : ℕ) (gone due : List Bool) (ls : List Line) (p : ℕ) → length due ≡ length gone → length gone ≤ p → AreDue (code_of ls) (left gone due) → NoneSooner base gone ls p → (r : ℕ) → NoneAt base ls r

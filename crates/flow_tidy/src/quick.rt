@@ -274,7 +274,7 @@ fn change_if_due(
     change_at(alloc, draft, due, reached, ground, place)
 }
 
-/// What becomes of the first place at which a change is possible. Places that are gone are leapt over.
+/// What becomes of the first place at which a change is possible. Places that are gone or not due are leapt over.
 pub(crate) fn first_change(
     alloc: Global,
     draft: &mut Draft,
@@ -295,8 +295,8 @@ pub(crate) fn first_change(
         let outcome = change_if_due(alloc, draft, due, reached, ground, place)?;
         match outcome {
             Outcome::Nothing => {
-                let next = draft.node(place + 1);
-                place = next;
+                let next = due.next(place + 1);
+                place = draft.node(next);
             }
             Outcome::Made => return Ok(Outcome::Made),
             Outcome::Unsure => return Ok(Outcome::Unsure),

@@ -4,7 +4,7 @@ use Rattle.listing_draft.specs.Drafted.{lines_now, Drafted}
 use Rattle.flow_tidy.specs.declared.outcome.Outcome.{Outcome}
 use Rattle.flow_tidy.specs.declared.outcome.Outcome.TheVariants as outcome
 use Rattle.flow_tidy.specs.Quick.{IsOutcome, IsOutcomeAt, IsQuick, IsSafe}
-use Rattle.flow_tidy.proofs.Quickly.{none_further, none_least, none_left, none_up_to, NoneSooner}
+use Rattle.flow_tidy.proofs.Quickly.{none_free, none_further, none_least, none_left, none_up_to, NoneSooner}
 use Rattle.flow_tidy.proofs.quick.first_change.Goals as goal
 
 pub loop-place-init : goal.loop-place-init
@@ -22,17 +22,24 @@ loop-place-init c =
 
 pub loop-place-preserved : goal.loop-place-preserved
 loop-place-preserved c =
+    let base = c.args.ground.now.base in
     let d = c.loop-place.draft in
     let p : ℕ = c.loop-place.place in
-    let o = subst (λ (x : Outcome). IsOutcomeAt x c.args.ground.now.base d p c.change_if_due.new.draft) c.in-Nothing.is c.in_ok-outcome.ensures.outcome in
-    let same : c.node-next.new.self ≡ d = c.node-next.ensures.same ∙ o.0 in
-    let node : IsNode d.gone (p + 1) c.node-next.result = subst (λ (x : Drafted). IsNode x.gone (p + 1) c.node-next.result) o.0 c.node-next.ensures.node in
-    let none = none_up_to c.args.ground.now.base d.gone (lines_now d) (p + 1) c.node-next.result node (none_further c.args.ground.now.base d.gone (lines_now d) p c.loop-place.invariant.none o.1) in
+    let dues = c.change_if_due.new.due in
+    let next : ℕ = c.next-next.result in
+    let r = c.node-place-in-Nothing in
+    let o = subst (λ (x : Outcome). IsOutcomeAt x base d p c.change_if_due.new.draft) c.in-Nothing.is c.in_ok-outcome.ensures.outcome in
+    let same : r.new.self ≡ d = r.ensures.same ∙ o.0 in
+    let quick : IsQuick d c.args.reached.now dues = subst (λ (x : Drafted). IsQuick x c.args.reached.now dues) o.0 c.in_ok-outcome.ensures.quick in
+    let node : IsNode d.gone next r.result = subst (λ (x : Drafted). IsNode x.gone next r.result) o.0 r.ensures.node in
+    let behind = none_further base d.gone (lines_now d) p c.loop-place.invariant.none o.1 in
+    let free = none_free base d.gone dues (lines_now d) (p + 1) next c.next-next.ensures.from quick.due c.next-next.ensures.free behind in
+    let none = none_up_to base d.gone (lines_now d) next r.result node free in
     record {
       same = same ∙ c.loop-place.invariant.same;
-      quick = subst (λ (x : Drafted). IsQuick x c.args.reached.now c.change_if_due.new.due) (sym c.node-next.ensures.same) c.in_ok-outcome.ensures.quick;
-      safe = subst (IsSafe c.args.ground.now) (sym c.node-next.ensures.same) c.in_ok-outcome.ensures.safe;
-      none = subst (λ (x : Drafted). NoneSooner c.args.ground.now.base x.gone (lines_now x) c.node-next.result) (sym same) none;
+      quick = subst (λ (x : Drafted). IsQuick x c.args.reached.now dues) (sym r.ensures.same) c.in_ok-outcome.ensures.quick;
+      safe = subst (IsSafe c.args.ground.now) (sym r.ensures.same) c.in_ok-outcome.ensures.safe;
+      none = subst (λ (x : Drafted). NoneSooner base x.gone (lines_now x) r.result) (sym same) none;
     }
 
 pub returns-clause-outcome : goal.returns-clause-outcome
