@@ -144,6 +144,24 @@ marks_left code p marks m a =
           (λ h. reached_forth code p m o.0 (says.0 h), λ h. says.1 (reached_back code p m (moved p 1 o.0) h o.0 refl o.1));
     }
 
+-- ---- a branch that goes elsewhere ----
+
+-- what is reached and due stays
+pub marks_aimed : (code : Code) (p : ℕ) (label : Name) (marks : List Bool) → GoesToEnd code p label → AreMarks code marks → AreMarks (aimed_code p label code) marks
+marks_aimed code p label marks g a = record {
+  len = a.len ∙ sym (same_length p label code.places);
+  says = λ q mark e. let says = a.says q mark e in let same = reached_same code p label g q in (λ t. same.0 (says.0 t), λ r. says.1 (same.1 r));
+}
+
+pub due_aimed : (code : Code) (p : ℕ) (label : Name) (due : List Bool) → GoesToEnd code p label → AreDue code due → AreDue (aimed_code p label code) due
+due_aimed code p label due g d = record {
+  len = d.len ∙ sym (same_length p label code.places);
+  each = λ q c. elim (cases_eq q p) [
+    | inl same ↦ d.each q (record { cause = ToEnd label; is = subst (λ x. GoesToEnd code x label) (sym same) g })
+    | inr ne ↦ d.each q (aimed_caused code p label g q c.cause ne c.is)
+  ];
+}
+
 -- ---- changes ----
 
 abbrev pub MayVanish : Code → ℕ → Type 0
@@ -172,22 +190,6 @@ fewer_places s p ls new n less = by n.cause n.first.possible.cause n.lines
         ap (λ (l : List Line). length (places_of l)) e ∙ ap (λ (c : Code). length c.places) (code_aimed s.write label p ls h.i (Some h.mention) h.stands) ∙ same_length p label (places_of ls) in
         absurd (omega arith)
     by Idle h e = record { vanishes = inr h; code = ap code_of e ∙ code_without s p ls h.i h.mention h.stands }
-
--- what is reached and due stays where a branch goes elsewhere
-pub marks_aimed : (code : Code) (p : ℕ) (label : Name) (marks : List Bool) → GoesToEnd code p label → AreMarks code marks → AreMarks (aimed_code p label code) marks
-marks_aimed code p label marks g a = record {
-  len = a.len ∙ sym (same_length p label code.places);
-  says = λ q mark e. let says = a.says q mark e in let same = reached_same code p label g q in (λ t. same.0 (says.0 t), λ r. says.1 (same.1 r));
-}
-
-pub due_aimed : (code : Code) (p : ℕ) (label : Name) (due : List Bool) → GoesToEnd code p label → AreDue code due → AreDue (aimed_code p label code) due
-due_aimed code p label due g d = record {
-  len = d.len ∙ sym (same_length p label code.places);
-  each = λ q c. elim (cases_eq q p) [
-    | inl same ↦ d.each q (record { cause = ToEnd label; is = subst (λ x. GoesToEnd code x label) (sym same) g })
-    | inr ne ↦ d.each q (aimed_caused code p label g q c.cause ne c.is)
-  ];
-}
 
 -- and one that doesn't lets a branch go elsewhere: all that is known stays
 pub known_aimed : (s : Setting) (p : ℕ) (ls new : List Line) (laid : Addresses) (reached due : List Bool) → laid.base ≡ s.base → IsNextAt s p ls new → (length (places_of new) < length (places_of ls) → ⊥) → IsKnown ls laid reached due → IsKnown new laid reached due
