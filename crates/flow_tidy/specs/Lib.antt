@@ -8,3 +8,4 @@ pub mod Due
 pub mod Halves
 pub mod Ground
 pub mod Quick
+pub mod ChainEnds

@@ -1,13 +1,13 @@
 //! What stands at the places of a draft. A place that is kept has its rank as its number in the lines now.
-ghost use Rattle.std.specs.Prelude.{◌≡◌, ◌<◌, ◌↔◌, true, false, length, option_and_then, option_map, IfNone, IfSome, IsTrue};
+ghost use Rattle.std.specs.Prelude.{◌≡◌, ◌<◌, ◌↔◌, true, false, length, option_and_then, option_map, IfSome, IsTrue};
 ghost use Rattle.kept_places.specs.Marks.{is_gone, rank};
 ghost use Rattle.thumb_model.specs.Listing.{code_of, place_of};
 ghost use Rattle.code_flow.specs.Marks.{AreMarks};
 ghost use Rattle.listing_draft.specs.Drafted.{lines_now, stands};
-ghost use Rattle.flow_tidy.specs.Due.{HasEnd, is_branch_always as branches_always, is_branch_if as branches_if, lets_on as code_lets_on};
+ghost use Rattle.flow_tidy.specs.Due.{is_branch_always as branches_always, is_branch_if as branches_if, lets_on as code_lets_on};
 ghost use Rattle.flow_tidy.specs.Tidied.{GoesToNext, IsIdle};
 ghost use Rattle.flow_tidy.specs.Made.{label_of_always, label_of_branch};
-ghost use Rattle.flow_tidy.specs.Quick.{left, EndsAt};
+ghost use Rattle.flow_tidy.specs.Quick.{left};
 
 use crate::chains::{is_always, is_branch};
 use code_flow::Reached;
@@ -36,7 +36,7 @@ pub(crate) fn target(draft: &mut Draft, place: u32) -> Option<u32>
 }
 
 /// The kept place that the branch without a condition at a kept place goes to.
-fn hop(draft: &mut Draft, place: u32) -> Option<u32>
+pub(crate) fn hop(draft: &mut Draft, place: u32) -> Option<u32>
     requires within { place < length draft.old.gone }
     requires kept { is_gone draft.old.gone place ≡ false }
     ensures place { option_map (rank draft.old.gone) result ≡ option_and_then (place_of (code_of (lines_now draft.old))) (label_of_always (stands draft.old place)) }
@@ -54,33 +54,6 @@ fn hop(draft: &mut Draft, place: u32) -> Option<u32>
             }
         }
     }
-}
-
-/// The kept place of the last branch of the chain that the branch at a kept place begins, if the chain has an end: that branch goes to the end. A chain that goes on
-/// for as many hops as there are places never ends, and nor does one that comes to a branch to itself.
-pub(crate) fn chain_end(draft: &mut Draft, place: u32) -> Option<u32>
-    requires within { place < length draft.old.gone }
-    requires kept { is_gone draft.old.gone place ≡ false }
-    ensures end { IfSome result (λ last. EndsAt draft.old place last) }
-    ensures none { IfNone result (HasEnd (code_of (lines_now draft.old)) (rank draft.old.gone place) → ⊥) }
-    ensures same { draft.new ≡ draft.old }
-{
-    let first = target(draft, place)?;
-    let mut next = hop(draft, first)?;
-    let mut last = first;
-    for _hops in 0..draft.place_count() {
-        if next == last {
-            return None;
-        }
-        match hop(draft, next) {
-            None => return Some(last),
-            Some(further) => {
-                last = next;
-                next = further;
-            }
-        }
-    }
-    None
 }
 
 /// Whether a branch to the next place stands at a kept one.

@@ -1,6 +1,7 @@
 //! Tidying a listing's branches and what nothing reaches.
 #![tactic(auto)]
 
+mod chain_ends;
 mod chains;
 mod changing;
 mod drafted;

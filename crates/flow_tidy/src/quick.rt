@@ -8,12 +8,15 @@ ghost use Rattle.kept_places.specs.Marks.{is_gone, rank};
 ghost use Rattle.listing_draft.specs.Drafted.{lines_now, name_in, stands};
 ghost use Rattle.flow_tidy.specs.Tidied.{ToEnd, GoesToNext, IsIdle, IsPossible};
 ghost use Rattle.flow_tidy.specs.Tidying.{setting};
+ghost use Rattle.flow_tidy.specs.declared.chain_ends.Known.{Known};
 ghost use Rattle.flow_tidy.specs.Due.{AreDue, HasEnd};
+ghost use Rattle.flow_tidy.specs.ChainEnds.{AreEnds};
 ghost use Rattle.flow_tidy.specs.Halves.{halves};
 ghost use Rattle.flow_tidy.specs.Made.{change};
 ghost use Rattle.flow_tidy.specs.Quick.{left, EndsAt, IsOutcome, IsOutcomeAt, IsQuick, IsRedirected, IsSafe, IsSure, MayAim};
 
-use crate::drafted::{chain_end, goes_to_next, is_idle, lets_on};
+use crate::chain_ends::{Ends, chain_end};
+use crate::drafted::{goes_to_next, is_idle, lets_on};
 use crate::due::Due;
 use crate::ground::{Ground, is_beyond, reaches};
 use crate::limits::{is_short_branch, leave_room};
@@ -152,6 +155,7 @@ fn retarget(
     ensures redirected { IfOk result (λ o. IsRedirected o ground.now.base draft.old place draft.new) }
     ensures quick { OnOk result ((marks dues : List Bool) → IsQuick draft.old marks dues → IsQuick draft.new marks dues) }
     ensures safe { OnOk result (IsSafe ground.now draft.new) }
+    ensures ends { OnOk result ((known : List Known) → AreEnds draft.old known → AreEnds draft.new known) }
 {
     match sure_end(alloc, draft, ground, place, last)? {
         Some(label) => {
@@ -172,6 +176,7 @@ fn retarget(
 fn redirect(
     alloc: Global,
     draft: &mut Draft,
+    ends: &mut Ends,
     ground: &Ground,
     place: u32,
 ) -> Result<Redirected, Memory>
@@ -179,11 +184,13 @@ fn redirect(
     requires kept { is_gone draft.old.gone place ≡ false }
     requires later { GoesToNext (code_of (lines_now draft.old)) (rank draft.old.gone place) → ⊥ }
     requires safe { IsSafe ground.now draft.old }
+    requires ends { AreEnds draft.old ends.old }
     ensures redirected { IfOk result (λ o. IsRedirected o ground.now.base draft.old place draft.new) }
     ensures quick { OnOk result ((marks dues : List Bool) → IsQuick draft.old marks dues → IsQuick draft.new marks dues) }
     ensures safe { OnOk result (IsSafe ground.now draft.new) }
+    ensures ends { OnOk result (AreEnds draft.new ends.new) }
 {
-    match chain_end(draft, place) {
+    match chain_end(draft, ends, place) {
         None => Ok(Redirected::NoEnd),
         Some(last) => retarget(alloc, draft, ground, place, last),
     }
@@ -193,6 +200,7 @@ fn redirect(
 fn change_idle(
     draft: &mut Draft,
     due: &mut Due,
+    ends: &mut Ends,
     reached: &Reached,
     ground: &Ground,
     place: u32,
@@ -205,12 +213,15 @@ fn change_idle(
     requires end { is_refused ≡ false → HasEnd (code_of (lines_now draft.old)) (rank draft.old.gone place) → ⊥ }
     requires quick { IsQuick draft.old reached.now due.old }
     requires safe { IsSafe ground.now draft.old }
+    requires ends { AreEnds draft.old ends.old }
     ensures outcome { IsOutcomeAt result ground.now.base draft.old place draft.new }
     ensures quick { IsQuick draft.new reached.now due.new }
     ensures safe { IsSafe ground.now draft.new }
+    ensures ends { AreEnds draft.new ends.new }
 {
     if is_idle(draft, reached, place) {
         remove(draft, due, place);
+        ends.forget();
         return Outcome::Made;
     }
     if !is_refused {
@@ -224,6 +235,7 @@ fn change_at(
     alloc: Global,
     draft: &mut Draft,
     due: &mut Due,
+    ends: &mut Ends,
     reached: &Reached,
     ground: &Ground,
     place: u32,
@@ -232,18 +244,21 @@ fn change_at(
     requires kept { is_gone draft.old.gone place ≡ false }
     requires quick { IsQuick draft.old reached.now due.old }
     requires safe { IsSafe ground.now draft.old }
+    requires ends { AreEnds draft.old ends.old }
     ensures outcome { IfOk result (λ o. IsOutcomeAt o ground.now.base draft.old place draft.new) }
     ensures quick { OnOk result (IsQuick draft.new reached.now due.new) }
     ensures safe { OnOk result (IsSafe ground.now draft.new) }
+    ensures ends { OnOk result (AreEnds draft.new ends.new) }
 {
     if goes_to_next(draft, place) {
         remove(draft, due, place);
+        ends.forget();
         return Ok(Outcome::Made);
     }
-    let redirected = redirect(alloc, draft, ground, place)?;
+    let redirected = redirect(alloc, draft, ends, ground, place)?;
     match redirected {
-        Redirected::NoEnd => Ok(change_idle(draft, due, reached, ground, place, false)),
-        Redirected::Refused => Ok(change_idle(draft, due, reached, ground, place, true)),
+        Redirected::NoEnd => Ok(change_idle(draft, due, ends, reached, ground, place, false)),
+        Redirected::Refused => Ok(change_idle(draft, due, ends, reached, ground, place, true)),
         Redirected::Made => Ok(Outcome::Made),
         Redirected::Unsure => Ok(Outcome::Unsure),
     }
@@ -254,6 +269,7 @@ fn change_if_due(
     alloc: Global,
     draft: &mut Draft,
     due: &mut Due,
+    ends: &mut Ends,
     reached: &Reached,
     ground: &Ground,
     place: u32,
@@ -261,9 +277,11 @@ fn change_if_due(
     requires within { place < length draft.old.gone }
     requires quick { IsQuick draft.old reached.now due.old }
     requires safe { IsSafe ground.now draft.old }
+    requires ends { AreEnds draft.old ends.old }
     ensures outcome { IfOk result (λ o. IsOutcomeAt o ground.now.base draft.old place draft.new) }
     ensures quick { OnOk result (IsQuick draft.new reached.now due.new) }
     ensures safe { OnOk result (IsSafe ground.now draft.new) }
+    ensures ends { OnOk result (AreEnds draft.new ends.new) }
 {
     if draft.is_gone(place) {
         return Ok(Outcome::Nothing);
@@ -271,7 +289,7 @@ fn change_if_due(
     if !due.has(place) {
         return Ok(Outcome::Nothing);
     }
-    change_at(alloc, draft, due, reached, ground, place)
+    change_at(alloc, draft, due, ends, reached, ground, place)
 }
 
 /// What becomes of the first place at which a change is possible. Places that are gone or not due are leapt over.
@@ -279,20 +297,23 @@ pub(crate) fn first_change(
     alloc: Global,
     draft: &mut Draft,
     due: &mut Due,
+    ends: &mut Ends,
     reached: &Reached,
     ground: &Ground,
 ) -> Result<Outcome, Memory>
     requires quick { IsQuick draft.old reached.now due.old }
     requires safe { IsSafe ground.now draft.old }
+    requires ends { AreEnds draft.old ends.old }
     ensures outcome { IfOk result (λ o. IsOutcome o ground.now.base (lines_now draft.old) (lines_now draft.new)) }
     ensures quick { OnOk result (IsQuick draft.new reached.now due.new) }
     ensures safe { OnOk result (IsSafe ground.now draft.new) }
+    ensures ends { OnOk result (AreEnds draft.new ends.new) }
 {
     let places = draft.place_count();
     let from = due.least() as u32;
     let mut place = draft.node(from);
     while place < places {
-        let outcome = change_if_due(alloc, draft, due, reached, ground, place)?;
+        let outcome = change_if_due(alloc, draft, due, ends, reached, ground, place)?;
         match outcome {
             Outcome::Nothing => {
                 let next = due.next(place + 1);

@@ -11,6 +11,7 @@ ghost use Rattle.flow_tidy.specs.Ground.{IsGround};
 ghost use Rattle.flow_tidy.specs.Quick.{left, IsSure};
 ghost use Rattle.flow_tidy.specs.Tidying.{setting, tidying_cost, AreTidiedBy, IsRefusal};
 
+use crate::chain_ends::Ends;
 use crate::due::Due;
 use crate::errors::TidyError;
 use crate::found::{Changed, Found};
@@ -95,9 +96,10 @@ fn tidied_by_places(
     let mut draft = Draft::new(alloc, listing)?;
     let places = draft.place_count();
     let mut due = Due::all(alloc, places)?;
+    let mut ends = Ends::none(alloc, places)?;
     let mut count = 0;
     loop {
-        let outcome = first_sure(alloc, &mut draft, &mut due, reached, ground)?;
+        let outcome = first_sure(alloc, &mut draft, &mut due, &mut ends, reached, ground)?;
         match outcome {
             Outcome::Made => count += 1,
             Outcome::Nothing => {

@@ -3,6 +3,7 @@ use Rattle.kept_places.specs.Marks.{rank, IsNode}
 use Rattle.listing_draft.specs.Drafted.{lines_now, Drafted}
 use Rattle.flow_tidy.specs.declared.outcome.Outcome.{Outcome}
 use Rattle.flow_tidy.specs.declared.outcome.Outcome.TheVariants as outcome
+use Rattle.flow_tidy.specs.ChainEnds.{AreEnds}
 use Rattle.flow_tidy.specs.Quick.{IsOutcome, IsOutcomeAt, IsQuick, IsSafe}
 use Rattle.flow_tidy.proofs.Quickly.{none_free, none_further, none_least, none_left, none_up_to, NoneSooner}
 use Rattle.flow_tidy.proofs.quick.first_change.Goals as goal
@@ -17,6 +18,7 @@ loop-place-init c =
       same = c.node-place.ensures.same;
       quick = subst (λ (x : Drafted). IsQuick x c.args.reached.now c.least-from.new.self) (sym c.node-place.ensures.same) quick;
       safe = subst (IsSafe c.args.ground.now) (sym c.node-place.ensures.same) c.requires.safe;
+      ends = subst (λ (x : Drafted). AreEnds x c.args.ends.now) (sym c.node-place.ensures.same) c.requires.ends;
       none = subst (λ (x : Drafted). NoneSooner c.args.ground.now.base x.gone (lines_now x) c.node-place.result) (sym c.node-place.ensures.same) here;
     }
 
@@ -39,6 +41,7 @@ loop-place-preserved c =
       same = same ∙ c.loop-place.invariant.same;
       quick = subst (λ (x : Drafted). IsQuick x c.args.reached.now dues) (sym r.ensures.same) c.in_ok-outcome.ensures.quick;
       safe = subst (IsSafe c.args.ground.now) (sym r.ensures.same) c.in_ok-outcome.ensures.safe;
+      ends = subst (λ (x : Drafted). AreEnds x c.change_if_due.new.ends) (sym r.ensures.same) c.in_ok-outcome.ensures.ends;
       none = subst (λ (x : Drafted). NoneSooner base x.gone (lines_now x) r.result) (sym same) none;
     }
 

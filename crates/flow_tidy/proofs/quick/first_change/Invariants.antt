@@ -1,5 +1,6 @@
 use Rattle.std.proofs.Common.{◌≡◌, ◌-◌}
 use Rattle.listing_draft.specs.Drafted.{lines_now}
+use Rattle.flow_tidy.specs.ChainEnds.{AreEnds}
 use Rattle.flow_tidy.specs.Quick.{IsQuick, IsSafe}
 use Rattle.flow_tidy.proofs.Quickly.{NoneSooner}
 use Rattle.flow_tidy.proofs.quick.first_change.Given as goal
@@ -9,6 +10,7 @@ invariant-loop-place l = record {
   same : l.draft ≡ l.fn.draft;
   quick : IsQuick l.draft l.reached l.due;
   safe : IsSafe l.ground l.draft;
+  ends : AreEnds l.draft l.ends;
   none : NoneSooner l.ground.base l.draft.gone (lines_now l.draft) l.place;
 }
 

@@ -9,6 +9,7 @@ use Rattle.listing_draft.specs.Drafted.{lines_now, name_in, stands, Drafted}
 use Rattle.flow_tidy.specs.Tidied.{GoesToEnd}
 use Rattle.flow_tidy.specs.Quick.{EndsAt, MayAim}
 use Rattle.flow_tidy.proofs.Draftings.{quick_aimed}
+use Rattle.flow_tidy.proofs.KnownEnds.{ends_stay}
 use Rattle.flow_tidy.proofs.Quickly.{soonest_end}
 use Rattle.flow_tidy.proofs.Safes.{safe_aimed}
 use Rattle.flow_tidy.proofs.quick.retarget.Goals as goal
@@ -43,3 +44,10 @@ returns-in-Some-clause-safe c =
     let d = c.args.draft.now in
     let is = found c.args.ground.now.base d c.args.place c.args.last c.in_ok-label.field-0 c.in-Some.label c.in-Some.is c.in_ok-label.ensures in
     safe_aimed c.args.ground.now d c.aim.new.self c.args.place c.in-Some.label.items c.requires.within c.requires.kept is.1 c.aim.ensures.given c.aim.ensures.gone c.aim.ensures.aims c.aim.ensures.lines c.requires.safe
+
+pub returns-in-Some-clause-ends : goal.returns-in-Some-clause-ends
+returns-in-Some-clause-ends c = λ known ends.
+    let d = c.args.draft.now in
+    let is = found c.args.ground.now.base d c.args.place c.args.last c.in_ok-label.field-0 c.in-Some.label c.in-Some.is c.in_ok-label.ensures in
+    let there = goes_there c.args.ground.now.base d c.args.place c.args.last c.in-Some.label.items c.requires.end is in
+    ends_stay d c.aim.new.self c.args.place c.in-Some.label.items known there c.aim.ensures.gone c.aim.ensures.lines ends
