@@ -43,6 +43,17 @@ branch_from code r q (Some (Op i (Some m))) e h k = on (is_branch i) refl h
 pub nowhere_next : (code : Code) (r : ℕ) → goes code r ≡ None → GoesToNext code r → ⊥
 nowhere_next code r e g = let no : None ≡ Some (r + 1) = sym e ∙ aim_is code r g.i g.mention g.stands g.branch ∙ g.next in absurd (cc)
 
+-- where no branch stands
+pub no_branch_next : (code : Code) (r : ℕ) → label_of_branch (slice_get code.places r) ≡ None → GoesToNext code r → ⊥
+no_branch_next code r e = nowhere_next code r (ap (option_and_then (place_of code)) e)
+
+pub no_branch_ends : (code : Code) (r : ℕ) → label_of_branch (slice_get code.places r) ≡ None → HasEnd code r → ⊥
+no_branch_ends code r e h =
+    let label : label_of_branch (slice_get code.places r) ≡ Some h.goes.mention.name =
+    ap label_of_branch h.goes.stands ∙ ap (λ (b : Bool). if b then Some h.goes.mention.name else None) h.goes.branch in
+    let no : None ≡ Some h.goes.mention.name = sym e ∙ label in
+    absurd (cc)
+
 pub is_next : (code : Code) (r q : ℕ) → goes code r ≡ Some q → (q ≡ r + 1) ↔ GoesToNext code r
 is_next code r q e = (
   λ k. branch_from code r q (slice_get code.places r) refl e k,

@@ -1,5 +1,5 @@
 //! What stands at the places of a draft. A place that is kept has its rank as its number in the lines now.
-ghost use Rattle.std.specs.Prelude.{◌≡◌, ◌<◌, ◌↔◌, true, false, length, option_and_then, option_map, IfSome, IsTrue};
+ghost use Rattle.std.specs.Prelude.{◌≡◌, ◌<◌, ◌↔◌, true, false, None, length, option_and_then, option_map, IfSome, IsTrue};
 ghost use Rattle.kept_places.specs.Marks.{is_gone, rank};
 ghost use Rattle.thumb_model.specs.Listing.{code_of, place_of};
 ghost use Rattle.code_flow.specs.Marks.{AreMarks};
@@ -53,6 +53,18 @@ pub(crate) fn hop(draft: &mut Draft, place: u32) -> Option<u32>
                 None
             }
         }
+    }
+}
+
+/// Whether a branch stands at a kept place, with a condition or without.
+pub(crate) fn is_branch_at(draft: &Draft, place: u32) -> bool
+    requires within { place < length draft.now.gone }
+    requires kept { is_gone draft.now.gone place ≡ false }
+    ensures { result ≡ false → label_of_branch (stands draft.now place) ≡ None }
+{
+    match draft.instr(place) {
+        None => false,
+        Some(instr) => is_branch(&instr),
     }
 }
 

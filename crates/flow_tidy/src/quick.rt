@@ -16,7 +16,7 @@ ghost use Rattle.flow_tidy.specs.Made.{change};
 ghost use Rattle.flow_tidy.specs.Quick.{left, EndsAt, IsOutcome, IsOutcomeAt, IsQuick, IsRedirected, IsSafe, IsSure, MayAim};
 
 use crate::chain_ends::{Ends, chain_end};
-use crate::drafted::{goes_to_next, is_idle, lets_on};
+use crate::drafted::{goes_to_next, is_branch_at, is_idle, lets_on};
 use crate::due::Due;
 use crate::ground::{Ground, is_beyond, reaches};
 use crate::limits::{is_short_branch, leave_room};
@@ -250,6 +250,9 @@ fn change_at(
     ensures safe { OnOk result (IsSafe ground.now draft.new) }
     ensures ends { OnOk result (AreEnds draft.new ends.new) }
 {
+    if !is_branch_at(draft, place) {
+        return Ok(change_idle(draft, due, ends, reached, ground, place, false));
+    }
     if goes_to_next(draft, place) {
         remove(draft, due, place);
         ends.forget();

@@ -136,13 +136,14 @@ pub fn tidy<L: Ledger>(
     ensures verdict { MatchResult result (λ _. Layable base listing) (IsRefusal base listing) }
     ensures cost { IfOk result (λ new. steps.new ≤ steps.old + tidying_cost listing new.changes) }
 {
-    let laid = layout(alloc, &listing, base)?;
-    let reached = reached(alloc, &listing, steps)?;
     if is_sure(alloc, &listing, base)? {
+        let reached = reached(alloc, &listing, steps)?;
         let ground = ground_of(alloc, &listing, base)?;
         let left = tidied_by_places(alloc, listing, &ground, &reached)?;
         return Ok(left);
     }
+    let laid = layout(alloc, &listing, base)?;
+    let reached = reached(alloc, &listing, steps)?;
     let marks = Marks::of(alloc, &reached, listing.place_count())?;
     let tidy = tidied(alloc, listing, laid, marks)?;
     Ok(tidy)

@@ -1,8 +1,21 @@
 use Rattle.std.proofs.Common.{inl}
+use Rattle.thumb_model.specs.Listing.{code_of}
+use Rattle.kept_places.specs.Marks.{rank}
+use Rattle.listing_draft.specs.Drafted.{lines_now}
+use Rattle.flow_tidy.proofs.Hopping.{no_branch_ends, no_branch_next}
 use Rattle.flow_tidy.proofs.Draftings.{left_same, next_left, quick_left, IsLeft}
 use Rattle.flow_tidy.proofs.Ending.{forgotten}
 use Rattle.flow_tidy.proofs.Safes.{safe_left}
 use Rattle.flow_tidy.proofs.quick.change_at.Goals as goal
+
+pub change_idle-requires-clause-later : goal.change_idle-requires-clause-later
+change_idle-requires-clause-later c = no_branch_next (code_of (lines_now c.args.draft.now)) (rank c.args.draft.now.gone c.args.place) (c.is_branch_at.ensures c.if-not-is_branch_at.true)
+
+pub change_idle-requires-clause-refused : goal.change_idle-requires-clause-refused
+change_idle-requires-clause-refused c = λ label p. no_branch_ends (code_of (lines_now c.args.draft.now)) (rank c.args.draft.now.gone c.args.place) (c.is_branch_at.ensures c.if-not-is_branch_at.true) (record { label = label; goes = p.cause })
+
+pub change_idle-requires-clause-end : goal.change_idle-requires-clause-end
+change_idle-requires-clause-end c = λ e. no_branch_ends (code_of (lines_now c.args.draft.now)) (rank c.args.draft.now.gone c.args.place) (c.is_branch_at.ensures c.if-not-is_branch_at.true)
 
 pub returns-then-goes_to_next-clause-outcome : goal.returns-then-goes_to_next-clause-outcome
 returns-then-goes_to_next-clause-outcome c =
