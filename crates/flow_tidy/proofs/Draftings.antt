@@ -1,21 +1,27 @@
--- What is known of a draft stays known while its instructions go.
-use Rattle.std.proofs.Common.{◌≡◌, ◌∙◌, ◌<◌, ℕ, zero, suc, Bool, true, false, List, [], ◌∷◌, length, replicate, ap, refl, subst, sym, arith}
+-- What is known of a draft stays known while its instructions go and its branches go elsewhere.
+use Rattle.std.proofs.Common.{◌≡◌, ◌∙◌, ◌<◌, ℕ, zero, suc, Bool, true, false, List, [], ◌∷◌, length, replicate, Some, ap, refl, subst, sym, arith}
 use Rattle.std.specs.Prelude.{slice_set}
-use Rattle.thumb_model.specs.Listing.{code_of, places_of, Line}
+use Rattle.thumb_model.specs.Listing.{code_of, places_of, Code, Line, Name}
 use Rattle.thumb_model.specs.ReplacedLines.{replaced_lines}
 use Rattle.code_flow.specs.Marks.{AreMarks}
 use Rattle.kept_places.specs.Marks.{is_gone, rank}
-use Rattle.listing_parser.specs.Parsing.{own_line}
+use Rattle.listing_parser.specs.Parsing.{line_mentioning, own_line}
+use Rattle.listing_parser.specs.Retargeting.{aimed_lines}
 use Rattle.listing_draft.specs.Drafted.{lines_now, unchanged, Drafted}
 use Rattle.listing_draft.proofs.Drafts.{set_length}
-use Rattle.flow_tidy.specs.Tidied.{GoesToNext, IsIdle}
-use Rattle.flow_tidy.specs.Due.{AreDue, HasEnd, IsCaused}
-use Rattle.flow_tidy.specs.Quick.{left, GoesSoonest, IsQuick}
+use Rattle.flow_tidy.specs.Made.{change}
+use Rattle.flow_tidy.specs.Tidied.{ToEnd, GoesToEnd, GoesToNext, IsIdle, IsPossible}
+use Rattle.flow_tidy.specs.Tidying.{setting}
+use Rattle.flow_tidy.specs.Due.{AreDue, IsCaused}
+use Rattle.flow_tidy.specs.Quick.{left, ChangesSoonest, IsQuick}
+use Rattle.flow_tidy.proofs.Aimed.{aimed_code, code_aimed}
 use Rattle.flow_tidy.proofs.Quickly.{code_goes, due_no_more, reached_left, soonest_idle, soonest_next}
-use Rattle.flow_tidy.proofs.Settled.{all_due, MayVanish}
+use Rattle.flow_tidy.proofs.Settled.{all_due, due_aimed, marks_aimed, MayVanish}
 
 -- what the code tells where an instruction goes at a kept place
 pub record IsLeft (d e : Drafted) (p : ℕ) (dues : List Bool) : Type 0 where
+  pub given : e.given ≡ d.given
+  pub aims : e.aims ≡ d.aims
   pub gone : e.gone ≡ slice_set d.gone p true
   pub lines : lines_now e ≡ replaced_lines own_line (rank d.gone p) 1 [] (lines_now d)
   pub many : length dues ≡ length e.gone
@@ -34,15 +40,25 @@ quick_left d e p marks dues new within kept goes q h = record {
   due = h.due;
 }
 
-pub next_left : (d e : Drafted) (p : ℕ) (dues : List Bool) → GoesToNext (code_of (lines_now d)) (rank d.gone p) → IsLeft d e p dues → GoesSoonest (lines_now d) (lines_now e) (rank d.gone p)
-next_left d e p dues g h = soonest_next (lines_now d) (lines_now e) (rank d.gone p) g h.lines
+pub next_left : (base : ℕ) (d e : Drafted) (p : ℕ) (dues : List Bool) → GoesToNext (code_of (lines_now d)) (rank d.gone p) → IsLeft d e p dues → ChangesSoonest base (lines_now d) (lines_now e) (rank d.gone p)
+next_left base d e p dues g h = soonest_next base (lines_now d) (lines_now e) (rank d.gone p) g h.lines
 
-pub idle_left : (d e : Drafted) (p : ℕ) (dues : List Bool) → (GoesToNext (code_of (lines_now d)) (rank d.gone p) → ⊥) → (HasEnd (code_of (lines_now d)) (rank d.gone p) → ⊥) → IsIdle (code_of (lines_now d)) (rank d.gone p) → IsLeft d e p dues
-    → GoesSoonest (lines_now d) (lines_now e) (rank d.gone p)
-idle_left d e p dues next end i h = soonest_idle (lines_now d) (lines_now e) (rank d.gone p) next end i h.lines
+pub idle_left : (base : ℕ) (d e : Drafted) (p : ℕ) (dues : List Bool) → (GoesToNext (code_of (lines_now d)) (rank d.gone p) → ⊥) → ((label : Name) → IsPossible (setting base) (change (rank d.gone p) (ToEnd label)) (lines_now d) → ⊥) → IsIdle (code_of (lines_now d)) (rank d.gone p)
+    → IsLeft d e p dues → ChangesSoonest base (lines_now d) (lines_now e) (rank d.gone p)
+idle_left base d e p dues next end i h = soonest_idle base (lines_now d) (lines_now e) (rank d.gone p) next end i h.lines
 
-pub same_quick : (d same : Drafted) (marks dues : List Bool) → same ≡ d → IsQuick d marks dues → IsQuick same marks dues
-same_quick d same marks dues f q = subst (λ (x : Drafted). IsQuick x marks dues) (sym f) q
+pub quick_aimed : (d e : Drafted) (p : ℕ) (label : Name) (marks dues : List Bool) → GoesToEnd (code_of (lines_now d)) (rank d.gone p) label → e.gone ≡ d.gone → lines_now e ≡ aimed_lines line_mentioning (rank d.gone p) label (lines_now d)
+    → IsQuick d marks dues → IsQuick e marks dues
+quick_aimed d e p label marks dues g gone lines q =
+    let r : ℕ = rank d.gone p in
+    let old : Code = code_of (lines_now d) in
+    let code : code_of (lines_now e) ≡ aimed_code r label old = ap code_of lines ∙ code_aimed line_mentioning label r (lines_now d) g.i (Some g.mention) g.stands in
+    record {
+      many = q.many ∙ ap length (sym gone);
+      all = q.all ∙ ap length (sym gone);
+      reached = subst (λ (gs : List Bool). AreMarks (code_of (lines_now e)) (left gs marks)) (sym gone) (subst (λ (c : Code). AreMarks c (left d.gone marks)) (sym code) (marks_aimed old r label (left d.gone marks) g q.reached));
+      due = subst (λ (gs : List Bool). AreDue (code_of (lines_now e)) (left gs dues)) (sym gone) (subst (λ (c : Code). AreDue c (left d.gone dues)) (sym code) (due_aimed old r label (left d.gone dues) g q.due));
+    }
 
 pub taken_quick : (d : Drafted) (p : ℕ) (marks dues new : List Bool) → is_gone d.gone p ≡ false → (IsCaused (code_of (lines_now d)) (rank d.gone p) → ⊥) → new ≡ slice_set dues p false → IsQuick d marks dues → IsQuick d marks new
 taken_quick d p marks dues new kept never e q = record {

@@ -1,5 +1,5 @@
 -- What stands at the kept places of a draft, by their ranks: branches to the next place, chains without an end, and what nothing reaches.
-use Rattle.std.proofs.Common.{◌≡◌, ◌↔◌, ◌∙◌, ℕ, zero, suc, ◌+◌, ◌<◌, ◌≤◌, Bool, true, false, not, List, Option, Some, None, refl, sym, ap, inl, inr, arith, if◌then◌else◌}
+use Rattle.std.proofs.Common.{◌≡◌, ◌↔◌, ◌∙◌, ℕ, suc, ◌+◌, ◌<◌, ◌≤◌, Bool, true, false, not, List, Option, Some, None, refl, sym, ap, inl, inr, arith, if◌then◌else◌}
 use Rattle.std.specs.Prelude.{option_and_then, is_some, slice_get}
 use Rattle.std.proofs.lemmas.Bool.{cases_lt}
 use Rattle.std.proofs.lemmas.Option.{same_Some}
@@ -11,7 +11,7 @@ use Rattle.kept_places.specs.Marks.{is_gone, rank, IsNode}
 use Rattle.kept_places.proofs.Ranks.{rank_kept, ranks_ascend, ranks_grow}
 use Rattle.listing_draft.specs.Drafted.{instr_in}
 use Rattle.listing_draft.proofs.Drafts.{node_rank}
-use Rattle.flow_tidy.specs.Chains.{HopsBy}
+use Rattle.flow_tidy.specs.Chains.{Hops}
 use Rattle.flow_tidy.specs.Tidied.{is_branch, GoesToNext, IsIdle}
 use Rattle.flow_tidy.specs.Due.{HasEnd}
 use Rattle.flow_tidy.specs.Made.{label_of_always, label_of_branch}
@@ -42,6 +42,17 @@ branch_from code r q (Some (Op i (Some m))) e h k = on (is_branch i) refl h
 
 pub nowhere_next : (code : Code) (r : ℕ) → goes code r ≡ None → GoesToNext code r → ⊥
 nowhere_next code r e g = let no : None ≡ Some (r + 1) = sym e ∙ aim_is code r g.i g.mention g.stands g.branch ∙ g.next in absurd (cc)
+
+-- where no branch stands
+pub no_branch_next : (code : Code) (r : ℕ) → label_of_branch (slice_get code.places r) ≡ None → GoesToNext code r → ⊥
+no_branch_next code r e = nowhere_next code r (ap (option_and_then (place_of code)) e)
+
+pub no_branch_ends : (code : Code) (r : ℕ) → label_of_branch (slice_get code.places r) ≡ None → HasEnd code r → ⊥
+no_branch_ends code r e h =
+    let label : label_of_branch (slice_get code.places r) ≡ Some h.goes.mention.name =
+    ap label_of_branch h.goes.stands ∙ ap (λ (b : Bool). if b then Some h.goes.mention.name else None) h.goes.branch in
+    let no : None ≡ Some h.goes.mention.name = sym e ∙ label in
+    absurd (cc)
 
 pub is_next : (code : Code) (r q : ℕ) → goes code r ≡ Some q → (q ≡ r + 1) ↔ GoesToNext code r
 is_next code r q e = (
@@ -75,48 +86,34 @@ not_before gone p t h e = let g = ranks_grow gone t p h in absurd (omega arith)
 
 -- ---- chains without an end ----
 
--- from a label before a branch to itself all hops stay there
-round : (code : Code) (q : ℕ) (via : Name) (i : Instr) (m : Mention) → slice_get code.places q ≡ Some (Op i (Some m)) → m.name ≡ via → place_of code via ≡ Some q → (n : ℕ) (from to : Name) → place_of code from ≡ Some q → HopsBy code n from to → place_of code to ≡ Some q
-round code q via i m e f l zero from to h k = ap (place_of code) (sym k) ∙ h
-round code q via i m e f l (suc n) from to h k =
-    let at : k.1.place ≡ q = same_Some k.1.place q (sym k.1.labelled ∙ h) in
-    let here : Op k.1.i (Some k.1.mention) ≡ Op i (Some m) = same_Some _ _ (sym k.1.stands ∙ ap (slice_get code.places) at ∙ e) in
-    let same : k.1.mention ≡ m = cc in
-    let next : k.0 ≡ via = sym k.1.named ∙ ap (λ (x : Mention). x.name) same ∙ f in
-    round code q via i m e f l n k.0 to (ap (place_of code) next ∙ l) k.2
+some_of : (o : Option ℕ) → is_some o ≡ true → (q : ℕ) × (o ≡ Some q)
+some_of None e = absurd (cc)
+some_of (Some q) e = (q, refl)
 
--- what the branch whose chain has an end goes to, and that goes on elsewhere
+-- a hop goes somewhere
+pub hop_goes : (code : Code) (from to : Name) (h : Hops code from to) → (q : ℕ) × (hops code h.place ≡ Some q)
+hop_goes code from to h =
+    let next = some_of (place_of code to) h.code_label in (
+      next.0,
+      ap (λ o. option_and_then (place_of code) (label_of_always o)) h.stands
+          ∙ ap (λ (b : Bool). option_and_then (place_of code) (if b then Some h.mention.name else None)) h.always
+          ∙ ap (place_of code) h.named
+          ∙ next.1,
+    )
+
+-- what the branch whose chain has an end goes to, and that goes on
 record GoesOn (code : Code) (r : ℕ) : Type 0 where
   pub first : ℕ
   pub goes : goes code r ≡ Some first
   pub second : ℕ
   pub hops : hops code first ≡ Some second
-  pub other : second ≡ first → ⊥
-
-some_of : (o : Option ℕ) → is_some o ≡ true → (q : ℕ) × (o ≡ Some q)
-some_of None e = absurd (cc)
-some_of (Some q) e = (q, refl)
 
 end_goes_on : (code : Code) (r : ℕ) → HasEnd code r → GoesOn code r
 end_goes_on code r h =
     let g = h.goes in
-    let via : Name = g.end.leads.0 in
     let hop = g.end.leads.1 in
-    let next = some_of (place_of code via) hop.code_label in
-    record {
-      first = hop.place;
-      goes = aim_is code r g.i (Some g.mention) g.stands g.branch ∙ hop.labelled;
-      second = next.0;
-      hops =
-          ap (λ o. option_and_then (place_of code) (label_of_always o)) hop.stands
-          ∙ ap (λ (b : Bool). option_and_then (place_of code) (if b then Some hop.mention.name else None)) hop.always
-          ∙ ap (place_of code) hop.named
-          ∙ next.1;
-      other = λ e.
-          let l : place_of code via ≡ Some hop.place = next.1 ∙ ap Some e in
-          let end = round code hop.place via hop.i hop.mention hop.stands hop.named l g.end.more via h.label l g.end.leads.2 in
-          g.end.stops via (record { place = hop.place; i = hop.i; mention = hop.mention; labelled = end; stands = hop.stands; always = hop.always; named = hop.named; code_label = hop.code_label });
-    }
+    let on = hop_goes code g.mention.name g.end.leads.0 hop in
+    record { first = hop.place; goes = aim_is code r g.i (Some g.mention) g.stands g.branch ∙ hop.labelled; second = on.0; hops = on.1 }
 
 pub nowhere_ends : (code : Code) (r : ℕ) → goes code r ≡ None → HasEnd code r → ⊥
 nowhere_ends code r e h = let g = end_goes_on code r h in let no : None ≡ Some g.first = sym e ∙ g.goes in absurd (cc)
@@ -127,12 +124,6 @@ stop_ends code r q e f h =
     let at : q ≡ g.first = same_Some q g.first (sym e ∙ g.goes) in
     let no : None ≡ Some g.second = sym f ∙ ap (hops code) at ∙ g.hops in
     absurd (cc)
-
-pub round_ends : (code : Code) (r q : ℕ) → goes code r ≡ Some q → hops code q ≡ Some q → HasEnd code r → ⊥
-round_ends code r q e f h =
-    let g = end_goes_on code r h in
-    let at : q ≡ g.first = same_Some q g.first (sym e ∙ g.goes) in
-    g.other (same_Some g.second g.first (sym g.hops ∙ ap (hops code) (sym at) ∙ f ∙ ap Some at))
 
 -- ---- what nothing reaches ----
 

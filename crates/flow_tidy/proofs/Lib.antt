@@ -19,6 +19,12 @@ pub mod Lefts
 pub mod Branches
 pub mod Rooms
 pub mod Hopping
+pub mod Ending
+pub mod KnownEnds
 pub mod Quickly
 pub mod Handing
 pub mod Draftings
+pub mod Wholes
+pub mod Safes
+pub mod Grounds
+pub mod Halves

@@ -1,10 +1,10 @@
--- Tidying by places that stay: what is known of a draft when an instruction goes, and that what goes is the first change.
-use Rattle.std.proofs.Common.{◌≡◌, ◌∙◌, inl, inr, ℕ, zero, suc, ◌+◌, ◌<◌, ◌≤◌, Bool, true, false, List, [], ◌∷◌, length, replicate, Some, refl, sym, ap, subst, arith}
+-- Tidying by places that stay: what is known of a draft when an instruction goes, and that a change that is made is the first.
+use Rattle.std.proofs.Common.{◌≡◌, ◌∙◌, inl, inr, ℕ, zero, suc, ◌+◌, ◌-◌, ◌<◌, ◌≤◌, Bool, true, false, List, [], ◌∷◌, length, replicate, Some, refl, sym, ap, subst, arith}
 use Rattle.std.specs.Prelude.{slice_get, slice_set}
 use Rattle.std.specs.List.{remove}
 use Rattle.std.proofs.lemmas.Bool.{cases_Bool, cases_eq, cases_lt}
 use Rattle.std.proofs.lemmas.Option.{slice_get_within}
-use Rattle.thumb_model.specs.Listing.{Line, Code, code_of, is_op_place}
+use Rattle.thumb_model.specs.Listing.{Name, Line, Code, code_of, is_op_place, places_of}
 use Rattle.thumb_model.specs.Layout.{Layable}
 use Rattle.thumb_model.specs.Replaced.{replaced}
 use Rattle.thumb_model.specs.ReplacedLines.{replaced_lines}
@@ -12,14 +12,16 @@ use Rattle.code_flow.specs.Marks.{AreMarks}
 use Rattle.kept_places.specs.Marks.{is_gone, rank, IsNode}
 use Rattle.kept_places.proofs.Ranks.{marked_other, marked_set, rank_gone, rank_kept, rank_set_before, ranks_grow}
 use Rattle.listing_parser.specs.Grammar.{longest_line, most_lines}
-use Rattle.listing_parser.specs.Parsing.{own_line}
+use Rattle.listing_parser.specs.Parsing.{line_mentioning, own_line}
+use Rattle.listing_parser.specs.Retargeting.{aimed_lines}
 use Rattle.listing_draft.proofs.Drafts.{node_rank, set_length}
 use Rattle.steady_layout.specs.Steady.{IsSteady}
 use Rattle.steady_layout.proofs.Cuts.{cut_op}
 use Rattle.steady_layout.proofs.Laws.{cut_stays, steady_is_layable}
-use Rattle.flow_tidy.specs.Tidied.{Cause, ToNext, ToEnd, Idle, GoesToNext, IsIdle, HasCause, NonePossible, lines_by, rank as turn}
+use Rattle.flow_tidy.specs.Tidied.{Cause, ToNext, ToEnd, Idle, GoesToNext, GoesToEnd, IsIdle, HasCause, IsPossible, NonePossible, lines_by, rank as turn}
 use Rattle.flow_tidy.specs.Due.{before_is_due, lets_on, AreDue, HasEnd, IsCaused, IsLeast, IsNextAt}
-use Rattle.flow_tidy.specs.Quick.{left, GoesSoonest, HaveRoom, IsSure}
+use Rattle.flow_tidy.specs.Made.{change}
+use Rattle.flow_tidy.specs.Quick.{left, ChangesSoonest, HaveRoom, IsSure, NoneAt}
 use Rattle.flow_tidy.specs.Tidying.{setting}
 use Rattle.flow_tidy.proofs.Lefts.{left_all, left_as_many, left_at, left_free, left_gone, left_set, left_unset}
 use Rattle.flow_tidy.proofs.Lines.{without_one}
@@ -93,39 +95,51 @@ not_due gone due p code e a kept c =
     let no : Some false ≡ Some true = sym e ∙ sym (left_at gone due p kept) ∙ a.each (rank gone p) c in
     absurd (cc)
 
--- ---- the first place with a cause ----
+-- ---- the first place at which a change is possible ----
 
--- no change has its cause at a kept place before
-abbrev pub NoneSooner : List Bool → Code → ℕ → Type 0
-NoneSooner gone code p = (k : ℕ) → k < rank gone p → IsCaused code k → ⊥
+-- none is at a kept place before
+abbrev pub NoneSooner : ℕ → List Bool → List Line → ℕ → Type 0
+NoneSooner base gone ls p = (k : ℕ) → k < rank gone p → NoneAt base ls k
 
-pub none_least : (gone due : List Bool) (code : Code) (p : ℕ) → AreDue code (left gone due) → IsLeast due p → NoneSooner gone code p
-none_least gone due code p a l = λ k lt c. left_free gone due p l.free k lt (a.each k c)
+pub none_least : (base : ℕ) (gone due : List Bool) (ls : List Line) (p : ℕ) → AreDue (code_of ls) (left gone due) → IsLeast due p → NoneSooner base gone ls p
+none_least base gone due ls p a l = λ k lt o q. left_free gone due p l.free k lt (a.each k (record { cause = o; is = q.cause }))
 
-pub none_further : (gone : List Bool) (code : Code) (p : ℕ) → NoneSooner gone code p → (is_gone gone p ≡ false → IsCaused code (rank gone p) → ⊥) → NoneSooner gone code (p + 1)
-none_further gone code p h never = λ k lt c. elim (cases_Bool (is_gone gone p)) [
+pub none_further : (base : ℕ) (gone : List Bool) (ls : List Line) (p : ℕ) → NoneSooner base gone ls p → (is_gone gone p ≡ false → NoneAt base ls (rank gone p)) → NoneSooner base gone ls (p + 1)
+none_further base gone ls p h never = λ k lt o q. elim (cases_Bool (is_gone gone p)) [
   | inl g ↦ (
       let r : rank gone (p + 1) ≡ rank gone p = ap (rank gone) (let e : p + 1 ≡ suc p = omega arith in e) ∙ rank_gone gone p g in
-      h k (omega arith) c)
+      h k (omega arith) o q)
   | inr g ↦ (
       let r : rank gone (p + 1) ≡ suc (rank gone p) = ap (rank gone) (let e : p + 1 ≡ suc p = omega arith in e) ∙ rank_kept gone p g in
       elim (cases_eq k (rank gone p)) [
-        | inl same ↦ never g (subst (IsCaused code) same c)
-        | inr ne ↦ h k (omega arith) c
+        | inl same ↦ never g o (subst (λ n. IsPossible (setting base) (change n o) ls) same q)
+        | inr ne ↦ h k (omega arith) o q
       ])
 ]
 
 -- up to the next kept place there is no other
-pub none_up_to : (gone : List Bool) (code : Code) (p q : ℕ) → IsNode gone p q → NoneSooner gone code p → NoneSooner gone code q
-none_up_to gone code p q n h = λ k lt c. h k (let r = node_rank gone p q n in omega arith) c
+pub none_up_to : (base : ℕ) (gone : List Bool) (ls : List Line) (p q : ℕ) → IsNode gone p q → NoneSooner base gone ls p → NoneSooner base gone ls q
+none_up_to base gone ls p q n h = λ k lt. h k (let r = node_rank gone p q n in omega arith)
+
+-- and none is possible at places that aren't due
+none_free_by : (n : ℕ) (base : ℕ) (gone due : List Bool) (ls : List Line) (p q : ℕ) → q ≡ n + p → AreDue (code_of ls) (left gone due) → ((k : ℕ) → p ≤ k → k < q → slice_get due k ≡ Some true → ⊥) → NoneSooner base gone ls p → NoneSooner base gone ls q
+none_free_by zero base gone due ls p q e a free h = subst (NoneSooner base gone ls) (let z : p ≡ q = omega arith in z) h
+none_free_by (suc n) base gone due ls p zero e a free h = absurd (omega arith)
+none_free_by (suc n) base gone due ls p (suc q) e a free h =
+    let before = none_free_by n base gone due ls p q (omega arith) a (λ k l m. free k l (omega arith)) h in
+    subst (NoneSooner base gone ls) (let z : q + 1 ≡ suc q = omega arith in z)
+    (none_further base gone ls q before (λ kept o c. free q (omega arith) (omega arith) (sym (left_at gone due q kept) ∙ a.each (rank gone q) (record { cause = o; is = c.cause }))))
+
+pub none_free : (base : ℕ) (gone due : List Bool) (ls : List Line) (p q : ℕ) → p ≤ q → AreDue (code_of ls) (left gone due) → ((k : ℕ) → p ≤ k → k < q → slice_get due k ≡ Some true → ⊥) → NoneSooner base gone ls p → NoneSooner base gone ls q
+none_free base gone due ls p q e = none_free_by (q - p) base gone due ls p q (omega arith)
 
 -- as many are left as places
-pub none_left : (gone due : List Bool) (code : Code) (p : ℕ) → length due ≡ length gone → length gone ≤ p → AreDue code (left gone due) → NoneSooner gone code p → (r : ℕ) → IsCaused code r → ⊥
-none_left gone due code p e f a h = λ r c.
-    let w = slice_get_within (left gone due) r true (a.each r c) in
+pub none_left : (base : ℕ) (gone due : List Bool) (ls : List Line) (p : ℕ) → length due ≡ length gone → length gone ≤ p → AreDue (code_of ls) (left gone due) → NoneSooner base gone ls p → (r : ℕ) → NoneAt base ls r
+none_left base gone due ls p e f a h = λ r o q.
+    let w = slice_get_within (left gone due) r true (a.each r (record { cause = o; is = q.cause })) in
     let m = left_few gone due e in
     let g = ranks_grow gone (length gone) p f in
-    h r (omega arith) c
+    h r (omega arith) o q
   where
     left_few : (gone due : List Bool) → length due ≡ length gone → length (left gone due) ≤ rank gone (length gone)
     left_few [] [] e = omega arith
@@ -136,15 +150,23 @@ none_left gone due code p e f a h = λ r c.
 
 -- ---- the first change ----
 
-pub soonest_next : (ls new : List Line) (r : ℕ) → GoesToNext (code_of ls) r → new ≡ replaced_lines own_line r 1 [] ls → GoesSoonest ls new r
-soonest_next ls new r g e = record { cause = ToNext; has = g; soonest = λ o h. omega arith; op = ap is_op_place g.stands; cut = e; lines = λ base. e ∙ without_one base r ls }
+pub soonest_next : (base : ℕ) (ls new : List Line) (r : ℕ) → GoesToNext (code_of ls) r → new ≡ replaced_lines own_line r 1 [] ls → ChangesSoonest base ls new r
+soonest_next base ls new r g e = record { cause = ToNext; has = g; soonest = λ o h. omega arith; lines = e ∙ without_one base r ls }
 
-pub soonest_idle : (ls new : List Line) (r : ℕ) → (GoesToNext (code_of ls) r → ⊥) → (HasEnd (code_of ls) r → ⊥) → IsIdle (code_of ls) r → new ≡ replaced_lines own_line r 1 [] ls → GoesSoonest ls new r
-soonest_idle ls new r next end i e = record { cause = Idle; has = i; soonest = later; op = ap is_op_place i.stands; cut = e; lines = λ base. e ∙ without_one base r ls }
+pub soonest_end : (base : ℕ) (ls new : List Line) (r : ℕ) (label : Name) → (GoesToNext (code_of ls) r → ⊥) → GoesToEnd (code_of ls) r label → new ≡ aimed_lines line_mentioning r label ls → ChangesSoonest base ls new r
+soonest_end base ls new r label next g e = record { cause = ToEnd label; has = g; soonest = later; lines = e }
   where
-    later : (o : Cause) → HasCause (code_of ls) r o → turn Idle ≤ turn o
-    later ToNext h = absurd (next h)
-    later (ToEnd label) h = absurd (end (record { label = label; goes = h }))
+    later : (o : Cause) → IsPossible (setting base) (change r o) ls → turn (ToEnd label) ≤ turn o
+    later ToNext h = absurd (next h.cause)
+    later (ToEnd other) h = omega arith
+    later Idle h = omega arith
+
+pub soonest_idle : (base : ℕ) (ls new : List Line) (r : ℕ) → (GoesToNext (code_of ls) r → ⊥) → ((label : Name) → IsPossible (setting base) (change r (ToEnd label)) ls → ⊥) → IsIdle (code_of ls) r → new ≡ replaced_lines own_line r 1 [] ls → ChangesSoonest base ls new r
+soonest_idle base ls new r next end i e = record { cause = Idle; has = i; soonest = later; lines = e ∙ without_one base r ls }
+  where
+    later : (o : Cause) → IsPossible (setting base) (change r o) ls → turn Idle ≤ turn o
+    later ToNext h = absurd (next h.cause)
+    later (ToEnd label) h = absurd (end label h)
     later Idle h = omega arith
 
 pub no_cause : (code : Code) (r : ℕ) → (GoesToNext code r → ⊥) → (HasEnd code r → ⊥) → (IsIdle code r → ⊥) → IsCaused code r → ⊥
@@ -155,23 +177,21 @@ no_cause code r next end idle c = by c.cause c.is
     by (ToEnd label) h = end (record { label = label; goes = h })
     by Idle h = idle h
 
--- lines that surely can be laid out stay so
-pub still_sure : (base : ℕ) (ls new : List Line) (r : ℕ) → GoesSoonest ls new r → IsSure base ls → IsSure base new
-still_sure base ls new r g s = record {
+-- lines that surely can be laid out stay so when an instruction goes
+pub still_sure : (base : ℕ) (ls new : List Line) (r : ℕ) → is_op_place (slice_get (places_of ls) r) ≡ true → new ≡ replaced_lines own_line r 1 [] ls → IsSure base ls → IsSure base new
+still_sure base ls new r op e s = record {
   whole_words = s.whole_words;
-  steady = subst (IsSteady base) (sym g.cut) (cut_stays base ls (replaced_lines own_line r 1 [] ls) (cut_op own_line ls r g.op) s.steady);
-  room = subst (HaveRoom most_lines longest_line) (sym g.cut) (have_left most_lines longest_line own_line r ls s.room);
+  steady = subst (IsSteady base) (sym e) (cut_stays base ls (replaced_lines own_line r 1 [] ls) (cut_op own_line ls r op) s.steady);
+  room = subst (HaveRoom most_lines longest_line) (sym e) (have_left most_lines longest_line own_line r ls s.room);
 }
 
 pub sure_layable : (base : ℕ) (ls : List Line) → IsSure base ls → Layable base ls
 sure_layable base ls s = steady_is_layable base ls s.whole_words s.steady
 
--- so what goes is the first change
-pub goes_first : (base : ℕ) (ls new : List Line) (r : ℕ) → GoesSoonest ls new r → ((k : ℕ) → k < r → IsCaused (code_of ls) k → ⊥) → IsSure base ls → IsNextAt (setting base) r ls new
-goes_first base ls new r g none s =
-    let sure = still_sure base ls new r g s in
-    let to : new ≡ lines_by (setting base) r g.cause ls = g.lines base in
-    let fits : IsSure base (lines_by (setting base) r g.cause ls) = subst (IsSure base) to sure in
+-- a change that leaves sure lines is the first one, where none is possible before
+pub goes_first : (base : ℕ) (ls new : List Line) (r : ℕ) → ChangesSoonest base ls new r → ((k : ℕ) → k < r → NoneAt base ls k) → IsSure base new → IsNextAt (setting base) r ls new
+goes_first base ls new r g none sure =
+    let fits : IsSure base (lines_by (setting base) r g.cause ls) = subst (IsSure base) g.lines sure in
     record {
       cause = g.cause;
       first = record {
@@ -183,13 +203,13 @@ goes_first base ls new r g none s =
           short = λ k l e. get_short longest_line (lines_by (setting base) r g.cause ls) k l fits.room.short e;
         };
         least_place = λ o q. elim (cases_lt o.place r) [
-          | inl lt ↦ absurd (none o.place lt (record { cause = o.cause; is = q.cause }))
+          | inl lt ↦ absurd (none o.place lt o.cause q)
           | inr ge ↦ ge
         ];
-        soonest = λ o q e. g.soonest o.cause (subst (λ n. HasCause (code_of ls) n o.cause) e q.cause);
+        soonest = λ o q e. g.soonest o.cause (subst (λ n. IsPossible (setting base) (change n o.cause) ls) e q);
       };
-      lines = to;
+      lines = g.lines;
     }
 
-pub none_possible : (s : ℕ) (ls : List Line) → ((r : ℕ) → IsCaused (code_of ls) r → ⊥) → NonePossible (setting s) ls
-none_possible s ls h = λ o q. h o.place (record { cause = o.cause; is = q.cause })
+pub none_possible : (base : ℕ) (ls : List Line) → ((r : ℕ) → NoneAt base ls r) → NonePossible (setting base) ls
+none_possible base ls h = λ o q. h o.place o.cause q

@@ -1,17 +1,19 @@
--- Lines that have room stay few and short when an instruction goes.
-use Rattle.std.proofs.Common.{◌≡◌, ℕ, zero, suc, ◌+◌, ◌-◌, ◌≤◌, ◌==◌, ◌&&◌, Bool, true, false, List, [], ◌∷◌, ◌++◌, length, map, take, Some, refl, sym, ap, subst, inl, inr, arith, if◌then◌else◌}
+-- Lines that have room stay few and short when an instruction goes or a branch goes elsewhere.
+use Rattle.std.proofs.Common.{◌≡◌, ◌∙◌, ℕ, zero, suc, ◌+◌, ◌-◌, ◌≤◌, ◌==◌, ◌&&◌, Bool, true, false, List, [], ◌∷◌, ◌++◌, length, map, take, Option, Some, refl, sym, ap, subst, inl, inr, arith, ne_eqb, if◌then◌else◌}
 use Rattle.std.specs.Prelude.{slice_get}
 use Rattle.std.proofs.lemmas.Bool.{cases_Bool}
 use Rattle.std.proofs.lemmas.Option.{same_Some}
 use Rattle.thumb_instr.specs.declared.instr.Instr.{Instr}
-use Rattle.thumb_model.specs.Listing.{Name, Line, places_in}
+use Rattle.thumb_model.specs.Listing.{Name, Mention, Statement, Runs, Words, Line, Op, places_in, places_of}
 use Rattle.thumb_model.specs.ReplacedLines.{is_op, labels_kept, replaced_lines, without}
 use Rattle.listing_parser.specs.declared.line.Line.{Line as Lines}
 use Rattle.listing_parser.specs.Grammar.{front_of}
+use Rattle.listing_parser.specs.Retargeting.{aimed, aimed_line, aimed_lines, own_bytes}
 use Rattle.listing_parser.specs.Views.{line_view, names_view}
 use Rattle.flow_tidy.specs.Tidied.{line_length}
 use Rattle.flow_tidy.specs.Made.{AreShort}
 use Rattle.flow_tidy.specs.Quick.{counts_for, room_taken, some_name, AllShort, HaveRoom}
+use Rattle.flow_tidy.proofs.Aimed.{past_words, to_label}
 
 pub get_short : (longest : ℕ) (ls : List Line) (k : ℕ) (l : Line) → AllShort longest ls → slice_get ls k ≡ Some l → line_length l.text ≤ longest
 get_short longest [] k l h e = absurd (cc)
@@ -69,6 +71,54 @@ short_left longest write p (l ∷ ls) h = elim (cases_Bool (is_op l.statement &&
 
 pub have_left : (most longest : ℕ) (write : Instr → List ℕ) (p : ℕ) (ls : List Line) → HaveRoom most longest ls → HaveRoom most longest (replaced_lines write p 1 [] ls)
 have_left most longest write p ls h = record { few = let r = room_left write p ls in let f = h.few in omega arith; short = short_left longest write p ls h.short }
+
+-- ---- a branch that goes elsewhere ----
+
+bare_one : (b : Bool) → one_or_two (b && false) ≡ 1
+bare_one true = refl
+bare_one false = refl
+
+turned_room : (l : Line) (ns : List Name) (x : Line) (rest : List Line) → counts_for x ≡ 1 → room_taken (labels_kept l ns ++ (x ∷ rest)) ≤ one_or_two (some_name ns) + room_taken rest
+turned_room l [] x rest e = omega arith
+turned_room l (n ∷ ns) x rest e = omega arith
+
+room_aimed : (write : Instr → Option Mention → List ℕ) (to : Name) (p : ℕ) (ls : List Line) → room_taken (aimed_lines write p to ls) ≤ room_taken ls
+room_aimed write to p [] = omega arith
+room_aimed write to p (l ∷ ls) = elim (cases_Bool (is_op l.statement && (p == 0))) [
+  | inl h ↦ rw h (
+      let t = turned_room l l.names (aimed_line write to l) ls (bare_one (is_op (aimed to l.statement))) in
+      let o = only_op (is_op l.statement) (p == 0) (some_name l.names) h in
+      omega arith)
+  | inr h ↦ rw h (let r = room_aimed write to (p - length (places_in l.statement)) ls in omega arith)
+]
+
+module _ (longest : ℕ) (write : Instr → Option Mention → List ℕ) (to : Name) (i : Instr) (m : Option Mention) (short : line_length (write i (Some (to_label to))) ≤ longest) where
+  abbrev ShortRec : List Line → Type 0
+  ShortRec ls = (p : ℕ) → slice_get (places_of ls) p ≡ Some (Op i m) → AllShort longest ls → AllShort longest (aimed_lines write p to ls)
+
+  short_behind : (l : Line) (s : Statement) (ls : List Line) (p q : ℕ) → ShortRec ls → p ≡ length (places_in s) + q → slice_get (places_of ls) q ≡ Some (Op i m) → AllShort longest (l ∷ ls) → AllShort longest (l ∷ aimed_lines write (p - length (places_in s)) to ls)
+  short_behind l s ls p q rec e f h = (h.0, h.1, subst (λ n. AllShort longest (aimed_lines write n to ls)) (let z : q ≡ p - length (places_in s) = omega arith in z) (rec q f h.2))
+
+  short_step : (l : Line) (s : Statement) (ls : List Line) (p : ℕ) → l.statement ≡ s → ShortRec ls → slice_get (places_in s ++ places_of ls) p ≡ Some (Op i m) → AllShort longest (l ∷ ls)
+      → AllShort longest (if is_op s && (p == 0) then labels_kept l l.names ++ (aimed_line write to l ∷ ls) else l ∷ aimed_lines write (p - length (places_in s)) to ls)
+  short_step l (Words vs) ls p e rec f h = let r = past_words vs (places_of ls) p i m f in short_behind l (Words vs) ls p r.0 rec r.1 r.2 h
+  short_step l (Runs j k) ls zero e rec f h =
+      let same : Op j k ≡ Op i m = same_Some (Op j k) (Op i m) f in
+      let is : j ≡ i = cc in
+      let text : own_bytes write (aimed to l.statement) ≡ write i (Some (to_label to)) = ap (λ (s : Statement). own_bytes write (aimed to s)) e ∙ ap (λ (x : Instr). write x (Some (to_label to))) is in
+      kept_short longest l l.names (aimed_line write to l ∷ ls) h.1 (subst (λ (bs : List ℕ). line_length bs ≤ longest) (sym text) short, omega arith, h.2)
+  short_step l (Runs j k) ls (suc p) e rec f h =
+      subst (λ b. AllShort longest (if b then labels_kept l l.names ++ (aimed_line write to l ∷ ls) else l ∷ aimed_lines write (suc p - 1) to ls)) (sym (ne_eqb (suc p) 0 (λ z. absurd (omega arith))))
+      (short_behind l (Runs j k) ls (suc p) p rec (omega arith) f h)
+  short_step l s ls p e rec f h = short_behind l s ls p p rec (omega arith) f h
+
+  short_aimed : (ls : List Line) → ShortRec ls
+  short_aimed [] p f h = h
+  short_aimed (l ∷ ls) p f h = short_step l l.statement ls p refl (short_aimed ls) f h
+
+pub have_aimed : (most longest : ℕ) (write : Instr → Option Mention → List ℕ) (to : Name) (p : ℕ) (ls : List Line) (i : Instr) (m : Option Mention) → slice_get (places_of ls) p ≡ Some (Op i m) → line_length (write i (Some (to_label to))) ≤ longest
+    → HaveRoom most longest ls → HaveRoom most longest (aimed_lines write p to ls)
+have_aimed most longest write to p ls i m e s h = record { few = let r = room_aimed write to p ls in let f = h.few in omega arith; short = short_aimed longest write to i m s ls p e h.short }
 
 -- ---- lines as they are read ----
 

@@ -6,7 +6,7 @@ use Rattle.std.proofs.lemmas.Bool.{cases_eq, cases_lt}
 use Rattle.std.proofs.lemmas.List.Edits.{length-remove}
 use Rattle.std.proofs.lemmas.Option.{slice_get_within}
 use Rattle.thumb_instr.specs.declared.instr.Instr.{Instr}
-use Rattle.thumb_model.specs.Listing.{Mention, Op, Line, Code, code_of, places_of}
+use Rattle.thumb_model.specs.Listing.{Name, Mention, Op, Line, Code, code_of, places_of}
 use Rattle.thumb_model.specs.Layout.{Layable}
 use Rattle.thumb_model.specs.Replaced.{moved, replaced}
 use Rattle.thumb_model.proofs.Lists.{get_back, get_drop, get_front, get_take, take_all}
@@ -144,6 +144,24 @@ marks_left code p marks m a =
           (λ h. reached_forth code p m o.0 (says.0 h), λ h. says.1 (reached_back code p m (moved p 1 o.0) h o.0 refl o.1));
     }
 
+-- ---- a branch that goes elsewhere ----
+
+-- what is reached and due stays
+pub marks_aimed : (code : Code) (p : ℕ) (label : Name) (marks : List Bool) → GoesToEnd code p label → AreMarks code marks → AreMarks (aimed_code p label code) marks
+marks_aimed code p label marks g a = record {
+  len = a.len ∙ sym (same_length p label code.places);
+  says = λ q mark e. let says = a.says q mark e in let same = reached_same code p label g q in (λ t. same.0 (says.0 t), λ r. says.1 (same.1 r));
+}
+
+pub due_aimed : (code : Code) (p : ℕ) (label : Name) (due : List Bool) → GoesToEnd code p label → AreDue code due → AreDue (aimed_code p label code) due
+due_aimed code p label due g d = record {
+  len = d.len ∙ sym (same_length p label code.places);
+  each = λ q c. elim (cases_eq q p) [
+    | inl same ↦ d.each q (record { cause = ToEnd label; is = subst (λ x. GoesToEnd code x label) (sym same) g })
+    | inr ne ↦ d.each q (aimed_caused code p label g q c.cause ne c.is)
+  ];
+}
+
 -- ---- changes ----
 
 abbrev pub MayVanish : Code → ℕ → Type 0
@@ -188,18 +206,8 @@ known_aimed s p ls new laid reached due base n more k = by n.cause n.first.possi
     by Idle h e = absurd (less h.i h.mention h.stands e)
     by (ToEnd label) h e =
         let code : code_of new ≡ aimed_code p label (code_of ls) = ap code_of e ∙ code_aimed s.write label p ls h.i (Some h.mention) h.stands in
-        let places : length (aimed_code p label (code_of ls)).places ≡ length (places_of ls) = same_length p label (places_of ls) in
-        let marks : AreMarks (aimed_code p label (code_of ls)) reached = record {
-          len = k.reached.len ∙ sym places;
-          says = λ q mark f. let says = k.reached.says q mark f in let same = reached_same (code_of ls) p label h q in (λ t. same.0 (says.0 t), λ r. says.1 (same.1 r));
-        } in
-        let all : AreDue (aimed_code p label (code_of ls)) due = record {
-          len = k.due.len ∙ sym places;
-          each = λ q c. elim (cases_eq q p) [
-            | inl same ↦ k.due.each q (record { cause = ToEnd label; is = subst (λ x. GoesToEnd (code_of ls) x label) (sym same) h })
-            | inr ne ↦ k.due.each q (aimed_caused (code_of ls) p label h q c.cause ne c.is)
-          ];
-        } in
+        let marks = marks_aimed (code_of ls) p label reached h k.reached in
+        let all = due_aimed (code_of ls) p label due h k.due in
         record {
           laid = subst (λ (l : List Line). AreAddresses l laid) (sym e) (addresses_stay s.write label p ls laid k.laid);
           layable = subst (λ b. Layable b new) (sym base) (subst (Layable s.base) (sym n.lines) n.first.possible.layable);

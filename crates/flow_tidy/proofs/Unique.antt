@@ -34,7 +34,7 @@ end_same code from a b h k = ends_same code (suc h.more) (suc k.more) from a b h
 
 -- ---- the first change ----
 
-label_same : (code : Code) (p : ℕ) (a b : Name) → GoesToEnd code p a → GoesToEnd code p b → a ≡ b
+pub label_same : (code : Code) (p : ℕ) (a b : Name) → GoesToEnd code p a → GoesToEnd code p b → a ≡ b
 label_same code p a b h k =
     let here : Op h.i (Some h.mention) ≡ Op k.i (Some k.mention) = same_Some _ _ (sym h.stands ∙ k.stands) in
     end_same code h.mention.name a b h.end (subst (λ (x : Name). IsEnd code x b) (sym (same_mention _ _ _ _ here)) k.end)

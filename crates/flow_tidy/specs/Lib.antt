@@ -5,4 +5,7 @@ pub mod Worked
 pub mod Tidying
 pub mod Made
 pub mod Due
+pub mod Halves
+pub mod Ground
 pub mod Quick
+pub mod ChainEnds

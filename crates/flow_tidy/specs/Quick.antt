@@ -1,18 +1,26 @@
--- Tidying by places that stay, as far as instructions go and no chain has an end.
-use Rattle.std.specs.Prelude.{◌≡◌, ℕ, ◌+◌, ◌%◌, ◌<◌, ◌≤◌, ◌&&◌, Bool, true, false, List, [], ◌∷◌, length, slice_get, if◌then◌else◌}
-use Rattle.thumb_model.specs.Listing.{Name, Line, code_of, is_op_place, places_of}
-use Rattle.thumb_model.specs.ReplacedLines.{is_op, replaced_lines}
+-- Tidying by places that stay, as far as each change surely can be made.
+use Rattle.std.specs.Prelude.{◌≡◌, ℕ, ◌+◌, ◌%◌, ◌<◌, ◌≤◌, ◌&&◌, Bool, true, false, List, [], ◌∷◌, length, Some, slice_get, if◌then◌else◌}
+use Rattle.thumb_instr.specs.declared.instr.Instr.{Instr}
+use Rattle.thumb_model.specs.Listing.{Name, Line, code_of, places_of}
+use Rattle.thumb_model.specs.ReplacedLines.{is_op}
 use Rattle.code_flow.specs.Marks.{AreMarks}
 use Rattle.kept_places.specs.Marks.{is_gone, rank}
-use Rattle.listing_draft.specs.Drafted.{Drafted, lines_now}
+use Rattle.listing_draft.specs.Drafted.{Drafted, instr_in, lines_now, name_in, now_of, stands}
+use Rattle.listing_draft.specs.Held.{IsDraft}
 use Rattle.listing_parser.specs.Grammar.{longest_line, most_lines}
-use Rattle.listing_parser.specs.Parsing.{own_line}
+use Rattle.listing_parser.specs.Parsing.{line_mentioning}
 use Rattle.steady_layout.specs.Steady.{IsSteady}
+use Rattle.flow_tidy.specs.declared.ground.Ground.{Ground}
 use Rattle.flow_tidy.specs.declared.outcome.Outcome.{Outcome}
 use Rattle.flow_tidy.specs.declared.outcome.Outcome.TheVariants as outcome
-use Rattle.flow_tidy.specs.Tidied.{line_length, lines_by, rank as turn, Cause, HasCause}
+use Rattle.flow_tidy.specs.declared.outcome.Redirected.{Redirected}
+use Rattle.flow_tidy.specs.declared.outcome.Redirected.TheVariants as redirected
+use Rattle.flow_tidy.specs.Tidied.{line_length, lines_by, rank as turn, Cause, ToEnd, GoesToEnd, HasCause, IsPossible}
 use Rattle.flow_tidy.specs.Tidying.{setting}
-use Rattle.flow_tidy.specs.Due.{AreDue, IsCaused}
+use Rattle.flow_tidy.specs.Due.{AreDue, HasEnd}
+use Rattle.flow_tidy.specs.Halves.{wide_of}
+use Rattle.flow_tidy.specs.Made.{change}
+use Rattle.flow_tidy.specs.Ground.{IsGround, IsSteadyTo}
 
 -- of marks of all places, those of the places that are kept
 abbrev pub left : List Bool → List Bool → List Bool
@@ -60,23 +68,61 @@ pub record IsQuick (d : Drafted) (marks dues : List Bool) : Type 0 where
   pub reached : AreMarks (code_of (lines_now d)) (left d.gone marks)
   pub due : AreDue (code_of (lines_now d)) (left d.gone dues)
 
--- the instruction at a place of lines goes, for the cause that is tried soonest there
-pub record GoesSoonest (ls new : List Line) (r : ℕ) : Type 0 where
+-- the lines with none of the instructions gone
+abbrev pub whole : Drafted → List Line
+whole d = now_of [] d.aims d.given
+
+-- what stays while changes are made: the lines now are sure, those with none of the instructions gone are steady, the ground is that of the given lines, and no call of a label is gone
+pub record IsSafe (g : Ground) (d : Drafted) : Type 0 where
+  pub draft : IsDraft d
+  pub ground : IsGround d.given g
+  pub sure : IsSure g.base (lines_now d)
+  pub steady : IsSteady g.base (whole d)
+  pub narrow : (p : ℕ) → is_gone d.gone p ≡ true → wide_of (slice_get (places_of d.given) p) ≡ 0
+
+-- the chain of the branch at a kept place has an end: the label that is mentioned at this other one
+pub record EndsAt (d : Drafted) (p last : ℕ) : Type 0 where
+  pub label : Name
+  pub goes : GoesToEnd (code_of (lines_now d)) (rank d.gone p) label
+  pub named : name_in (stands d last) ≡ Some label
+  pub within : last < length d.gone
+  pub kept : is_gone d.gone last ≡ false
+
+-- the branch at a kept place surely may go to a label, whichever instructions go: it stays within reach, and the branch's own line is short
+pub record MayAim (base : ℕ) (d : Drafted) (p : ℕ) (name : Name) : Type 0 where
+  pub i : Instr
+  pub is : instr_in (stands d p) ≡ Some i
+  pub reach : IsSteadyTo base d.given p i name
+  pub short : line_length (line_mentioning i (Some (record { name = name; plus = 0 }))) ≤ longest_line
+
+-- ---- changes ----
+
+-- no change is possible at a place of lines
+abbrev pub NoneAt : ℕ → List Line → ℕ → Type 0
+NoneAt base ls r = (o : Cause) → IsPossible (setting base) (change r o) ls → ⊥
+
+-- a change is made at a place of lines, for the cause that is tried soonest of those for which one is possible there
+pub record ChangesSoonest (base : ℕ) (ls new : List Line) (r : ℕ) : Type 0 where
   pub cause : Cause
   pub has : HasCause (code_of ls) r cause
-  pub soonest : (o : Cause) → HasCause (code_of ls) r o → turn cause ≤ turn o
-  pub op : is_op_place (slice_get (places_of ls) r) ≡ true
-  pub cut : new ≡ replaced_lines own_line r 1 [] ls
-  pub lines : (base : ℕ) → new ≡ lines_by (setting base) r cause ls
+  pub soonest : (o : Cause) → IsPossible (setting base) (change r o) ls → turn cause ≤ turn o
+  pub lines : new ≡ lines_by (setting base) r cause ls
+
+-- what became of a draft at a kept place whose branch, if one stands there, doesn't go to the next
+abbrev pub IsRedirected : Redirected → ℕ → Drafted → ℕ → Drafted → Type 0
+IsRedirected redirected.NoEnd base d p new = (new ≡ d) × (HasEnd (code_of (lines_now d)) (rank d.gone p) → ⊥)
+IsRedirected redirected.Refused base d p new = (new ≡ d) × ((label : Name) → IsPossible (setting base) (change (rank d.gone p) (ToEnd label)) (lines_now d) → ⊥)
+IsRedirected redirected.Made base d p new = ChangesSoonest base (lines_now d) (lines_now new) (rank d.gone p)
+IsRedirected redirected.Unsure base d p new = new ≡ d
 
 -- what became of a draft at a place, if that is kept
-abbrev pub IsOutcomeAt : Outcome → Drafted → ℕ → Drafted → Type 0
-IsOutcomeAt outcome.Nothing d p new = (new ≡ d) × (is_gone d.gone p ≡ false → IsCaused (code_of (lines_now d)) (rank d.gone p) → ⊥)
-IsOutcomeAt outcome.Made d p new = GoesSoonest (lines_now d) (lines_now new) (rank d.gone p)
-IsOutcomeAt outcome.Unsure d p new = new ≡ d
+abbrev pub IsOutcomeAt : Outcome → ℕ → Drafted → ℕ → Drafted → Type 0
+IsOutcomeAt outcome.Nothing base d p new = (new ≡ d) × (is_gone d.gone p ≡ false → NoneAt base (lines_now d) (rank d.gone p))
+IsOutcomeAt outcome.Made base d p new = ChangesSoonest base (lines_now d) (lines_now new) (rank d.gone p)
+IsOutcomeAt outcome.Unsure base d p new = new ≡ d
 
--- and of its lines at the first place at which a change has its cause
-abbrev pub IsOutcome : Outcome → List Line → List Line → Type 0
-IsOutcome outcome.Nothing ls new = (new ≡ ls) × ((r : ℕ) → IsCaused (code_of ls) r → ⊥)
-IsOutcome outcome.Made ls new = (r : ℕ) × GoesSoonest ls new r × ((k : ℕ) → k < r → IsCaused (code_of ls) k → ⊥)
-IsOutcome outcome.Unsure ls new = new ≡ ls
+-- and of its lines at the first place at which a change is possible
+abbrev pub IsOutcome : Outcome → ℕ → List Line → List Line → Type 0
+IsOutcome outcome.Nothing base ls new = (new ≡ ls) × ((r : ℕ) → NoneAt base ls r)
+IsOutcome outcome.Made base ls new = (r : ℕ) × ChangesSoonest base ls new r × ((k : ℕ) → k < r → NoneAt base ls k)
+IsOutcome outcome.Unsure base ls new = new ≡ ls

@@ -1,10 +1,10 @@
 //! What stands at the places of a draft. A place that is kept has its rank as its number in the lines now.
-ghost use Rattle.std.specs.Prelude.{◌≡◌, ◌<◌, ◌↔◌, true, false, length, option_and_then, option_map, IfSome, IsTrue};
+ghost use Rattle.std.specs.Prelude.{◌≡◌, ◌<◌, ◌↔◌, true, false, None, length, option_and_then, option_map, IfSome, IsTrue};
 ghost use Rattle.kept_places.specs.Marks.{is_gone, rank};
 ghost use Rattle.thumb_model.specs.Listing.{code_of, place_of};
 ghost use Rattle.code_flow.specs.Marks.{AreMarks};
 ghost use Rattle.listing_draft.specs.Drafted.{lines_now, stands};
-ghost use Rattle.flow_tidy.specs.Due.{HasEnd, is_branch_always as branches_always, is_branch_if as branches_if, lets_on as code_lets_on};
+ghost use Rattle.flow_tidy.specs.Due.{is_branch_always as branches_always, is_branch_if as branches_if, lets_on as code_lets_on};
 ghost use Rattle.flow_tidy.specs.Tidied.{GoesToNext, IsIdle};
 ghost use Rattle.flow_tidy.specs.Made.{label_of_always, label_of_branch};
 ghost use Rattle.flow_tidy.specs.Quick.{left};
@@ -36,7 +36,7 @@ pub(crate) fn target(draft: &mut Draft, place: u32) -> Option<u32>
 }
 
 /// The kept place that the branch without a condition at a kept place goes to.
-fn hop(draft: &mut Draft, place: u32) -> Option<u32>
+pub(crate) fn hop(draft: &mut Draft, place: u32) -> Option<u32>
     requires within { place < length draft.old.gone }
     requires kept { is_gone draft.old.gone place ≡ false }
     ensures place { option_map (rank draft.old.gone) result ≡ option_and_then (place_of (code_of (lines_now draft.old))) (label_of_always (stands draft.old place)) }
@@ -56,19 +56,15 @@ fn hop(draft: &mut Draft, place: u32) -> Option<u32>
     }
 }
 
-/// Whether a branch stands at a kept place that goes to a branch without a condition, but for one to itself. Else no chain that begins with it has an end.
-pub(crate) fn leads_on(draft: &mut Draft, place: u32) -> bool
-    requires within { place < length draft.old.gone }
-    requires kept { is_gone draft.old.gone place ≡ false }
-    ensures none { result ≡ false → HasEnd (code_of (lines_now draft.old)) (rank draft.old.gone place) → ⊥ }
-    ensures same { draft.new ≡ draft.old }
+/// Whether a branch stands at a kept place, with a condition or without.
+pub(crate) fn is_branch_at(draft: &Draft, place: u32) -> bool
+    requires within { place < length draft.now.gone }
+    requires kept { is_gone draft.now.gone place ≡ false }
+    ensures { result ≡ false → label_of_branch (stands draft.now place) ≡ None }
 {
-    match target(draft, place) {
+    match draft.instr(place) {
         None => false,
-        Some(to) => match hop(draft, to) {
-            None => false,
-            Some(next) => next != to,
-        },
+        Some(instr) => is_branch(&instr),
     }
 }
 

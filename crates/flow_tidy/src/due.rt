@@ -38,7 +38,7 @@ fn past_free(marks: &[bool], from: usize) -> usize
 }
 
 impl Due {
-    ghost use Rattle.std.specs.Prelude.{◌≡◌, ◌<◌, ◌≤◌, ℕ, Some, true, false, IfOk, length, replicate, slice_get, slice_set};
+    ghost use Rattle.std.specs.Prelude.{◌≡◌, ◌<◌, ◌≤◌, ◌^◌, ℕ, Some, true, false, IfOk, length, replicate, slice_get, slice_set};
     ghost use Rattle.std.specs.List.{remove};
     ghost use Rattle.flow_tidy.specs.Due.{before_is_due, IsLeast};
 
@@ -57,6 +57,17 @@ impl Due {
     {
         self.least = past_free(&self.marks, self.least);
         self.least
+    }
+
+    /// The first place from one on that is due, or the end.
+    pub(crate) fn next(&self, from: u32) -> u32
+        requires few { length self.now < 2 ^ 32 }
+        requires within { from ≤ length self.now }
+        ensures from { from ≤ result }
+        ensures within { result ≤ length self.now }
+        ensures free { (k : ℕ) → from ≤ k → k < result → slice_get self.now k ≡ Some true → ⊥ }
+    {
+        past_free(&self.marks, from as usize) as u32
     }
 
     /// Whether a place is due.

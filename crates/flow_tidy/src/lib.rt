@@ -1,12 +1,14 @@
 //! Tidying a listing's branches and what nothing reaches.
 #![tactic(auto)]
 
+mod chain_ends;
 mod chains;
 mod changing;
 mod drafted;
 mod due;
 mod errors;
 mod found;
+mod ground;
 pub mod laws;
 mod limits;
 mod marks;

@@ -1,16 +1,20 @@
 //! Whether lines may stand as they are: they can be laid out, and there are neither too many nor too long ones.
-ghost use Rattle.std.specs.Prelude.{◌≡◌, ◌↔◌, ◌&&◌, true, IsTrue, IfOk, map};
+ghost use Rattle.std.specs.Prelude.{◌≡◌, ◌↔◌, ◌≤◌, ◌&&◌, true, IsTrue, IfOk, Some, map};
 ghost use Rattle.std.specs.List.{prefix_len};
 ghost use Rattle.listing_parser.specs.Grammar.{longest_line, most_lines};
+ghost use Rattle.listing_parser.specs.Parsing.{line_mentioning};
 ghost use Rattle.listing_parser.specs.Views.{line_view};
+ghost use Rattle.flow_tidy.specs.Tidied.{line_length as length_of};
 ghost use Rattle.flow_tidy.specs.Tidying.{setting};
 ghost use Rattle.flow_tidy.specs.Made.{is_no_newline, AreShort, AreWithin, IsAccepted, IsWithin};
 ghost use Rattle.flow_tidy.specs.Quick.{counts_for, HaveRoom};
 
 use crate::found::Changed;
 use label_layout::{LayoutError, layout};
+use listing_draft::branch_line;
 use listing_parser::{Line, Listing, Memory, Statement};
 use std::alloc::Global;
+use thumb_instr::Instr;
 
 /// How many lines a listing may have.
 const MOST_LINES: usize = 262_144;
@@ -101,4 +105,12 @@ pub(crate) fn leave_room(lines: &[Line]) -> bool
         }
     }
     are_short(lines)
+}
+
+/// Whether the line of a branch to a label surely is no longer than a line may be.
+pub(crate) fn is_short_branch(alloc: Global, instr: &Instr, name: &[u8]) -> Result<bool, Memory>
+    ensures { IfOk result (λ b. b ≡ true → length_of (line_mentioning instr.now (Some (record { name = name.now; plus = 0 }))) ≤ longest_line) }
+{
+    let line = branch_line(alloc, instr, name)?;
+    Ok(line_length(&line.text) <= LONGEST_LINE)
 }

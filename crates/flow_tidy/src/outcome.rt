@@ -1,12 +1,25 @@
 //! What became of a place.
 
-/// What became of a place, or of the first place at which a change has its cause.
+/// What became of a place, or of the first place at which a change is possible.
 #[derive(Clone, Copy, PartialEq, Eq)]
 pub(crate) enum Outcome {
-    /// No change has its cause there.
+    /// No change is possible there.
     Nothing,
-    /// An instruction went.
+    /// A change was made.
     Made,
-    /// A branch may have to go elsewhere.
+    /// Whether a branch can go to the end of its chain is not sure.
+    Unsure,
+}
+
+/// What became of the branch at a place.
+#[derive(Clone, Copy, PartialEq, Eq)]
+pub(crate) enum Redirected {
+    /// There is none whose chain has an end.
+    NoEnd,
+    /// It doesn't reach the end of its chain.
+    Refused,
+    /// It goes to the end of its chain now.
+    Made,
+    /// Whether it can go there is not sure.
     Unsure,
 }

@@ -1,26 +1,32 @@
-//! Tidying by places that stay, as far as instructions go and no branch may have to go elsewhere. A listing is made of what is left only in the end, where
-//! making one for each change takes as long as there are lines.
-ghost use Rattle.std.specs.Prelude.{◌≡◌, ◌⊎◌, ◌<◌, [], true, false, IfOk, length, slice_set};
-ghost use Rattle.thumb_model.specs.Layout.{Layable};
-ghost use Rattle.thumb_model.specs.Listing.{code_of};
+//! Tidying by places that stay, as long as each change surely can be made: an instruction goes, or a branch goes elsewhere that surely reaches where. A listing is
+//! made of what is left only in the end, where making one for each change takes as long as there are lines.
+ghost use Rattle.std.specs.Prelude.{◌≡◌, ◌⊎◌, ◌<◌, ◌^◌, [], true, false, IfOk, IfSome, OnOk, List, Bool, length, slice_set};
+ghost use Rattle.thumb_model.specs.Listing.{code_of, places_of, Name};
 ghost use Rattle.thumb_model.specs.ReplacedLines.{replaced_lines};
 ghost use Rattle.listing_parser.specs.Parsing.{own_line};
-ghost use Rattle.code_flow.specs.Marks.{AreMarks};
 ghost use Rattle.kept_places.specs.Marks.{is_gone, rank};
-ghost use Rattle.listing_draft.specs.Drafted.{lines_now};
-ghost use Rattle.flow_tidy.specs.Tidied.{GoesToNext, IsIdle};
-ghost use Rattle.flow_tidy.specs.Due.{AreDue};
-ghost use Rattle.flow_tidy.specs.Quick.{left, IsOutcome, IsOutcomeAt, IsQuick, IsSure};
+ghost use Rattle.listing_draft.specs.Drafted.{lines_now, name_in, stands};
+ghost use Rattle.flow_tidy.specs.Tidied.{ToEnd, GoesToNext, IsIdle, IsPossible};
+ghost use Rattle.flow_tidy.specs.Tidying.{setting};
+ghost use Rattle.flow_tidy.specs.declared.chain_ends.Known.{Known};
+ghost use Rattle.flow_tidy.specs.Due.{AreDue, HasEnd};
+ghost use Rattle.flow_tidy.specs.ChainEnds.{AreEnds};
+ghost use Rattle.flow_tidy.specs.Halves.{halves};
+ghost use Rattle.flow_tidy.specs.Made.{change};
+ghost use Rattle.flow_tidy.specs.Quick.{left, EndsAt, IsOutcome, IsOutcomeAt, IsQuick, IsRedirected, IsSafe, IsSure, MayAim};
 
-use crate::drafted::{goes_to_next, is_idle, leads_on, lets_on};
+use crate::chain_ends::{Ends, chain_end};
+use crate::drafted::{goes_to_next, is_branch_at, is_idle, lets_on};
 use crate::due::Due;
-use crate::limits::leave_room;
-use crate::outcome::Outcome;
+use crate::ground::{Ground, is_beyond, reaches};
+use crate::limits::{is_short_branch, leave_room};
+use crate::outcome::{Outcome, Redirected};
 use code_flow::Reached;
 use listing_draft::Draft;
 use listing_parser::{Listing, Memory};
 use std::alloc::Global;
 use steady_layout::is_steady;
+use thumb_instr::Instr;
 
 /// Whether a listing surely can be laid out from the base and stays within the limits, whichever of its instructions go.
 pub(crate) fn is_sure(alloc: Global, listing: &Listing, base: u32) -> Result<bool, Memory>
@@ -43,6 +49,8 @@ fn remove(draft: &mut Draft, due: &mut Due, place: u32)
     requires many { length due.old ≡ length draft.old.gone }
     requires due { AreDue (code_of (lines_now draft.old)) (left draft.old.gone due.old) }
     requires goes { GoesToNext (code_of (lines_now draft.old)) (rank draft.old.gone place) ⊎ IsIdle (code_of (lines_now draft.old)) (rank draft.old.gone place) }
+    ensures given { draft.new.given ≡ draft.old.given }
+    ensures aims { draft.new.aims ≡ draft.old.aims }
     ensures gone { draft.new.gone ≡ slice_set draft.old.gone place true }
     ensures lines { lines_now draft.new ≡ replaced_lines own_line (rank draft.old.gone place) 1 [] (lines_now draft.old) }
     ensures many { length due.new ≡ length draft.new.gone }
@@ -62,63 +70,261 @@ fn remove(draft: &mut Draft, due: &mut Due, place: u32)
     }
 }
 
-/// Lets the instruction at a kept place go, if a change has its cause there and is sure to be one that it goes by.
-fn change(draft: &mut Draft, due: &mut Due, reached: &Reached, place: u32) -> Outcome
+/// The label that the branch at a kept place has as the end of its chain, where the branch surely may go to it. The other place is that of the chain's last branch.
+fn sure_end(
+    alloc: Global,
+    draft: &Draft,
+    ground: &Ground,
+    place: u32,
+    last: u32,
+) -> Result<Option<Vec<u8>>, Memory>
+    requires within { place < length draft.now.gone }
+    requires kept { is_gone draft.now.gone place ≡ false }
+    requires end { EndsAt draft.now place last }
+    requires safe { IsSafe ground.now draft.now }
+    ensures { IfOk result (λ o. IfSome o (λ name. (name_in (stands draft.now last) ≡ Some name.items) × MayAim ground.now.base draft.now place name.items)) }
+{
+    let Some(instr) = draft.instr(place) else {
+        return Ok(None);
+    };
+    let Some(name) = draft.name(last) else {
+        return Ok(None);
+    };
+    if !reaches(ground, draft.given(), place, &instr, name) {
+        return Ok(None);
+    }
+    if !is_short_branch(alloc, &instr, name)? {
+        return Ok(None);
+    }
+    let label = name.to_vec(alloc)?;
+    Ok(Some(label))
+}
+
+/// How many half-words lie before a place in the lines now, at least.
+fn halves_before(draft: &Draft, ground: &Ground, place: u32) -> u64
+    requires within { place < length draft.now.gone }
+    requires safe { IsSafe ground.now draft.now }
+    ensures halves { result ≡ halves (places_of (lines_now draft.now)) (rank draft.now.gone place) }
+    ensures few { result < 2 ^ 33 }
+{
+    draft.number(place) as u64 + ground.wide[place as usize] as u64
+}
+
+/// Whether the branch at a kept place surely doesn't reach the end of its chain. The other place is that of the chain's last branch.
+fn is_out_of_reach(draft: &Draft, ground: &Ground, place: u32, last: u32) -> bool
+    requires within { place < length draft.now.gone }
+    requires kept { is_gone draft.now.gone place ≡ false }
+    requires end { EndsAt draft.now place last }
+    requires safe { IsSafe ground.now draft.now }
+    ensures { result ≡ true → (label : Name) → IsPossible (setting ground.now.base) (change (rank draft.now.gone place) (ToEnd label)) (lines_now draft.now) → ⊥ }
+{
+    let Some(instr) = draft.instr(place) else {
+        return false;
+    };
+    let Some(name) = draft.name(last) else {
+        return false;
+    };
+    let Some(label) = draft.given().label_place(name) else {
+        return false;
+    };
+    if label >= draft.place_count() {
+        return false;
+    }
+    let from = halves_before(draft, ground, place);
+    let to = halves_before(draft, ground, label);
+    match instr {
+        Instr::BranchIf { .. } => is_beyond(128, from, to),
+        Instr::Branch { .. } => is_beyond(1024, from, to),
+        _ => false,
+    }
+}
+
+/// Lets the branch at a kept place go to the end of its chain, where it surely may. The other place is that of the chain's last branch.
+fn retarget(
+    alloc: Global,
+    draft: &mut Draft,
+    ground: &Ground,
+    place: u32,
+    last: u32,
+) -> Result<Redirected, Memory>
     requires within { place < length draft.old.gone }
     requires kept { is_gone draft.old.gone place ≡ false }
-    requires quick { IsQuick draft.old reached.now due.old }
-    ensures outcome { IsOutcomeAt result draft.old place draft.new }
-    ensures quick { IsQuick draft.new reached.now due.new }
+    requires later { GoesToNext (code_of (lines_now draft.old)) (rank draft.old.gone place) → ⊥ }
+    requires end { EndsAt draft.old place last }
+    requires safe { IsSafe ground.now draft.old }
+    ensures redirected { IfOk result (λ o. IsRedirected o ground.now.base draft.old place draft.new) }
+    ensures quick { OnOk result ((marks dues : List Bool) → IsQuick draft.old marks dues → IsQuick draft.new marks dues) }
+    ensures safe { OnOk result (IsSafe ground.now draft.new) }
+    ensures ends { OnOk result ((known : List Known) → AreEnds draft.old known → AreEnds draft.new known) }
 {
-    if goes_to_next(draft, place) {
-        remove(draft, due, place);
-        return Outcome::Made;
+    match sure_end(alloc, draft, ground, place, last)? {
+        Some(label) => {
+            draft.aim(place, label);
+            Ok(Redirected::Made)
+        }
+        None => {
+            if is_out_of_reach(draft, ground, place, last) {
+                Ok(Redirected::Refused)
+            } else {
+                Ok(Redirected::Unsure)
+            }
+        }
     }
-    if leads_on(draft, place) {
-        return Outcome::Unsure;
+}
+
+/// What becomes of the branch at a kept place that doesn't go to the next one.
+fn redirect(
+    alloc: Global,
+    draft: &mut Draft,
+    ends: &mut Ends,
+    ground: &Ground,
+    place: u32,
+) -> Result<Redirected, Memory>
+    requires within { place < length draft.old.gone }
+    requires kept { is_gone draft.old.gone place ≡ false }
+    requires later { GoesToNext (code_of (lines_now draft.old)) (rank draft.old.gone place) → ⊥ }
+    requires safe { IsSafe ground.now draft.old }
+    requires ends { AreEnds draft.old ends.old }
+    ensures redirected { IfOk result (λ o. IsRedirected o ground.now.base draft.old place draft.new) }
+    ensures quick { OnOk result ((marks dues : List Bool) → IsQuick draft.old marks dues → IsQuick draft.new marks dues) }
+    ensures safe { OnOk result (IsSafe ground.now draft.new) }
+    ensures ends { OnOk result (AreEnds draft.new ends.new) }
+{
+    match chain_end(draft, ends, place) {
+        None => Ok(Redirected::NoEnd),
+        Some(last) => retarget(alloc, draft, ground, place, last),
     }
+}
+
+/// Lets the instruction at a kept place go, if nothing reaches it. Else the place is due no more, unless a branch stands there that is out of reach of its end.
+fn change_idle(
+    draft: &mut Draft,
+    due: &mut Due,
+    ends: &mut Ends,
+    reached: &Reached,
+    ground: &Ground,
+    place: u32,
+    is_refused: bool,
+) -> Outcome
+    requires within { place < length draft.old.gone }
+    requires kept { is_gone draft.old.gone place ≡ false }
+    requires later { GoesToNext (code_of (lines_now draft.old)) (rank draft.old.gone place) → ⊥ }
+    requires refused { (label : Name) → IsPossible (setting ground.now.base) (change (rank draft.old.gone place) (ToEnd label)) (lines_now draft.old) → ⊥ }
+    requires end { is_refused ≡ false → HasEnd (code_of (lines_now draft.old)) (rank draft.old.gone place) → ⊥ }
+    requires quick { IsQuick draft.old reached.now due.old }
+    requires safe { IsSafe ground.now draft.old }
+    requires ends { AreEnds draft.old ends.old }
+    ensures outcome { IsOutcomeAt result ground.now.base draft.old place draft.new }
+    ensures quick { IsQuick draft.new reached.now due.new }
+    ensures safe { IsSafe ground.now draft.new }
+    ensures ends { AreEnds draft.new ends.new }
+{
     if is_idle(draft, reached, place) {
         remove(draft, due, place);
+        ends.forget();
         return Outcome::Made;
     }
-    due.take(place);
+    if !is_refused {
+        due.take(place);
+    }
     Outcome::Nothing
 }
 
-/// What becomes of a place, where it is kept and due.
-fn change_if_due(draft: &mut Draft, due: &mut Due, reached: &Reached, place: u32) -> Outcome
+/// Makes the change at a kept place that is tried soonest, if it surely can be made.
+fn change_at(
+    alloc: Global,
+    draft: &mut Draft,
+    due: &mut Due,
+    ends: &mut Ends,
+    reached: &Reached,
+    ground: &Ground,
+    place: u32,
+) -> Result<Outcome, Memory>
     requires within { place < length draft.old.gone }
+    requires kept { is_gone draft.old.gone place ≡ false }
     requires quick { IsQuick draft.old reached.now due.old }
-    ensures outcome { IsOutcomeAt result draft.old place draft.new }
-    ensures quick { IsQuick draft.new reached.now due.new }
+    requires safe { IsSafe ground.now draft.old }
+    requires ends { AreEnds draft.old ends.old }
+    ensures outcome { IfOk result (λ o. IsOutcomeAt o ground.now.base draft.old place draft.new) }
+    ensures quick { OnOk result (IsQuick draft.new reached.now due.new) }
+    ensures safe { OnOk result (IsSafe ground.now draft.new) }
+    ensures ends { OnOk result (AreEnds draft.new ends.new) }
 {
-    if draft.is_gone(place) {
-        return Outcome::Nothing;
+    if !is_branch_at(draft, place) {
+        return Ok(change_idle(draft, due, ends, reached, ground, place, false));
     }
-    if !due.has(place) {
-        return Outcome::Nothing;
+    if goes_to_next(draft, place) {
+        remove(draft, due, place);
+        ends.forget();
+        return Ok(Outcome::Made);
     }
-    change(draft, due, reached, place)
+    let redirected = redirect(alloc, draft, ends, ground, place)?;
+    match redirected {
+        Redirected::NoEnd => Ok(change_idle(draft, due, ends, reached, ground, place, false)),
+        Redirected::Refused => Ok(change_idle(draft, due, ends, reached, ground, place, true)),
+        Redirected::Made => Ok(Outcome::Made),
+        Redirected::Unsure => Ok(Outcome::Unsure),
+    }
 }
 
-/// What becomes of the first place at which a change has its cause. Places that are gone are leapt over.
-pub(crate) fn first_change(draft: &mut Draft, due: &mut Due, reached: &Reached) -> Outcome
+/// What becomes of a place, where it is kept and due.
+fn change_if_due(
+    alloc: Global,
+    draft: &mut Draft,
+    due: &mut Due,
+    ends: &mut Ends,
+    reached: &Reached,
+    ground: &Ground,
+    place: u32,
+) -> Result<Outcome, Memory>
+    requires within { place < length draft.old.gone }
     requires quick { IsQuick draft.old reached.now due.old }
-    ensures outcome { IsOutcome result (lines_now draft.old) (lines_now draft.new) }
-    ensures quick { IsQuick draft.new reached.now due.new }
+    requires safe { IsSafe ground.now draft.old }
+    requires ends { AreEnds draft.old ends.old }
+    ensures outcome { IfOk result (λ o. IsOutcomeAt o ground.now.base draft.old place draft.new) }
+    ensures quick { OnOk result (IsQuick draft.new reached.now due.new) }
+    ensures safe { OnOk result (IsSafe ground.now draft.new) }
+    ensures ends { OnOk result (AreEnds draft.new ends.new) }
+{
+    if draft.is_gone(place) {
+        return Ok(Outcome::Nothing);
+    }
+    if !due.has(place) {
+        return Ok(Outcome::Nothing);
+    }
+    change_at(alloc, draft, due, ends, reached, ground, place)
+}
+
+/// What becomes of the first place at which a change is possible. Places that are gone or not due are leapt over.
+pub(crate) fn first_change(
+    alloc: Global,
+    draft: &mut Draft,
+    due: &mut Due,
+    ends: &mut Ends,
+    reached: &Reached,
+    ground: &Ground,
+) -> Result<Outcome, Memory>
+    requires quick { IsQuick draft.old reached.now due.old }
+    requires safe { IsSafe ground.now draft.old }
+    requires ends { AreEnds draft.old ends.old }
+    ensures outcome { IfOk result (λ o. IsOutcome o ground.now.base (lines_now draft.old) (lines_now draft.new)) }
+    ensures quick { OnOk result (IsQuick draft.new reached.now due.new) }
+    ensures safe { OnOk result (IsSafe ground.now draft.new) }
+    ensures ends { OnOk result (AreEnds draft.new ends.new) }
 {
     let places = draft.place_count();
     let from = due.least() as u32;
     let mut place = draft.node(from);
     while place < places {
-        match change_if_due(draft, due, reached, place) {
+        let outcome = change_if_due(alloc, draft, due, ends, reached, ground, place)?;
+        match outcome {
             Outcome::Nothing => {
-                let next = draft.node(place + 1);
-                place = next;
+                let next = due.next(place + 1);
+                place = draft.node(next);
             }
-            Outcome::Made => return Outcome::Made,
-            Outcome::Unsure => return Outcome::Unsure,
+            Outcome::Made => return Ok(Outcome::Made),
+            Outcome::Unsure => return Ok(Outcome::Unsure),
         }
     }
-    Outcome::Nothing
+    Ok(Outcome::Nothing)
 }

@@ -7,15 +7,18 @@ ghost use Rattle.thumb_model.specs.Same.{Same};
 ghost use Rattle.code_flow.specs.Marks.{AreMarks};
 ghost use Rattle.label_layout.specs.Addresses.{AreAddresses};
 ghost use Rattle.listing_draft.specs.Drafted.{lines_now};
+ghost use Rattle.flow_tidy.specs.Ground.{IsGround};
 ghost use Rattle.flow_tidy.specs.Quick.{left, IsSure};
 ghost use Rattle.flow_tidy.specs.Tidying.{setting, tidying_cost, AreTidiedBy, IsRefusal};
 
+use crate::chain_ends::Ends;
 use crate::due::Due;
 use crate::errors::TidyError;
 use crate::found::{Changed, Found};
+use crate::ground::{Ground, ground_of};
 use crate::marks::Marks;
 use crate::outcome::Outcome;
-use crate::quick::{first_change as first_gone, is_sure};
+use crate::quick::{first_change as first_sure, is_sure};
 use crate::searching::first_change;
 use crate::settling::{laid_out, settle};
 use crate::tidied::Tidy;
@@ -77,23 +80,27 @@ fn tidied_on(alloc: Global, draft: Draft, base: u32, reached: &Reached) -> Resul
     tidied(alloc, listing, laid, marks)
 }
 
-/// What is left of a listing that surely can be laid out whichever of its instructions go: by places that stay, until a branch may have to go elsewhere.
+/// What is left of a listing that surely can be laid out whichever of its instructions go: by places that stay, until it is not sure whether a branch may go elsewhere.
+/// The ground is the listing's.
 fn tidied_by_places(
     alloc: Global,
     listing: Listing,
-    base: u32,
+    ground: &Ground,
     reached: &Reached,
 ) -> Result<Tidy, Memory>
-    requires sure { IsSure base listing }
+    requires sure { IsSure ground.now.base listing }
+    requires ground { IsGround listing ground.now }
     requires reached { AreMarks (code_of listing) reached.now }
-    ensures { IfOk result (λ new. AreTidiedBy base listing new.listing new.changes) }
+    ensures { IfOk result (λ new. AreTidiedBy ground.now.base listing new.listing new.changes) }
 {
-    let places = listing.place_count();
     let mut draft = Draft::new(alloc, listing)?;
+    let places = draft.place_count();
     let mut due = Due::all(alloc, places)?;
+    let mut ends = Ends::none(alloc, places)?;
     let mut count = 0;
     loop {
-        match first_gone(&mut draft, &mut due, reached) {
+        let outcome = first_sure(alloc, &mut draft, &mut due, &mut ends, reached, ground)?;
+        match outcome {
             Outcome::Made => count += 1,
             Outcome::Nothing => {
                 let listing = draft.into_listing(alloc)?;
@@ -103,7 +110,7 @@ fn tidied_by_places(
                 });
             }
             Outcome::Unsure => {
-                let Tidy { listing, changes } = tidied_on(alloc, draft, base, reached)?;
+                let Tidy { listing, changes } = tidied_on(alloc, draft, ground.base, reached)?;
                 return Ok(Tidy {
                     listing,
                     changes: count + changes,
@@ -129,12 +136,14 @@ pub fn tidy<L: Ledger>(
     ensures verdict { MatchResult result (λ _. Layable base listing) (IsRefusal base listing) }
     ensures cost { IfOk result (λ new. steps.new ≤ steps.old + tidying_cost listing new.changes) }
 {
-    let laid = layout(alloc, &listing, base)?;
-    let reached = reached(alloc, &listing, steps)?;
     if is_sure(alloc, &listing, base)? {
-        let left = tidied_by_places(alloc, listing, base, &reached)?;
+        let reached = reached(alloc, &listing, steps)?;
+        let ground = ground_of(alloc, &listing, base)?;
+        let left = tidied_by_places(alloc, listing, &ground, &reached)?;
         return Ok(left);
     }
+    let laid = layout(alloc, &listing, base)?;
+    let reached = reached(alloc, &listing, steps)?;
     let marks = Marks::of(alloc, &reached, listing.place_count())?;
     let tidy = tidied(alloc, listing, laid, marks)?;
     Ok(tidy)

@@ -149,6 +149,14 @@ impl Draft {
         if start == 0 { None } else { Some(start - 1) }
     }
 
+    /// The number that a place has in the lines now: how many kept places stand before it.
+    pub fn number(&self, place: u32) -> u32
+        requires { place ≤ length self.now.gone }
+        ensures { result ≡ rank self.now.gone place }
+    {
+        self.kept.number(place)
+    }
+
     /// The instruction at a kept place, where one stands there.
     pub fn instr(&self, place: u32) -> Option<Instr>
         requires within { place < length self.now.gone }

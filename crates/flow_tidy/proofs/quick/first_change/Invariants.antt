@@ -1,7 +1,7 @@
 use Rattle.std.proofs.Common.{◌≡◌, ◌-◌}
-use Rattle.thumb_model.specs.Listing.{code_of}
 use Rattle.listing_draft.specs.Drafted.{lines_now}
-use Rattle.flow_tidy.specs.Quick.{IsQuick}
+use Rattle.flow_tidy.specs.ChainEnds.{AreEnds}
+use Rattle.flow_tidy.specs.Quick.{IsQuick, IsSafe}
 use Rattle.flow_tidy.proofs.Quickly.{NoneSooner}
 use Rattle.flow_tidy.proofs.quick.first_change.Given as goal
 
@@ -9,7 +9,9 @@ abbrev pub invariant-loop-place : goal.invariant-loop-place
 invariant-loop-place l = record {
   same : l.draft ≡ l.fn.draft;
   quick : IsQuick l.draft l.reached l.due;
-  none : NoneSooner l.draft.gone (code_of (lines_now l.draft)) l.place;
+  safe : IsSafe l.ground l.draft;
+  ends : AreEnds l.draft l.ends;
+  none : NoneSooner l.ground.base l.draft.gone (lines_now l.draft) l.place;
 }
 
 abbrev pub decreases-loop-place : goal.decreases-loop-place

@@ -1,18 +1,20 @@
 use Rattle.std.proofs.Common.{◌+◌, ◌≤◌}
 use Rattle.listing_draft.specs.Drafted.{lines_now}
 use Rattle.flow_tidy.specs.Made.{AreMadeBy}
-use Rattle.flow_tidy.specs.Quick.{IsQuick, IsSure}
+use Rattle.flow_tidy.specs.ChainEnds.{AreEnds}
+use Rattle.flow_tidy.specs.Quick.{IsQuick, IsSafe}
 use Rattle.flow_tidy.specs.Tidying.{setting}
 use Rattle.flow_tidy.proofs.Ends.{room_of}
 use Rattle.flow_tidy.proofs.tidying.tidied_by_places.Given as goal
 
-abbrev pub invariant-loop-count : goal.invariant-loop-count
-invariant-loop-count l = record {
-  made : AreMadeBy (setting l.fn.base) l.fn.listing (lines_now l.draft) l.count;
+abbrev pub invariant-loop-ends : goal.invariant-loop-ends
+invariant-loop-ends l = record {
+  made : AreMadeBy (setting l.ground.base) l.fn.listing (lines_now l.draft) l.count;
   room : l.count + room_of (lines_now l.draft) ≤ room_of l.fn.listing;
-  sure : IsSure l.fn.base (lines_now l.draft);
+  safe : IsSafe l.ground l.draft;
   quick : IsQuick l.draft l.reached l.due;
+  ends : AreEnds l.draft l.ends;
 }
 
-abbrev pub decreases-loop-count : goal.decreases-loop-count
-decreases-loop-count l = room_of (lines_now l.draft)
+abbrev pub decreases-loop-ends : goal.decreases-loop-ends
+decreases-loop-ends l = room_of (lines_now l.draft)

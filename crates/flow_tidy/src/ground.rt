@@ -1,0 +1,146 @@
+//! Where the lines and places of a listing begin in its widest layout: what tells that a branch surely reaches a label, whichever instructions go.
+ghost use Rattle.std.specs.Prelude.{◌≡◌, ◌++◌, ◌<◌, ◌≤◌, ◌^◌, Some, true, length, map, replicate, slice_get, IfOk, OnOk};
+ghost use Rattle.thumb_model.specs.Listing.{places_of};
+ghost use Rattle.listing_parser.specs.Views.{line_view};
+ghost use Rattle.steady_layout.specs.Steady.{reaches as is_reached};
+ghost use Rattle.flow_tidy.specs.Ground.{places_begin, IsGround, IsSteadyTo};
+ghost use Rattle.flow_tidy.specs.Halves.{wide_of as one_if_wide, wides_before, IsBeyond};
+ghost use Rattle.flow_tidy.specs.Quick.{IsSure};
+
+use listing_parser::{Line, Listing, Memory, Place};
+use std::alloc::{AllocError, Global};
+use steady_layout::{Start, lay_widest};
+use thumb_instr::Instr;
+
+/// Where the lines and places of a listing begin in its widest layout.
+#[derive(Drop)]
+pub(crate) struct Ground {
+    /// Where the listing begins.
+    pub(crate) base: u32,
+    /// Where each line begins.
+    pub(crate) lines: Vec<Start>,
+    /// For each place, where its line begins.
+    pub(crate) places: Vec<Start>,
+    /// For each place, how many before it are data words or calls of a label: they take four bytes, and never go.
+    pub(crate) wide: Vec<u32>,
+}
+
+/// Adds the start of so many places.
+fn put_starts(starts: &mut Vec<Start>, start: Start, count: usize) -> Result<(), AllocError>
+    ensures { OnOk result (starts.new.items ≡ starts.old.items ++ replicate count start) }
+{
+    for _place in 0..count {
+        starts.push(start)?;
+    }
+    Ok(())
+}
+
+/// For each place, where its line begins.
+fn place_starts(alloc: Global, lines: &[Line], starts: &[Start]) -> Result<Vec<Start>, AllocError>
+    requires { length starts.now ≡ length lines.now }
+    ensures { IfOk result (λ out. out.items ≡ places_begin starts.now (map line_view lines.now)) }
+{
+    let mut places = Vec::new(alloc);
+    for (n, line) in lines.iter().enumerate() {
+        put_starts(&mut places, starts[n], line.statement.places())?;
+    }
+    Ok(places)
+}
+
+/// 1 for a data word or a call of a label.
+fn wide_of(listing: &Listing, place: u32) -> u32
+    ensures wide { result ≡ one_if_wide (slice_get (places_of listing.now) place) }
+    ensures few { result ≤ 1 }
+{
+    match listing.place(place) {
+        Some(Place::Word(_)) => 1,
+        Some(
+            Place::Op {
+                instr: Instr::Call { .. },
+                ..
+            },
+        ) => 1,
+        _ => 0,
+    }
+}
+
+/// For each place, how many before it are data words or calls of a label.
+fn wide_before(alloc: Global, listing: &Listing) -> Result<Vec<u32>, AllocError>
+    ensures { IfOk result (λ out. out.items ≡ wides_before 0 (places_of listing.now)) }
+{
+    let mut wide = Vec::new(alloc);
+    let mut count: u32 = 0;
+    for place in 0..listing.place_count() {
+        wide.push(count)?;
+        count += wide_of(listing, place);
+    }
+    Ok(wide)
+}
+
+/// Whether a branch that goes from -2 `half` to below 2 `half` bytes from its address and 4 reaches an address.
+fn is_within(half: u32, from: u32, to: u32) -> bool
+    requires { half ≤ 2 ^ 23 }
+    ensures { result ≡ is_reached half from (Some to) }
+{
+    let base = from as u64 + 4;
+    (to as u64) < base + 2 * half as u64 && base <= to as u64 + 2 * half as u64
+}
+
+/// The ground of a listing that surely can be laid out.
+pub(crate) fn ground_of(alloc: Global, listing: &Listing, base: u32) -> Result<Ground, Memory>
+    requires { IsSure base listing.now }
+    ensures base { IfOk result (λ g. g.base ≡ base) }
+    ensures ground { IfOk result (λ g. IsGround listing.now g) }
+{
+    match lay_widest(alloc, listing.lines(), base)? {
+        None => unreachable!(),
+        Some(lines) => {
+            let places = place_starts(alloc, listing.lines(), &lines)?;
+            let wide = wide_before(alloc, listing)?;
+            Ok(Ground {
+                base,
+                lines,
+                places,
+                wide,
+            })
+        }
+    }
+}
+
+/// Whether a branch at a place surely reaches the label of a name, whichever instructions go. The ground is the listing's.
+pub(crate) fn reaches(
+    ground: &Ground,
+    listing: &Listing,
+    place: u32,
+    instr: &Instr,
+    name: &[u8],
+) -> bool
+    requires ground { IsGround listing.now ground.now }
+    requires within { place < length (places_of listing.now) }
+    ensures { result ≡ true → IsSteadyTo ground.now.base listing.now place instr.now name.now }
+{
+    let Some(line) = listing.label_line(name) else {
+        return false;
+    };
+    let from = ground.places[place as usize];
+    let to = ground.lines[line];
+    match instr {
+        Instr::BranchIf { .. } => is_within(128, from.at, to.at),
+        Instr::Branch { .. } => is_within(1024, from.at, to.at),
+        _ => false,
+    }
+}
+
+/// Whether a branch that goes from -2 `half` to below 2 `half` bytes from its address and 4 doesn't reach a label, by the half-words before either.
+pub(crate) fn is_beyond(half: u64, from: u64, to: u64) -> bool
+    requires half { half ≤ 2 ^ 23 }
+    requires from { from < 2 ^ 33 }
+    requires to { to < 2 ^ 33 }
+    ensures { result ≡ true → IsBeyond half from to }
+{
+    if from < to {
+        from + half + 2 <= to
+    } else {
+        to + half < from + 2
+    }
+}
