@@ -40,7 +40,7 @@ fn place_starts(alloc: Global, lines: &[Line], starts: &[Start]) -> Result<Vec<S
     requires { length starts.now ≡ length lines.now }
     ensures { IfOk result (λ out. out.items ≡ places_begin starts.now (map line_view lines.now)) }
 {
-    let mut places = Vec::new(alloc);
+    let mut places = Vec::with_capacity(alloc, lines.len())?;
     for (n, line) in lines.iter().enumerate() {
         put_starts(&mut places, starts[n], line.statement.places())?;
     }
@@ -68,9 +68,10 @@ fn wide_of(listing: &Listing, place: u32) -> u32
 fn wide_before(alloc: Global, listing: &Listing) -> Result<Vec<u32>, AllocError>
     ensures { IfOk result (λ out. out.items ≡ wides_before 0 (places_of listing.now)) }
 {
-    let mut wide = Vec::new(alloc);
+    let places = listing.place_count();
+    let mut wide = Vec::with_capacity(alloc, places as usize)?;
     let mut count: u32 = 0;
-    for place in 0..listing.place_count() {
+    for place in 0..places {
         wide.push(count)?;
         count += wide_of(listing, place);
     }

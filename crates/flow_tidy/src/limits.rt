@@ -29,12 +29,22 @@ fn line_length(text: &[u8]) -> usize
     text.iter().take_while(|b| **b != b'\n').count()
 }
 
+/// Whether a line isn't too long. Mostly it is short even with its newline.
+fn is_short(text: &[u8]) -> bool
+    ensures { IsTrue result ↔ length_of text.now ≤ longest_line }
+{
+    if text.len() <= LONGEST_LINE {
+        return true;
+    }
+    line_length(text) <= LONGEST_LINE
+}
+
 /// Whether no line is too long.
 fn are_short(lines: &[Line]) -> bool
     ensures { IsTrue result ↔ AreShort longest_line (map line_view lines.now) }
 {
     for line in lines {
-        if line_length(&line.text) > LONGEST_LINE {
+        if !is_short(&line.text) {
             return false;
         }
     }

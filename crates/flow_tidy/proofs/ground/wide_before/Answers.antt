@@ -13,5 +13,5 @@ loop-place-preserved c =
       few = omega (arith, c.wide_of-count.ensures.few, i.few);
       wide =
           ap (λ (xs : List ℕ). xs ++ wides_before next (drop (c.loop-place.place + 1) ps)) c.in_ok-push.ensures.items
-          ∙ wides_more c.loop-place.wide.items c.loop-place.count c.wide_of-count.result ps c.loop-place.place (omega (arith, c.place_count-place-end.ensures, c.loop-place-test.true)) c.wide_of-count.ensures.wide i.wide;
+          ∙ wides_more c.loop-place.wide.items c.loop-place.count c.wide_of-count.result ps c.loop-place.place (omega (arith, c.place_count-places.ensures, c.loop-place-test.true)) c.wide_of-count.ensures.wide i.wide;
     }
