@@ -1,5 +1,5 @@
 -- The sequences that the first of some states doesn't tell.
-use Rattle.std.proofs.Common.{◌≡◌, ℕ, ◌+◌, ◌-◌, ◌<◌, ◌≤◌, ◌↔◌, ◌⊎◌, inl, inr, Bool, true, false, List, [], ◌∷◌, Contains, Some, length, max, get_or, slice_get, refl, sym, ◌∙◌, ap, subst, arith, IsTrue}
+use Rattle.std.proofs.Common.{◌≡◌, ℕ, ◌+◌, ◌<◌, ◌≤◌, ◌⊎◌, inl, inr, true, List, [], ◌∷◌, Contains, Some, length, max, get_or, slice_get, refl, sym, ◌∙◌, ap, subst, arith}
 use Rattle.std.specs.List.{Any}
 use Rattle.std.proofs.lemmas.Bool.{cases_Bool, cases_lt, false≢true}
 use Rattle.std.proofs.lemmas.Option.{slice_get_within, same_Some}
@@ -11,14 +11,13 @@ use Rattle.window_exec.specs.declared.state.WState.{WState}
 use Rattle.window_exec.specs.State.{values_of}
 use Rattle.window_exec.specs.Telling.{Differ}
 use Rattle.window_exec.proofs.Differences.{differs_anywhere, differs_is}
-use Rattle.seq_enum.specs.Lists.{numbers_from, ascends_from}
+use Rattle.seq_enum.specs.Lists.{numbers_from}
 use Rattle.seq_enum.proofs.Numbered.{length-numbers}
-use Rattle.step_ledger.specs.Counts.{RisesBy}
 use Rattle.outcomes.specs.declared.trials.Trial.{Trial}
 use Rattle.outcomes.specs.Outcomes.{Extent, sequences_below, AreAgreeing, grown_to, added}
 use Rattle.seq_enum.specs.Alphabet.{alphabet}
 use Rattle.outcomes.specs.Tables.{IsFor}
-use Rattle.outcomes.specs.Candidates.{TellsFrom, FirstTells, AreCandidates, BeginsAt, grown_for, added_for}
+use Rattle.outcomes.specs.Candidates.{TellsFrom, AreCandidates, BeginsAt, grown_for, added_for}
 use Rattle.outcomes.proofs.Looking.{numbers_ascend, number_here}
 use Rattle.outcomes.proofs.Growing.{below_longest}
 

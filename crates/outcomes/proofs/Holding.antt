@@ -18,7 +18,7 @@ use Rattle.window_exec.specs.State.{values_of}
 use Rattle.seq_enum.proofs.Numbered.{get_front, get_back}
 use Rattle.outcomes.specs.declared.columns.Columns.{Columns}
 use Rattle.outcomes.proofs.Kept.{letter_keeps}
-use Rattle.outcomes.specs.Columns.{one_if, outcome_at, extended, IsAfter, count_for, Holds, KeepsFrom}
+use Rattle.outcomes.specs.Columns.{one_if, outcome_at, extended, IsAfter, count_for, Holds, KeepsFrom, HaveRoom}
 
 -- ---- a word more in a column ----
 
@@ -191,3 +191,14 @@ pub lengths_done : (k : ℕ) (start : WState) (letters : List Instr) (shorter lo
 lengths_done k start letters shorter longest first place count old c size h e past g =
     let all : length longest ≤ place - first = omega (arith, length-append shorter longest, h.flags) in
     subst (λ ws. Holds k start (shorter ++ longest ++ flat_map (extended letters) ws) c) (take_all (place - first) longest all) g
+
+-- ---- room ----
+
+pub less_room : (k less more : ℕ) (c : Columns) → less ≤ more → HaveRoom k more c → HaveRoom k less c
+less_room k less more c fewer room = record {
+  r0 = λ wanted. omega (arith, fewer, room.r0 wanted);
+  r1 = λ wanted. omega (arith, fewer, room.r1 wanted);
+  r2 = λ wanted. omega (arith, fewer, room.r2 wanted);
+  r3 = λ wanted. omega (arith, fewer, room.r3 wanted);
+  flags = omega (arith, fewer, room.flags);
+}

@@ -1,5 +1,5 @@
 -- The sequences that the first of some states doesn't tell from a left side.
-use Rattle.std.specs.Prelude.{ℕ, ◌≡◌, ◌<◌, ◌+◌, ◌↔◌, true, List, [], ◌∷◌, Some, Any, Contains, length, slice_get}
+use Rattle.std.specs.Prelude.{ℕ, ◌≡◌, ◌<◌, ◌↔◌, true, List, [], ◌∷◌, Some, Contains, length, slice_get}
 use Rattle.thumb_instr.specs.declared.instr.Instr.{Instr}
 use Rattle.thumb_model.specs.Effect.{after_all}
 use Rattle.window_exec.specs.declared.state.WState.{WState}

@@ -1,5 +1,5 @@
 -- Columns of states.
-use Rattle.std.specs.Prelude.{ℕ, zero, suc, ◌≡◌, ◌<◌, ◌≤◌, ◌++◌, ◌∷◌, [], List, Bool, Some, if◌then◌else◌, get_or, length, map, nat_lt, slice_get, slice_index}
+use Rattle.std.specs.Prelude.{ℕ, zero, suc, ◌≡◌, ◌<◌, ◌≤◌, ◌+◌, ◌++◌, ◌∷◌, [], List, Bool, true, Some, if◌then◌else◌, get_or, length, map, nat_lt, slice_get, slice_index}
 use Rattle.thumb_instr.specs.declared.instr.Instr.{Instr}
 use Rattle.thumb_model.specs.Effect.{after_all}
 use Rattle.window_exec.specs.declared.state.WState.{WState}
@@ -28,6 +28,14 @@ pub record IsAfter (k : ℕ) (s : WState) (old new : Columns) : Type 0 where
   pub r2 : new.r2.items ≡ old.r2.items ++ one_if (nat_lt 2 k) (slice_index s.r 2)
   pub r3 : new.r3.items ≡ old.r3.items ++ one_if (nat_lt 3 k) (slice_index s.r 3)
   pub flags : new.flags.items ≡ old.flags.items ++ s.nzcv ∷ []
+
+-- room for so many states more
+pub record HaveRoom (k more : ℕ) (c : Columns) : Type 0 where
+  pub r0 : nat_lt 0 k ≡ true → c.r0.len + more ≤ c.r0.cap
+  pub r1 : nat_lt 1 k ≡ true → c.r1.len + more ≤ c.r1.cap
+  pub r2 : nat_lt 2 k ≡ true → c.r2.len + more ≤ c.r2.cap
+  pub r3 : nat_lt 3 k ≡ true → c.r3.len + more ≤ c.r3.cap
+  pub flags : c.flags.len + more ≤ c.flags.cap
 
 -- a column for each register below k
 abbrev pub count_for : ℕ → ℕ → ℕ → ℕ

@@ -48,8 +48,8 @@ impl Outcomes {
         ensures { IfOk result (λ o. o ≡ record { registers = k; letters = alphabet k pool.now; start = start; longest = 0 }) }
     {
         let letters = letters(alloc, k, pool)?;
-        let mut columns = Columns::none(alloc);
-        columns.push(k, &start)?;
+        let mut columns = Columns::with_room(alloc, k, 1)?;
+        columns.push(k, &start);
         Ok(Outcomes {
             k,
             letters,
@@ -99,7 +99,7 @@ impl Outcomes {
         let mut first = self.first;
         for _length in self.longest..longest {
             let next = columns.len();
-            columns.push_length(self.k, &self.letters, &self.start, first, steps)?;
+            columns.push_length(self.k, &self.letters, &self.start, first, steps);
             first = next;
         }
         self.first = first;

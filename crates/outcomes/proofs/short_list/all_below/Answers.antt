@@ -1,4 +1,4 @@
-use Rattle.std.proofs.Common.{◌≡◌, ◌∙◌, ◌++◌, ◌∷◌, [], ap, sym}
+use Rattle.std.proofs.Common.{◌∙◌, ◌++◌, ◌∷◌, [], ap, sym}
 use Rattle.outcomes.proofs.Looking.{numbers_none, numbers_push}
 use Rattle.outcomes.proofs.short_list.all_below.Goals as goal
 

@@ -1,4 +1,4 @@
-use Rattle.std.proofs.Common.{◌≡◌, ◌<◌, ◌≤◌, [], arith, length}
+use Rattle.std.proofs.Common.{◌<◌, ◌≤◌, [], arith, length}
 use Rattle.std.proofs.lemmas.Result.{IfOk-weaker}
 use Rattle.window_exec.specs.declared.state.WState.{WState}
 use Rattle.outcomes.proofs.Choosing.{all_are, candidates_are}

@@ -1,8 +1,8 @@
-use Rattle.std.proofs.Common.{◌≡◌, ◌≤◌, ◌-◌, ◌*◌, ◌++◌, List, length, take}
+use Rattle.std.proofs.Common.{ℕ, ◌≡◌, ◌≤◌, ◌+◌, ◌-◌, ◌*◌, ◌++◌, List, length, take}
 use Rattle.std.specs.List.{flat_map}
 use Rattle.thumb_instr.specs.declared.instr.Instr.{Instr}
 use Rattle.step_ledger.specs.Counts.{RisesBy}
-use Rattle.outcomes.specs.Columns.{extended, Holds}
+use Rattle.outcomes.specs.Columns.{extended, HaveRoom, Holds}
 use Rattle.outcomes.proofs.columns.Columns.push_length.Given as goal
 
 -- so many of the longest sequences have each letter behind them
@@ -11,5 +11,7 @@ invariant-loop-place g l = record {
   holds : (shorter longest : List (List Instr)) → length shorter ≡ l.first → Holds l.k l.start (shorter ++ longest) l.initial.self
       → Holds l.k l.start (shorter ++ longest ++ flat_map (extended l.letters) (take (l.place - l.first) longest)) l.self;
   more : length l.initial.self.flags.items ≤ length l.self.flags.items;
+  room : (more : ℕ) → HaveRoom l.k (more + (length l.initial.self.flags.items - l.first) * length l.letters) l.initial.self
+      → HaveRoom l.k (more + (length l.initial.self.flags.items - l.place) * length l.letters) l.self;
   count : RisesBy l.initial.steps l.steps ((l.place - l.first) * length l.letters);
 }

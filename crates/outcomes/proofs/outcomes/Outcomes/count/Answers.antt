@@ -1,4 +1,4 @@
-use Rattle.std.proofs.Common.{◌≡◌, ◌+◌, ◌∙◌, ap, subst, length, arith}
+use Rattle.std.proofs.Common.{◌≡◌, ◌+◌, ap, subst, length, arith}
 use Rattle.outcomes.specs.Outcomes.{Extent, sequences_below}
 use Rattle.outcomes.proofs.Growing.{count_is}
 use Rattle.outcomes.proofs.outcomes.Outcomes.count.Goals as goal

@@ -1,5 +1,6 @@
 use Rattle.std.proofs.Common.{◌+◌, ◌-◌, length}
 use Rattle.step_ledger.specs.Counts.{RisesBy}
+use Rattle.outcomes.specs.Columns.{HaveRoom}
 use Rattle.outcomes.specs.Outcomes.{sequences_below}
 use Rattle.outcomes.proofs.Growing.{IsGrown}
 use Rattle.outcomes.proofs.outcomes.Outcomes.grow.Given as goal
@@ -8,5 +9,6 @@ use Rattle.outcomes.proofs.outcomes.Outcomes.grow.Given as goal
 abbrev pub invariant-loop-length : goal.invariant-loop-length
 invariant-loop-length g l = record {
   grown : IsGrown l.self-inside.k l.self-inside.letters.items l.self-inside.start l._length l.first l.columns;
+  room : HaveRoom l.self-inside.k (length (sequences_below l.self-inside.letters.items (l.longest + 1)) - length (sequences_below l.self-inside.letters.items (l._length + 1))) l.columns;
   count : RisesBy l.initial.steps l.steps (length (sequences_below l.self-inside.letters.items (l._length + 1)) - length (sequences_below l.self-inside.letters.items (l.self-inside.longest + 1)));
 }
