@@ -15,16 +15,29 @@ use thumb_instr::items::{C, N, V, Z};
 use window_exec::WState;
 
 /// How many words of a column are compared at once.
+const ROW: usize = 64;
+
+/// A quarter of a row, where one is found in it.
 const BLOCK: usize = 16;
 
 /// Whether a column may have a word at one of the sixteen places from one on.
 #[inline(always)]
-fn is_near(column: &[u32], first: usize, word: u32) -> bool
+fn is_in_block(column: &[u32], first: usize, word: u32) -> bool
     requires { first + 16 ≤ length column.now }
     ensures { result ≡ false → (k : ℕ) → first ≤ k → k < first + 16 → (get_or column.now k 0 == word) ≡ false }
 {
     let block = u32x16::from_slice(&column[first..]);
     block.simd_eq(u32x16::splat(word)).to_bitmask() != 0
+}
+
+/// Whether a column may have a word at one of the 64 places from one on.
+#[inline(always)]
+fn is_in_row(column: &[u32], first: usize, word: u32) -> bool
+    requires { first + 64 ≤ length column.now }
+    ensures { result ≡ false → (k : ℕ) → first ≤ k → k < first + 64 → (get_or column.now k 0 == word) ≡ false }
+{
+    let row = u32x64::from_slice(&column[first..]);
+    row.simd_eq(u32x64::splat(word)).to_bitmask() != 0
 }
 
 /// Puts the numbers from one on and below another at which a column has a word behind those before.
@@ -48,7 +61,7 @@ fn push_places(
     Ok(())
 }
 
-/// Puts the numbers of sixteen places at which a column has a word behind those before. Mostly it has none there.
+/// Puts the numbers of sixteen places at which a column has a word behind those before.
 #[inline(always)]
 fn push_block(
     places: &mut Vec<u64>,
@@ -60,8 +73,28 @@ fn push_block(
     requires before { places.old.items ≡ filter (λ q. get_or column.now q 0 == word) (numbers_from 0 first) }
     ensures { OnOk result (places.new.items ≡ filter (λ q. get_or column.now q 0 == word) (numbers_from 0 (first + 16))) }
 {
-    if is_near(column, first, word) {
+    if is_in_block(column, first, word) {
         return push_places(places, column, first, first + BLOCK, word);
+    }
+    Ok(())
+}
+
+/// Puts the numbers of 64 places at which a column has a word behind those before. Mostly it has none there.
+#[inline(always)]
+fn push_row(
+    places: &mut Vec<u64>,
+    column: &[u32],
+    first: usize,
+    word: u32,
+) -> Result<(), AllocError>
+    requires within { first + 64 ≤ length column.now }
+    requires before { places.old.items ≡ filter (λ q. get_or column.now q 0 == word) (numbers_from 0 first) }
+    ensures { OnOk result (places.new.items ≡ filter (λ q. get_or column.now q 0 == word) (numbers_from 0 (first + 64))) }
+{
+    if is_in_row(column, first, word) {
+        for block in 0..ROW / BLOCK {
+            push_block(places, column, first + block * BLOCK, word)?;
+        }
     }
     Ok(())
 }
@@ -72,11 +105,11 @@ fn places_of(alloc: Global, column: &[u32], limit: usize, word: u32) -> Result<V
     ensures { IfOk result (λ v. v.items ≡ filter (λ q. get_or column.now q 0 == word) (numbers_from 0 limit)) }
 {
     let mut places = Vec::new(alloc);
-    let blocks = limit / BLOCK;
-    for block in 0..blocks {
-        push_block(&mut places, column, block * BLOCK, word)?;
+    let rows = limit / ROW;
+    for row in 0..rows {
+        push_row(&mut places, column, row * ROW, word)?;
     }
-    push_places(&mut places, column, blocks * BLOCK, limit, word)?;
+    push_places(&mut places, column, rows * ROW, limit, word)?;
     Ok(places)
 }
 

@@ -2,5 +2,5 @@ use Rattle.std.proofs.Common.{◌≡◌, ◌*◌, ◌==◌, filter, get_or}
 use Rattle.seq_enum.specs.Lists.{numbers_from}
 use Rattle.outcomes.proofs.looks.places_of.Given as goal
 
-abbrev pub invariant-loop-block : goal.invariant-loop-block
-invariant-loop-block l = l.places.items ≡ filter (λ q. get_or l.column q 0 == l.word) (numbers_from 0 (l.block * 16))
+abbrev pub invariant-loop-row : goal.invariant-loop-row
+invariant-loop-row l = l.places.items ≡ filter (λ q. get_or l.column q 0 == l.word) (numbers_from 0 (l.row * 64))

@@ -2,7 +2,7 @@ use Rattle.std.proofs.Common.{◌≡◌, Bool, true, false, not, eqb, map, refl,
 use Rattle.std.specs.Simd.Lanes.{chunk, mask_l}
 use Rattle.std.proofs.lemmas.Bool.{eqb-true, false≢true}
 use Rattle.std.proofs.lemmas.Simd.{length-chunk, bitmask_splat, none_from_empty_mask}
-use Rattle.outcomes.proofs.looks.is_near.Goals as goal
+use Rattle.outcomes.proofs.looks.is_in_block.Goals as goal
 
 set : (b : Bool) → not b ≡ false → b ≡ true
 set true h = refl
