@@ -1,11 +1,12 @@
 -- Which items may be live.
-use Rattle.std.proofs.Common.{◌≡◌, ℕ, ◌+◌, ◌<◌, ◌==◌, ◌&&◌, ◌||◌, Bool, true, false, List, [], ◌∷◌, map, filter, cond, refl, sym, ap, ◌∙◌, subst, ◌⊎◌, arith, inl, inr, ltb-true, lt-ltb}
+use Rattle.std.proofs.Common.{◌≡◌, ◌↔◌, ℕ, ◌<◌, ◌==◌, ◌&&◌, ◌||◌, Bool, true, false, List, [], ◌∷◌, map, filter, cond, refl, sym, ap, ◌∙◌, ◌⊎◌, arith, inl, inr, ltb-true, lt-ltb}
 use Rattle.std.specs.Prelude.{not, nat_lt}
+use Rattle.std.specs.Int.{bit_at}
 use Rattle.std.specs.List.{list_any}
-use Rattle.std.proofs.lemmas.Bool.{and_parts, and_from, cases_lt, or_cases}
+use Rattle.std.proofs.lemmas.Bool.{and_parts, and_from, cases_lt, eq-eqb, eqb-true, le-ltb, or_cases}
+use Rattle.std.proofs.lemmas.Nat.Bits.{bit_at-lt, bit_at-zero, bit_at_ones, bit_at_ones_above, same_from_bits}
 use Rattle.thumb_instr.specs.Items.{has}
 use Rattle.thumb_instr.specs.Renaming.{Low, item_under}
-use Rattle.thumb_instr.proofs.Bits.{has_none}
 use Rattle.thumb_model.specs.Items.{one_of}
 use Rattle.table_audit.specs.Soundness.{items_in}
 use Rattle.window_rewrite.specs.Fitting.{is_allowed}
@@ -46,34 +47,41 @@ masked_is mask registers x =
     chained (kept mask registers x 0) (kept mask registers x 1) (kept mask registers x 2) (kept mask registers x 3) (kept mask registers x 15) (kept mask registers x 16) (kept mask registers x 17) (kept mask registers x 18)
     ∙ one_of_passed (has mask) (item_under registers) x (0 ∷ 1 ∷ 2 ∷ 3 ∷ 15 ∷ 16 ∷ 17 ∷ 18 ∷ [])
 
--- items below n that are live may be
-abbrev pub AreAllowed : ℕ → ℕ → (ℕ → Bool) → Type 0
-AreAllowed n live allowed = (x : ℕ) → x < n → has live x ≡ true → allowed x ≡ true
-
-pub allowed_more : (n live : ℕ) (allowed : ℕ → Bool) → (has live n ≡ true → allowed n ≡ true) → AreAllowed n live allowed → AreAllowed (n + 1) live allowed
-allowed_more n live allowed h a x l = elim (cases_lt x n) [
-  | inl k ↦ a x k
-  | inr k ↦ (let e : n ≡ x = omega arith in λ g. subst (λ y. allowed y ≡ true) e (h (ap (has live) e ∙ g)))
+-- the registers r0 to r14
+pub registers_are : (x : ℕ) → has 32767 x ≡ nat_lt x 15
+registers_are x = elim (cases_lt x 15) [
+  | inl k ↦ ap (λ n. n == 1) (bit_at_ones 15 x k) ∙ sym (lt-ltb x 15 k)
+  | inr k ↦ ap (λ n. n == 1) (bit_at_ones_above 15 x k) ∙ sym (le-ltb x 15 k)
 ]
 
-pub allowed_all : (live : ℕ) (allowed : ℕ → Bool) → live < 524288 → AreAllowed 19 live allowed → (x : ℕ) → has live x ≡ true → allowed x ≡ true
-allowed_all live allowed small a x h = elim (cases_lt x 19) [
-  | inl k ↦ a x k h
-  | inr k ↦ absurd (let z : true ≡ false = sym h ∙ has_none live x small k in cc)
-]
+-- a word without an item is 0
+none_there : (w : ℕ) → ((x : ℕ) → has w x ≡ false) → w ≡ 0
+none_there w none = same_from_bits w 0 (λ x. elim (cases_lt (bit_at w x) 1) [
+  | inl k ↦ (let e : bit_at w x ≡ 0 = omega arith in e ∙ sym (bit_at-zero x))
+  | inr k ↦ absurd (let below = bit_at-lt w x in let e : bit_at w x ≡ 1 = omega arith in let one : has w x ≡ true = ap (λ n. n == 1) e in let zero = none x in cc)
+])
+
+left_one : (live allowed : Bool) → false ≡ (live && not allowed) → live ≡ true → allowed ≡ true
+left_one true true e h = refl
+left_one true false e h = absurd (cc)
+left_one false allowed e h = absurd (cc)
+
+left_none : (live allowed : Bool) → (live ≡ true → allowed ≡ true) → (live && not allowed) ≡ false
+left_none true true h = refl
+left_none true false h = absurd (let bad = h refl in cc)
+left_none false allowed h = refl
+
+-- all live items may be where none is left beside those that may
+pub none_left : (rest live : ℕ) (allowed : ℕ → Bool) → ((x : ℕ) → has rest x ≡ (has live x && not (allowed x))) → ((rest == 0) ≡ true) ↔ ((x : ℕ) → has live x ≡ true → allowed x ≡ true)
+none_left rest live allowed is = (
+  λ e x. left_one (has live x) (allowed x) (sym (ap (λ n. n == 1) (bit_at-zero x)) ∙ ap (λ w. has w x) (sym (eqb-true rest 0 e)) ∙ is x),
+  λ all. eq-eqb rest 0 (none_there rest (λ x. is x ∙ left_none (has live x) (allowed x) (all x))),
+)
 
 -- what tells of an item whether it may be live
 pub allowed_is : (kept named mask : ℕ) (registers : List Low) (x : ℕ) → ((y : ℕ) → has kept y ≡ one_of y (map (item_under registers) (items_in mask))) → ((y : ℕ) → has named y ≡ one_of y (map (λ r. r.number) registers))
     → (has kept x || (nat_lt x 15 && not (has named x))) ≡ is_allowed (items_in mask) registers x
 allowed_is kept named mask registers x k n = rw (k x, n x) refl
-
-pub may_be_live : (b live allowed : Bool) → b ≡ (not live || allowed) → b ≡ true → live ≡ true → allowed ≡ true
-may_be_live b true allowed e f g = sym e ∙ f
-may_be_live b false allowed e f g = absurd (cc)
-
-pub may_not_be : (b live allowed : Bool) → b ≡ (not live || allowed) → b ≡ false → (live ≡ true) × (allowed ≡ false)
-may_not_be b true allowed e f = (refl, sym e ∙ f)
-may_not_be b false allowed e f = absurd (cc)
 
 -- ---- where it may ----
 

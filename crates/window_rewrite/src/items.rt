@@ -1,5 +1,5 @@
 //! Whether the items that are live after a window may be.
-ghost use Rattle.std.specs.Prelude.{◌≡◌, ℕ, ◌+◌, ◌<◌, ◌≤◌, ◌==◌, ◌&&◌, ◌||◌, not, nat_lt, [], ◌∷◌, ◌++◌, length, map, true, ◌↔◌};
+ghost use Rattle.std.specs.Prelude.{◌≡◌, ℕ, ◌+◌, ◌<◌, ◌≤◌, ◌==◌, ◌&&◌, nat_lt, [], ◌∷◌, ◌++◌, length, map, true, ◌↔◌};
 ghost use Rattle.thumb_instr.specs.Items.{has};
 ghost use Rattle.thumb_instr.specs.Renaming.{item_under};
 ghost use Rattle.thumb_model.specs.Items.{one_of};
@@ -88,24 +88,22 @@ fn items_of(registers: &[Low]) -> Items
     items
 }
 
-/// Whether an item isn't live, or may be: items of the mask become it, or it is a register outside the map, of which these are the registers.
-fn may_be(live: Items, kept: Items, named: Items, item: u8) -> bool
-    requires { item < 19 }
-    ensures { result ≡ (not (has live.bits item) || (has kept.bits item || (nat_lt item 15 && not (has named.bits item)))) }
+/// The registers r0 to r14.
+fn all_registers() -> Items
+    ensures { (x : ℕ) → has result.bits x ≡ nat_lt x 15 }
 {
-    !live.has(item) || (kept.has(item) || (item < 15 && !named.has(item)))
+    Items { bits: 0x7FFF }
 }
 
-/// Whether each of the live items may be live.
+/// Whether each of the live items may be live: items of the mask become it, or it is a register outside the map, of which these are the registers.
 pub(crate) fn are_allowed(mask: Mask, registers: &[Low], live: Items) -> bool
     ensures { (result ≡ true) ↔ ((x : ℕ) → has live.bits x ≡ true → is_allowed (items_in mask.items.bits) registers.now x ≡ true) }
 {
     let kept = kept_items(mask, registers);
     let named = items_of(registers);
-    for item in 0..19u8 {
-        if !may_be(live, kept, named, item) {
-            return false;
-        }
-    }
-    true
+    let all = all_registers();
+    let outside = all.minus(named);
+    let allowed = kept.union(outside);
+    let refused = live.minus(allowed);
+    refused.bits == 0
 }
