@@ -5,3 +5,4 @@ pub mod Removed
 pub mod Aimed
 pub mod Drafts
 pub mod Prints
+pub mod Standing

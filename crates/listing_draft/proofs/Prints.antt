@@ -60,14 +60,14 @@ printed_other gone aims n k m l ls out new all op e f h p =
     ∙ h
 
 -- how many places are left
-pub places_pass : (n k m : ℕ) (l : Line) (ls all : List Line) → n + length (places_of (l ∷ ls)) ≡ length (places_of all) → k ≡ length (places_in l.statement) → m ≡ n + k → m + length (places_of ls) ≡ length (places_of all)
-places_pass n k m l ls all h e f = let a = length-append (places_in l.statement) (places_of ls) in omega arith
+pub places_pass : (n k m : ℕ) (l : Line) (ls : List Line) (count : ℕ) → n + length (places_of (l ∷ ls)) ≡ count → k ≡ length (places_in l.statement) → m ≡ n + k → m + length (places_of ls) ≡ count
+places_pass n k m l ls count h e f = let a = length-append (places_in l.statement) (places_of ls) in omega arith
 
-pub place_within : (n : ℕ) (l : Line) (ls all : List Line) → n + length (places_of (l ∷ ls)) ≡ length (places_of all) → is_op l.statement ≡ true → n + 1 ≤ length (places_of all)
-place_within n l ls all h e = let a = length-append (places_in l.statement) (places_of ls) in let o = one_place l.statement e in omega arith
+pub place_within : (n : ℕ) (l : Line) (ls : List Line) (count : ℕ) → n + length (places_of (l ∷ ls)) ≡ count → is_op l.statement ≡ true → n + 1 ≤ count
+place_within n l ls count h e = let a = length-append (places_in l.statement) (places_of ls) in let o = one_place l.statement e in omega arith
 
-pub places_within : (n : ℕ) (l : Line) (ls all : List Line) → n + length (places_of (l ∷ ls)) ≡ length (places_of all) → n + length (places_in l.statement) ≤ length (places_of all)
-places_within n l ls all h = let a = length-append (places_in l.statement) (places_of ls) in omega arith
+pub places_within : (n : ℕ) (l : Line) (ls : List Line) (count : ℕ) → n + length (places_of (l ∷ ls)) ≡ count → n + length (places_in l.statement) ≤ count
+places_within n l ls count h = let a = length-append (places_in l.statement) (places_of ls) in omega arith
 
 pub nothing_printed : (gone : List Bool) (aims : List (Option Name)) (n : ℕ) (out all : List Line) → out ++ now_of (drop n gone) (drop n aims) [] ≡ all → out ≡ all
 nothing_printed gone aims n out all h = sym (append_none out) ∙ h
