@@ -16,7 +16,7 @@ use Rattle.flow_tidy.specs.Due.{AreDue, IsCaused}
 use Rattle.flow_tidy.specs.Quick.{left, ChangesSoonest, IsQuick}
 use Rattle.flow_tidy.proofs.Aimed.{aimed_code, code_aimed}
 use Rattle.flow_tidy.proofs.Quickly.{code_goes, due_no_more, reached_left, soonest_idle, soonest_next}
-use Rattle.flow_tidy.proofs.Settled.{all_due, due_aimed, marks_aimed, MayVanish}
+use Rattle.flow_tidy.proofs.Settled.{due_aimed, marks_aimed, MayVanish}
 
 -- what the code tells where an instruction goes at a kept place
 pub record IsLeft (d e : Drafted) (p : ℕ) (dues : List Bool) : Type 0 where
@@ -79,18 +79,18 @@ length_of : (n : ℕ) (b : Bool) → length (replicate n b) ≡ n
 length_of zero b = refl
 length_of (suc n) b = ap suc (length_of n b)
 
-pub quick_first : (ls : List Line) (d : Drafted) (marks dues : List Bool) (n : ℕ) → d ≡ unchanged ls → lines_now d ≡ ls → AreMarks (code_of ls) marks → n ≡ length (places_of ls) → dues ≡ replicate n true → IsQuick d marks dues
-quick_first ls d marks dues n is lines a e f =
+pub quick_first : (ls : List Line) (d : Drafted) (marks dues : List Bool) → d ≡ unchanged ls → lines_now d ≡ ls → AreMarks (code_of ls) marks → AreDue (code_of ls) dues → IsQuick d marks dues
+quick_first ls d marks dues is lines a f =
     let m : ℕ = length (places_of ls) in
     let gone : d.gone ≡ replicate m false = ap (λ (x : Drafted). x.gone) is in
     let many : length d.gone ≡ m = ap length gone ∙ length_of m false in
     let all : length marks ≡ m = a.len in
-    let due_many : length dues ≡ m = ap length f ∙ length_of n true ∙ e in
+    let due_many : length dues ≡ m = f.len in
     let marks_so : left d.gone marks ≡ marks = ap (λ (gs : List Bool). left gs marks) gone ∙ left_none m marks all in
-    let dues_so : left d.gone dues ≡ replicate n true = ap (λ (gs : List Bool). left gs dues) gone ∙ left_none m dues due_many ∙ f in
+    let dues_so : left d.gone dues ≡ dues = ap (λ (gs : List Bool). left gs dues) gone ∙ left_none m dues due_many in
     record {
       many = due_many ∙ sym many;
       all = all ∙ sym many;
       reached = subst (λ (l : List Line). AreMarks (code_of l) (left d.gone marks)) (sym lines) (subst (AreMarks (code_of ls)) (sym marks_so) a);
-      due = subst (λ (l : List Line). AreDue (code_of l) (left d.gone dues)) (sym lines) (subst (AreDue (code_of ls)) (sym dues_so) (all_due (code_of ls) n e));
+      due = subst (λ (l : List Line). AreDue (code_of l) (left d.gone dues)) (sym lines) (subst (AreDue (code_of ls)) (sym dues_so) f);
     }

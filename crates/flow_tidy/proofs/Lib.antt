@@ -28,3 +28,4 @@ pub mod Wholes
 pub mod Safes
 pub mod Grounds
 pub mod Halves
+pub mod Starting

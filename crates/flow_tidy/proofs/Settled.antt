@@ -65,7 +65,7 @@ length_all (suc n) = ap suc (length_all n)
 
 -- ---- what is due ----
 
-caused_within : (code : Code) (p : ℕ) → IsCaused code p → p < length code.places
+pub caused_within : (code : Code) (p : ℕ) → IsCaused code p → p < length code.places
 caused_within code p c = stands_within code p c.cause c.is
 
 pub all_due : (code : Code) (n : ℕ) → n ≡ length code.places → AreDue code (replicate n true)

@@ -1,7 +1,7 @@
 -- Places at which a change has its cause.
-use Rattle.std.specs.Prelude.{◌≡◌, ℕ, zero, suc, ◌+◌, ◌<◌, ◌≤◌, ◌&&◌, not, Bool, true, false, List, length, Option, Some, None, slice_get, slice_set}
+use Rattle.std.specs.Prelude.{◌≡◌, ℕ, zero, suc, ◌+◌, ◌<◌, ◌≤◌, ◌&&◌, ◌||◌, not, Bool, true, false, List, length, Option, Some, None, slice_get, slice_set}
 use Rattle.thumb_model.specs.Layout.{Layable}
-use Rattle.thumb_model.specs.Listing.{Name, Place, Op, Word, Line, Code, code_of}
+use Rattle.thumb_model.specs.Listing.{Name, Place, Op, Word, Line, Code, code_of, is_call_instr}
 use Rattle.code_flow.specs.Marks.{AreMarks}
 use Rattle.label_layout.specs.Addresses.{Addresses, AreAddresses}
 use Rattle.flow_tidy.specs.Chains.{is_always}
@@ -23,6 +23,12 @@ pub record HasEnd (code : Code) (p : ℕ) : Type 0 where
 pub record AreDue (code : Code) (due : List Bool) : Type 0 where
   pub len : length due ≡ length code.places
   pub each : (p : ℕ) → IsCaused code p → slice_get due p ≡ Some true
+
+-- whether a change may have its cause where this stands, which is reached or not: a branch, or an instruction that isn't reached and is no call
+abbrev pub may_change : Option Place → Bool → Bool
+may_change None reached = false
+may_change (Some (Word v)) reached = false
+may_change (Some (Op i mention)) reached = is_branch i || not (reached || is_call_instr i)
 
 -- whether a branch with a condition stands at a place
 abbrev pub is_branch_if : Option Place → Bool

@@ -50,6 +50,13 @@ impl Due {
         Ok(Due { marks, least: 0 })
     }
 
+    /// The places with these marks.
+    pub(crate) fn of(marks: Vec<bool>) -> Self
+        ensures { result ≡ marks.items }
+    {
+        Due { marks, least: 0 }
+    }
+
     /// A place before which none is due: the least that is, where one is.
     pub(crate) fn least(&mut self) -> usize
         ensures least { IsLeast self.new result }

@@ -1,13 +1,19 @@
-//! Where the lines and places of a listing begin in its widest layout: what tells that a branch surely reaches a label, whichever instructions go.
+//! What is found at the start: where the lines and places of a listing begin in its widest layout, which tells that a branch surely reaches a label, whichever
+//! instructions go; and the places that are due.
 ghost use Rattle.std.specs.Prelude.{◌≡◌, ◌++◌, ◌<◌, ◌≤◌, ◌^◌, Some, true, length, map, replicate, slice_get, IfOk, OnOk};
-ghost use Rattle.thumb_model.specs.Listing.{places_of};
+ghost use Rattle.thumb_model.specs.Listing.{code_of, places_of};
+ghost use Rattle.code_flow.specs.Marks.{AreMarks};
 ghost use Rattle.listing_parser.specs.Views.{line_view};
 ghost use Rattle.steady_layout.specs.Steady.{reaches as is_reached};
+ghost use Rattle.flow_tidy.specs.Due.{may_change, AreDue};
 ghost use Rattle.flow_tidy.specs.Ground.{places_begin, IsGround, IsSteadyTo};
 ghost use Rattle.flow_tidy.specs.Halves.{wide_of as one_if_wide, wides_before, IsBeyond};
 ghost use Rattle.flow_tidy.specs.Quick.{IsSure};
 
-use listing_parser::{Line, Listing, Memory, Place};
+use crate::chains::is_branch;
+use crate::due::Due;
+use code_flow::Reached;
+use listing_parser::{Line, Listing, Memory, Place, is_call};
 use std::alloc::{AllocError, Global};
 use steady_layout::{Start, lay_widest};
 use thumb_instr::Instr;
@@ -47,35 +53,60 @@ fn place_starts(alloc: Global, lines: &[Line], starts: &[Start]) -> Result<Vec<S
     Ok(places)
 }
 
-/// 1 for a data word or a call of a label.
-fn wide_of(listing: &Listing, place: u32) -> u32
-    ensures wide { result ≡ one_if_wide (slice_get (places_of listing.now) place) }
-    ensures few { result ≤ 1 }
+/// What is seen of a place.
+#[derive(Clone, Copy)]
+struct Look {
+    /// 1 for a data word or a call of a label, else 0.
+    wide: u32,
+    /// Whether a change may have its cause there.
+    may_change: bool,
+}
+
+/// What is seen of a place, and whether that is reached.
+fn look_at(listing: &Listing, place: u32, is_reached: bool) -> Look
+    ensures wide { result.wide ≡ one_if_wide (slice_get (places_of listing.now) place) }
+    ensures few { result.wide ≤ 1 }
+    ensures may_change { result.may_change ≡ may_change (slice_get (places_of listing.now) place) is_reached }
 {
     match listing.place(place) {
-        Some(Place::Word(_)) => 1,
-        Some(
-            Place::Op {
-                instr: Instr::Call { .. },
-                ..
-            },
-        ) => 1,
-        _ => 0,
+        None => Look {
+            wide: 0,
+            may_change: false,
+        },
+        Some(Place::Word(_)) => Look {
+            wide: 1,
+            may_change: false,
+        },
+        Some(Place::Op { instr, .. }) => Look {
+            wide: matches!(instr, Instr::Call { .. }) as u32,
+            may_change: is_branch(&instr) || !(is_reached || is_call(&instr)),
+        },
     }
 }
 
-/// For each place, how many before it are data words or calls of a label.
-fn wide_before(alloc: Global, listing: &Listing) -> Result<Vec<u32>, AllocError>
-    ensures { IfOk result (λ out. out.items ≡ wides_before 0 (places_of listing.now)) }
+/// What is seen of all places: how many before each are data words or calls of a label, and which are due at first.
+struct Seen {
+    wide: Vec<u32>,
+    due: Vec<bool>,
+}
+
+/// What is seen of all places in one pass over them.
+fn look_over(alloc: Global, listing: &Listing, reached: &Reached) -> Result<Seen, AllocError>
+    requires reached { AreMarks (code_of listing.now) reached.now }
+    ensures wide { IfOk result (λ seen. seen.wide.items ≡ wides_before 0 (places_of listing.now)) }
+    ensures due { IfOk result (λ seen. AreDue (code_of listing.now) seen.due.items) }
 {
     let places = listing.place_count();
     let mut wide = Vec::with_capacity(alloc, places as usize)?;
+    let mut due = Vec::with_capacity(alloc, places as usize)?;
     let mut count: u32 = 0;
     for place in 0..places {
+        let look = look_at(listing, place, reached.at(place));
         wide.push(count)?;
-        count += wide_of(listing, place);
+        due.push(look.may_change)?;
+        count += look.wide;
     }
-    Ok(wide)
+    Ok(Seen { wide, due })
 }
 
 /// Whether a branch that goes from -2 `half` to below 2 `half` bytes from its address and 4 reaches an address.
@@ -87,23 +118,31 @@ fn is_within(half: u32, from: u32, to: u32) -> bool
     (to as u64) < base + 2 * half as u64 && base <= to as u64 + 2 * half as u64
 }
 
-/// The ground of a listing that surely can be laid out.
-pub(crate) fn ground_of(alloc: Global, listing: &Listing, base: u32) -> Result<Ground, Memory>
-    requires { IsSure base listing.now }
-    ensures base { IfOk result (λ g. g.base ≡ base) }
-    ensures ground { IfOk result (λ g. IsGround listing.now g) }
+/// The ground of a listing that surely can be laid out, and the places that are due at first.
+pub(crate) fn ground_of(
+    alloc: Global,
+    listing: &Listing,
+    base: u32,
+    reached: &Reached,
+) -> Result<(Ground, Due), Memory>
+    requires sure { IsSure base listing.now }
+    requires reached { AreMarks (code_of listing.now) reached.now }
+    ensures base { IfOk result (λ r. r.0.base ≡ base) }
+    ensures ground { IfOk result (λ r. IsGround listing.now r.0) }
+    ensures due { IfOk result (λ r. AreDue (code_of listing.now) r.1) }
 {
     match lay_widest(alloc, listing.lines(), base)? {
         None => unreachable!(),
         Some(lines) => {
             let places = place_starts(alloc, listing.lines(), &lines)?;
-            let wide = wide_before(alloc, listing)?;
-            Ok(Ground {
+            let Seen { wide, due } = look_over(alloc, listing, reached)?;
+            let ground = Ground {
                 base,
                 lines,
                 places,
                 wide,
-            })
+            };
+            Ok((ground, Due::of(due)))
         }
     }
 }

@@ -113,8 +113,11 @@ pub(crate) fn leave_room(lines: &[Line]) -> bool
         if taken > MOST_LINES {
             return false;
         }
+        if !is_short(&line.text) {
+            return false;
+        }
     }
-    are_short(lines)
+    true
 }
 
 /// Whether the line of a branch to a label surely is no longer than a line may be.

@@ -7,6 +7,7 @@ ghost use Rattle.thumb_model.specs.Same.{Same};
 ghost use Rattle.code_flow.specs.Marks.{AreMarks};
 ghost use Rattle.label_layout.specs.Addresses.{AreAddresses};
 ghost use Rattle.listing_draft.specs.Drafted.{lines_now};
+ghost use Rattle.flow_tidy.specs.Due.{AreDue};
 ghost use Rattle.flow_tidy.specs.Ground.{IsGround};
 ghost use Rattle.flow_tidy.specs.Quick.{left, IsSure};
 ghost use Rattle.flow_tidy.specs.Tidying.{setting, tidying_cost, AreTidiedBy, IsRefusal};
@@ -81,21 +82,22 @@ fn tidied_on(alloc: Global, draft: Draft, base: u32, reached: &Reached) -> Resul
 }
 
 /// What is left of a listing that surely can be laid out whichever of its instructions go: by places that stay, until it is not sure whether a branch may go elsewhere.
-/// The ground is the listing's.
+/// The ground is the listing's, and each place at which a change has its cause is due.
 fn tidied_by_places(
     alloc: Global,
     listing: Listing,
     ground: &Ground,
+    mut due: Due,
     reached: &Reached,
 ) -> Result<Tidy, Memory>
     requires sure { IsSure ground.now.base listing }
     requires ground { IsGround listing ground.now }
+    requires due { AreDue (code_of listing) due }
     requires reached { AreMarks (code_of listing) reached.now }
     ensures { IfOk result (λ new. AreTidiedBy ground.now.base listing new.listing new.changes) }
 {
     let mut draft = Draft::new(alloc, listing)?;
     let places = draft.place_count();
-    let mut due = Due::all(alloc, places)?;
     let mut ends = Ends::none(alloc, places)?;
     let mut count = 0;
     loop {
@@ -138,8 +140,8 @@ pub fn tidy<L: Ledger>(
 {
     if is_sure(alloc, &listing, base)? {
         let reached = reached(alloc, &listing, steps)?;
-        let ground = ground_of(alloc, &listing, base)?;
-        let left = tidied_by_places(alloc, listing, &ground, &reached)?;
+        let (ground, due) = ground_of(alloc, &listing, base, &reached)?;
+        let left = tidied_by_places(alloc, listing, &ground, due, &reached)?;
         return Ok(left);
     }
     let laid = layout(alloc, &listing, base)?;

@@ -25,12 +25,11 @@ loop-ends-init c =
     let d = c.in_ok-draft.draft in
     let lines : lines_now d ≡ c.args.listing = c.in_ok-draft.ensures.lines in
     let same : room_of (lines_now d) ≡ room_of c.args.listing = ap room_of lines in
-    let many = as_many c.args.listing d c.place_count-places.result c.in_ok-draft.ensures.is c.place_count-places.ensures.draft c.place_count-places.ensures.count in
     record {
       made = subst (λ (l : List Line). AreMadeBy (setting g.base) c.args.listing l 0) (sym lines) (nothing_made (setting g.base) c.args.listing);
       room = omega arith;
       safe = safe_first g c.args.listing d c.in_ok-draft.ensures.is lines c.place_count-places.ensures.draft c.requires.ground c.requires.sure;
-      quick = quick_first c.args.listing d c.args.reached.now c.in_ok-due.due c.place_count-places.result c.in_ok-draft.ensures.is lines c.requires.reached many c.in_ok-due.ensures;
+      quick = quick_first c.args.listing d c.args.reached.now c.args.due c.in_ok-draft.ensures.is lines c.requires.reached c.requires.due;
       ends = none_known d c.place_count-places.result c.in_ok-ends.ends c.in_ok-ends.ensures c.place_count-places.ensures.count;
     }
 
