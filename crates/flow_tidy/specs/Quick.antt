@@ -1,7 +1,7 @@
 -- Tidying by places that stay, as far as each change surely can be made.
-use Rattle.std.specs.Prelude.{◌≡◌, ℕ, ◌+◌, ◌%◌, ◌<◌, ◌≤◌, ◌&&◌, Bool, true, false, List, [], ◌∷◌, length, Some, slice_get, if◌then◌else◌}
+use Rattle.std.specs.Prelude.{◌≡◌, ℕ, ◌+◌, ◌%◌, ◌<◌, ◌≤◌, ◌&&◌, Bool, true, false, List, [], ◌∷◌, length, Some, option_and_then, slice_get, if◌then◌else◌}
 use Rattle.thumb_instr.specs.declared.instr.Instr.{Instr}
-use Rattle.thumb_model.specs.Listing.{Name, Line, code_of, places_of}
+use Rattle.thumb_model.specs.Listing.{Name, Line, code_of, place_of, places_of}
 use Rattle.thumb_model.specs.ReplacedLines.{is_op}
 use Rattle.code_flow.specs.Marks.{AreMarks}
 use Rattle.kept_places.specs.Marks.{is_gone, rank}
@@ -19,7 +19,7 @@ use Rattle.flow_tidy.specs.Tidied.{line_length, lines_by, rank as turn, Cause, T
 use Rattle.flow_tidy.specs.Tidying.{setting}
 use Rattle.flow_tidy.specs.Due.{AreDue, HasEnd}
 use Rattle.flow_tidy.specs.Halves.{wide_of}
-use Rattle.flow_tidy.specs.Made.{change}
+use Rattle.flow_tidy.specs.Made.{change, label_of_branch}
 use Rattle.flow_tidy.specs.Ground.{IsGround, IsSteadyTo}
 
 -- of marks of all places, those of the places that are kept
@@ -79,6 +79,12 @@ pub record IsSafe (g : Ground) (d : Drafted) : Type 0 where
   pub sure : IsSure g.base (lines_now d)
   pub steady : IsSteady g.base (whole d)
   pub narrow : (p : ℕ) → is_gone d.gone p ≡ true → wide_of (slice_get (places_of d.given) p) ≡ 0
+
+-- the branch at a kept place goes to this kept one
+pub record GoesTo (d : Drafted) (p to : ℕ) : Type 0 where
+  pub is : Some (rank d.gone to) ≡ option_and_then (place_of (code_of (lines_now d))) (label_of_branch (stands d p))
+  pub within : to < length d.gone
+  pub kept : is_gone d.gone to ≡ false
 
 -- the chain of the branch at a kept place has an end: the label that is mentioned at this other one
 pub record EndsAt (d : Drafted) (p last : ℕ) : Type 0 where

@@ -5,10 +5,10 @@ ghost use Rattle.kept_places.specs.Marks.{is_gone, rank};
 ghost use Rattle.listing_draft.specs.Drafted.{lines_now};
 ghost use Rattle.flow_tidy.specs.declared.chain_ends.Known.TheVariants.{Walked};
 ghost use Rattle.flow_tidy.specs.Due.{HasEnd};
-ghost use Rattle.flow_tidy.specs.Quick.{EndsAt};
+ghost use Rattle.flow_tidy.specs.Quick.{EndsAt, GoesTo};
 ghost use Rattle.flow_tidy.specs.ChainEnds.{hop_at, known_in, AreEnds, AreWalked, IsLast};
 
-use crate::drafted::{hop, target};
+use crate::drafted::hop;
 use listing_draft::Draft;
 use std::alloc::{AllocError, Global};
 use std::marker::Model;
@@ -200,6 +200,9 @@ fn note_walked(draft: &mut Draft, ends: &mut Ends, first: u32, last: Option<u32>
             return;
         };
         ends.note(at, Known::Last(last));
+        if last == Some(at) {
+            return;
+        }
         match hop(draft, at) {
             None => return,
             Some(next) => at = next,
@@ -207,17 +210,18 @@ fn note_walked(draft: &mut Draft, ends: &mut Ends, first: u32, last: Option<u32>
     }
 }
 
-/// A kept place whose branch goes to the end of the chain that the branch at a kept place begins, if the chain has an end. What is found on the way is remembered.
-pub(crate) fn chain_end(draft: &mut Draft, ends: &mut Ends, place: u32) -> Option<u32>
+/// A kept place whose branch goes to the end of the chain that the branch at a kept place begins, if the chain has an end. The first place is the kept one that
+/// this branch goes to. What is found on the way is remembered.
+pub(crate) fn chain_end(draft: &mut Draft, ends: &mut Ends, place: u32, first: u32) -> Option<u32>
     requires within { place < length draft.old.gone }
     requires kept { is_gone draft.old.gone place ≡ false }
+    requires goes { GoesTo draft.old place first }
     requires known { AreEnds draft.old ends.old }
     ensures end { IfSome result (λ last. EndsAt draft.old place last) }
     ensures none { IfNone result (HasEnd (code_of (lines_now draft.old)) (rank draft.old.gone place) → ⊥) }
     ensures known { AreEnds draft.new ends.new }
     ensures same { draft.new ≡ draft.old }
 {
-    let first = target(draft, place)?;
     let second = hop(draft, first)?;
     ends.begin();
     let last = walk(draft, ends, first, second);

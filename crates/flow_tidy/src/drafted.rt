@@ -1,5 +1,5 @@
 //! What stands at the places of a draft. A place that is kept has its rank as its number in the lines now.
-ghost use Rattle.std.specs.Prelude.{◌≡◌, ◌<◌, ◌↔◌, true, false, None, length, option_and_then, option_map, IfSome, IsTrue};
+ghost use Rattle.std.specs.Prelude.{◌≡◌, ◌<◌, ◌↔◌, true, false, length, option_and_then, option_map, IfSome, IsTrue};
 ghost use Rattle.kept_places.specs.Marks.{is_gone, rank};
 ghost use Rattle.thumb_model.specs.Listing.{code_of, place_of};
 ghost use Rattle.code_flow.specs.Marks.{AreMarks};
@@ -7,7 +7,7 @@ ghost use Rattle.listing_draft.specs.Drafted.{lines_now, stands};
 ghost use Rattle.flow_tidy.specs.Due.{is_branch_always as branches_always, is_branch_if as branches_if, lets_on as code_lets_on};
 ghost use Rattle.flow_tidy.specs.Tidied.{GoesToNext, IsIdle};
 ghost use Rattle.flow_tidy.specs.Made.{label_of_always, label_of_branch};
-ghost use Rattle.flow_tidy.specs.Quick.{left};
+ghost use Rattle.flow_tidy.specs.Quick.{left, GoesTo};
 
 use crate::chains::{is_always, is_branch};
 use code_flow::Reached;
@@ -56,34 +56,18 @@ pub(crate) fn hop(draft: &mut Draft, place: u32) -> Option<u32>
     }
 }
 
-/// Whether a branch stands at a kept place, with a condition or without.
-pub(crate) fn is_branch_at(draft: &Draft, place: u32) -> bool
-    requires within { place < length draft.now.gone }
-    requires kept { is_gone draft.now.gone place ≡ false }
-    ensures { result ≡ false → label_of_branch (stands draft.now place) ≡ None }
-{
-    match draft.instr(place) {
-        None => false,
-        Some(instr) => is_branch(&instr),
-    }
-}
-
-/// Whether a branch to the next place stands at a kept one.
-pub(crate) fn goes_to_next(draft: &mut Draft, place: u32) -> bool
+/// Whether the branch at a kept place goes to the next one. The other place is the kept one that it goes to.
+pub(crate) fn is_next(draft: &mut Draft, place: u32, to: u32) -> bool
     requires within { place < length draft.old.gone }
     requires kept { is_gone draft.old.gone place ≡ false }
+    requires goes { GoesTo draft.old place to }
     ensures next { IsTrue result ↔ GoesToNext (code_of (lines_now draft.old)) (rank draft.old.gone place) }
     ensures same { draft.new ≡ draft.old }
 {
-    match target(draft, place) {
-        None => false,
-        Some(to) => {
-            if to <= place {
-                return false;
-            }
-            draft.node(place + 1) == to
-        }
+    if to <= place {
+        return false;
     }
+    draft.node(place + 1) == to
 }
 
 /// Whether an instruction that nothing reaches stands at a kept place, and no call.

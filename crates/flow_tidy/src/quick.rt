@@ -13,10 +13,10 @@ ghost use Rattle.flow_tidy.specs.Due.{AreDue, HasEnd};
 ghost use Rattle.flow_tidy.specs.ChainEnds.{AreEnds};
 ghost use Rattle.flow_tidy.specs.Halves.{halves};
 ghost use Rattle.flow_tidy.specs.Made.{change};
-ghost use Rattle.flow_tidy.specs.Quick.{left, EndsAt, IsOutcome, IsOutcomeAt, IsQuick, IsRedirected, IsSafe, IsSure, MayAim};
+ghost use Rattle.flow_tidy.specs.Quick.{left, EndsAt, GoesTo, IsOutcome, IsOutcomeAt, IsQuick, IsRedirected, IsSafe, IsSure, MayAim};
 
 use crate::chain_ends::{Ends, chain_end};
-use crate::drafted::{goes_to_next, is_branch_at, is_idle, lets_on};
+use crate::drafted::{is_idle, is_next, lets_on, target};
 use crate::due::Due;
 use crate::ground::{Ground, is_beyond, reaches};
 use crate::limits::{is_short_branch, leave_room};
@@ -172,17 +172,19 @@ fn retarget(
     }
 }
 
-/// What becomes of the branch at a kept place that doesn't go to the next one.
+/// What becomes of the branch at a kept place that doesn't go to the next one. The other place is the kept one that it goes to.
 fn redirect(
     alloc: Global,
     draft: &mut Draft,
     ends: &mut Ends,
     ground: &Ground,
     place: u32,
+    to: u32,
 ) -> Result<Redirected, Memory>
     requires within { place < length draft.old.gone }
     requires kept { is_gone draft.old.gone place ≡ false }
     requires later { GoesToNext (code_of (lines_now draft.old)) (rank draft.old.gone place) → ⊥ }
+    requires goes { GoesTo draft.old place to }
     requires safe { IsSafe ground.now draft.old }
     requires ends { AreEnds draft.old ends.old }
     ensures redirected { IfOk result (λ o. IsRedirected o ground.now.base draft.old place draft.new) }
@@ -190,7 +192,7 @@ fn redirect(
     ensures safe { OnOk result (IsSafe ground.now draft.new) }
     ensures ends { OnOk result (AreEnds draft.new ends.new) }
 {
-    match chain_end(draft, ends, place) {
+    match chain_end(draft, ends, place, to) {
         None => Ok(Redirected::NoEnd),
         Some(last) => retarget(alloc, draft, ground, place, last),
     }
@@ -250,15 +252,15 @@ fn change_at(
     ensures safe { OnOk result (IsSafe ground.now draft.new) }
     ensures ends { OnOk result (AreEnds draft.new ends.new) }
 {
-    if !is_branch_at(draft, place) {
+    let Some(to) = target(draft, place) else {
         return Ok(change_idle(draft, due, ends, reached, ground, place, false));
-    }
-    if goes_to_next(draft, place) {
+    };
+    if is_next(draft, place, to) {
         remove(draft, due, place);
         ends.forget();
         return Ok(Outcome::Made);
     }
-    let redirected = redirect(alloc, draft, ends, ground, place)?;
+    let redirected = redirect(alloc, draft, ends, ground, place, to)?;
     match redirected {
         Redirected::NoEnd => Ok(change_idle(draft, due, ends, reached, ground, place, false)),
         Redirected::Refused => Ok(change_idle(draft, due, ends, reached, ground, place, true)),
