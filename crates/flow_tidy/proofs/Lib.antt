@@ -29,3 +29,4 @@ pub mod Safes
 pub mod Grounds
 pub mod Halves
 pub mod Starting
+pub mod OwnLines

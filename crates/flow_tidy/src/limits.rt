@@ -9,9 +9,9 @@ ghost use Rattle.flow_tidy.specs.Tidying.{setting};
 ghost use Rattle.flow_tidy.specs.Made.{is_no_newline, AreShort, AreWithin, IsAccepted, IsWithin};
 ghost use Rattle.flow_tidy.specs.Quick.{counts_for, HaveRoom};
 
+use crate::chains::is_branch;
 use crate::found::Changed;
 use label_layout::{LayoutError, layout};
-use listing_draft::branch_line;
 use listing_parser::{Line, Listing, Memory, Statement};
 use std::alloc::Global;
 use thumb_instr::Instr;
@@ -21,6 +21,9 @@ const MOST_LINES: usize = 262_144;
 
 /// How many bytes a line may have without its newline.
 const LONGEST_LINE: usize = 1024;
+
+/// How many bytes the line of a branch has at most beside the name of its label.
+const BRANCH_BYTES: usize = 6;
 
 /// How many bytes a line has without its newline.
 fn line_length(text: &[u8]) -> usize
@@ -121,9 +124,11 @@ pub(crate) fn leave_room(lines: &[Line]) -> bool
 }
 
 /// Whether the line of a branch to a label surely is no longer than a line may be.
-pub(crate) fn is_short_branch(alloc: Global, instr: &Instr, name: &[u8]) -> Result<bool, Memory>
-    ensures { IfOk result (λ b. b ≡ true → length_of (line_mentioning instr.now (Some (record { name = name.now; plus = 0 }))) ≤ longest_line) }
+pub(crate) fn is_short_branch(instr: &Instr, name: &[u8]) -> bool
+    ensures { result ≡ true → length_of (line_mentioning instr.now (Some (record { name = name.now; plus = 0 }))) ≤ longest_line }
 {
-    let line = branch_line(alloc, instr, name)?;
-    Ok(line_length(&line.text) <= LONGEST_LINE)
+    if !is_branch(instr) {
+        return false;
+    }
+    name.len() <= LONGEST_LINE - BRANCH_BYTES
 }

@@ -93,7 +93,7 @@ fn sure_end(
     if !reaches(ground, draft.given(), place, &instr, name) {
         return Ok(None);
     }
-    if !is_short_branch(alloc, &instr, name)? {
+    if !is_short_branch(&instr, name) {
         return Ok(None);
     }
     let label = name.to_vec(alloc)?;
