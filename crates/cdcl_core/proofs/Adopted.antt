@@ -195,23 +195,6 @@ watched_new content content' at literals l m d w v n i j = record {
   second_in = subst (λ (ls : List ℕ). Contains ls m) (sym d.new_literals) j;
 }
 
--- what is said of the arena as it is
-pub base_here : (clauses : List (List ℕ)) (size : ℕ) (content : Content) (refs : List ℕ) (reasons : List (Option ℕ)) (trail : List ℕ) (conflict : Option ℕ) → IsBase clauses size content refs reasons trail conflict → IsBase (clauses_of content) (length content.chains) content refs reasons trail conflict
-base_here clauses size content refs reasons trail conflict b = record {
-  clauses_are = refl;
-  size_is = refl;
-  numbered_by = b.numbered_by;
-  attached = b.attached;
-  known = b.known;
-  literals = b.literals;
-  justified = b.justified;
-  covered = b.covered;
-  spare = b.spare;
-  falsified = b.falsified;
-}
-
-pub conflict_is : (content : Content) (trail : List ℕ) (at : ℕ) → IsConflict content trail at → (r : ℕ) → Some at ≡ Some r → IsConflict content trail r
-conflict_is content trail at h r e = let g : at ≡ r = cc in subst (IsConflict content trail) g h
-
-pub no_conflict_is : (content : Content) (trail : List ℕ) (r : ℕ) → None ≡ Some r → IsConflict content trail r
-no_conflict_is content trail r e = absurd cc
+-- what is said of the clauses as they are
+pub base_here : {clauses : List (List ℕ)} {size : ℕ} {content : Content} {refs : List ℕ} {reasons : List (Option ℕ)} {trail : List ℕ} {conflict : Option ℕ} → IsBase clauses size content refs reasons trail conflict → IsBase (clauses_of content) size content refs reasons trail conflict
+base_here {clauses} {size} {content} {refs} {reasons} {trail} {conflict} b = subst (λ (cs : List (List ℕ)). IsBase cs size content refs reasons trail conflict) (sym b.clauses_are) b

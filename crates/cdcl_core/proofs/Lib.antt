@@ -15,6 +15,7 @@ pub mod Spare
 pub mod Sparing
 pub mod Moved
 pub mod Adopted
+pub mod Solvers
 pub mod Searches
 pub mod Endings
 pub mod Statements

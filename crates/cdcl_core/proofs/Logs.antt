@@ -1,33 +1,34 @@
 -- The log that a solver keeps.
-use Rattle.std.proofs.Common.{◌≡◌, ℕ, ◌+◌, ◌*◌, ◌<◌, ◌≤◌, List, [], ◌∷◌, ◌++◌, length, get_or, take, map, length-append, append-nil, append_assoc, refl, sym, ◌∙◌, ap, inl, inr, arith, Option, subst}
+use Rattle.std.proofs.Common.{◌≡◌, ℕ, ◌+◌, ◌*◌, ◌<◌, ◌≤◌, List, [], ◌∷◌, ◌++◌, length, get_or, take, map, length-append, append-nil, append_assoc, refl, sym, ◌∙◌, ap, inl, inr, arith, subst}
 use Rattle.std.specs.Prelude.{All, Any, Contains}
 use Rattle.std.proofs.lemmas.Bool.{cases_lt}
 use Rattle.std.proofs.lemmas.List.{length-map, map_push, take-append-le, take_at, get_or_push, get_or_append_left}
 use Rattle.std.proofs.Math.Nat.{mul-le-mul_left, mul-le-mul_right}
 use Rattle.clause_model.specs.Asserting.{IsAsserting}
-use Rattle.clause_arena.specs.Contents.{Clause, Content}
+use Rattle.clause_arena.specs.Contents.{Clause}
 use Rattle.lrat_check.specs.declared.line.Line.{Line}
 use Rattle.lrat_check.specs.declared.line.Line.TheVariants.{Addition as Adding}
 use Rattle.lrat_check.specs.declared.line.Addition.{Addition}
+use Rattle.cdcl_core.specs.declared.solver.Solver.{Solver}
 use Rattle.cdcl_core.specs.Implied.{clauses_of}
 use Rattle.cdcl_core.specs.Held.{Covers}
-use Rattle.cdcl_core.specs.Searched.{IsBase, IsModelOf}
+use Rattle.cdcl_core.specs.Searched.{HasBase, IsModelOf}
 use Rattle.cdcl_core.specs.Solved.{Adds, literals_in, with_log, Teaches, IsLog, IsRefutation}
 use Rattle.cdcl_core.proofs.Lists.{All-left}
+use Rattle.cdcl_core.proofs.Adopted.{base_here}
 use Rattle.cdcl_core.proofs.Covered.{covers_more}
 
 -- what holds after so many lines
-pub record Running (formula : List (List ℕ)) (size : ℕ) (content : Content) (refs ids : List ℕ) (reasons : List (Option ℕ)) (trail : List ℕ) (conflict : Option ℕ) (log : List Line) (round : ℕ) : Type 0 where
-  pub base : IsBase (clauses_of content) size content refs reasons trail conflict
-  pub covers : Covers (with_log formula log) (clauses_of content) ids trail
+pub record Running (formula : List (List ℕ)) (solver : Solver) (log : List Line) (round : ℕ) : Type 0 where
+  pub base : HasBase (clauses_of solver.arena) solver solver.conflict
+  pub covers : Covers (with_log formula log) (clauses_of solver.arena) solver.ids.items solver.trail
   pub each : IsLog formula log
   pub count : length log ≡ round
 
-pub running_begun : (formula : List (List ℕ)) (size : ℕ) (content : Content) (refs ids : List ℕ) (reasons : List (Option ℕ)) (trail : List ℕ) (conflict : Option ℕ) (log : List Line)
-    → IsBase (clauses_of content) size content refs reasons trail conflict → Covers formula (clauses_of content) ids trail → log ≡ [] → Running formula size content refs ids reasons trail conflict log 0
-running_begun formula size content refs ids reasons trail conflict log b v e = rw e record {
+pub running_begun : (formula : List (List ℕ)) (solver : Solver) (log : List Line) → HasBase (clauses_of solver.arena) solver solver.conflict → Covers formula (clauses_of solver.arena) solver.ids.items solver.trail → log ≡ [] → Running formula solver log 0
+running_begun formula solver log b v e = rw e record {
   base = b;
-  covers = subst (λ (cs : List (List ℕ)). Covers cs (clauses_of content) ids trail) (sym (append-nil formula)) v;
+  covers = subst (λ (cs : List (List ℕ)). Covers cs (clauses_of solver.arena) solver.ids.items solver.trail) (sym (append-nil formula)) v;
   each = λ k d c. absurd (omega (arith, c));
   count = refl;
 }
@@ -49,13 +50,10 @@ log_more formula log line h t k d b = elim (cases_lt k (length log)) [
       rw (p, q) t
 ]
 
--- there are as many numbers as references
-pub ids_aligned : (clauses : List (List ℕ)) (size : ℕ) (content : Content) (refs ids : List ℕ) (reasons : List (Option ℕ)) (trail base : List ℕ) (conflict : Option ℕ) → IsBase (clauses_of content) size content refs reasons trail conflict → Covers clauses (clauses_of content) ids base → length ids ≡ length refs
-ids_aligned clauses size content refs ids reasons trail base conflict b v = v.aligned ∙ (length-map content.clauses (λ (c : Clause). c.literals) ∙ (sym (length-map content.clauses (λ (c : Clause). c.at)) ∙ sym (ap length b.numbered_by)))
-
-module _ (formula : List (List ℕ)) (size : ℕ) (content : Content) (refs ids : List ℕ) (reasons : List (Option ℕ)) (trail : List ℕ) (conflict : Option ℕ) (log : List Line) (round : ℕ) (h : Running formula size content refs ids reasons trail conflict log round) where
-  pub running_aligned : length ids ≡ length refs
-  running_aligned = ids_aligned (with_log formula log) size content refs ids reasons trail trail conflict h.base h.covers
+module _ (formula : List (List ℕ)) (solver : Solver) (log : List Line) (round : ℕ) (h : Running formula solver log round) where
+  -- there are as many numbers as references
+  pub running_aligned : length solver.ids.items ≡ length solver.refs.items
+  running_aligned = h.covers.aligned ∙ (length-map solver.arena.clauses (λ (c : Clause). c.literals) ∙ (sym (length-map solver.arena.clauses (λ (c : Clause). c.at)) ∙ sym (ap length h.base.numbered_by)))
 
   -- how many clauses there are
   pub clause_count : length (with_log formula log) ≡ length formula + round
@@ -73,15 +71,14 @@ module _ (formula : List (List ℕ)) (size : ℕ) (content : Content) (refs ids 
   pub running_more : (line : Addition) (literals : List ℕ) (log' : List Line) (id : ℕ) → log' ≡ log ++ Adding line ∷ [] → literals ≡ line.literals.items → id ≡ length formula + round + 1
       → Adds (with_log formula log) line × IsAsserting (with_log formula log) line.literals.items
       → (held : List (List ℕ)) (names base : List ℕ) → Covers (with_log formula log) held names base
-      → (size' : ℕ) (content' : Content) (refs' ids' : List ℕ) (reasons' : List (Option ℕ)) (trail' : List ℕ) (conflict' : Option ℕ) → size' ≡ size → ids' ≡ names ++ id ∷ [] → All (Contains trail') base
-      → IsBase (held ++ literals ∷ []) size' content' refs' reasons' trail' conflict' → Running formula size content' refs' ids' reasons' trail' conflict' log' (round + 1)
-  running_more line literals log' id e f n t held names base v size' content' refs' ids' reasons' trail' conflict' g i w b = rw e record {
-    base = subst (λ (cs : List (List ℕ)). IsBase cs size content' refs' reasons' trail' conflict') (sym b.clauses_are) (subst (λ (k : ℕ). IsBase (held ++ literals ∷ []) k content' refs' reasons' trail' conflict') g b);
+      → (solver' : Solver) → solver'.ids.items ≡ names ++ id ∷ [] → All (Contains solver'.trail) base → HasBase (held ++ literals ∷ []) solver' solver'.conflict → Running formula solver' log' (round + 1)
+  running_more line literals log' id e f n t held names base v solver' i w b = rw e record {
+    base = base_here b;
     covers =
         let p : with_log formula log ++ literals ∷ [] ≡ with_log formula (log ++ Adding line ∷ []) = ap (λ (ls : List ℕ). with_log formula log ++ ls ∷ []) f ∙ sym (with_more formula log (Adding line)) in
-        subst (λ (cs : List (List ℕ)). Covers (with_log formula (log ++ Adding line ∷ [])) cs ids' trail') (sym b.clauses_are)
-        (subst (λ (ns : List ℕ). Covers (with_log formula (log ++ Adding line ∷ [])) (held ++ literals ∷ []) ns trail') (sym i)
-        (subst (λ (cs : List (List ℕ)). Covers cs (held ++ literals ∷ []) (names ++ id ∷ []) trail') p (covers_more (with_log formula log) held names base v trail' w literals id (next_id id n))));
+        subst (λ (cs : List (List ℕ)). Covers (with_log formula (log ++ Adding line ∷ [])) cs solver'.ids.items solver'.trail) (sym b.clauses_are)
+        (subst (λ (ns : List ℕ). Covers (with_log formula (log ++ Adding line ∷ [])) (held ++ literals ∷ []) ns solver'.trail) (sym i)
+        (subst (λ (cs : List (List ℕ)). Covers cs (held ++ literals ∷ []) (names ++ id ∷ []) solver'.trail) p (covers_more (with_log formula log) held names base v solver'.trail w literals id (next_id id n))));
     each = log_more formula log (Adding line) h.each t;
     count = omega (arith, h.count, length-append log (Adding line ∷ []));
   }

@@ -21,7 +21,7 @@ use Rattle.cdcl_core.proofs.Sparing.{one_place}
 entry_at : (xs : List ℕ) (k : ℕ) → k < length xs → slice_get xs k ≡ Some (get_or xs k 0)
 entry_at xs k b = slice_get-get_or xs k 0 b
 
-module _ (content : Content) (refs ids : List ℕ) (reasons : List (Option ℕ)) (trail : List ℕ) (b : IsBase (clauses_of content) (length content.chains) content refs reasons trail None)
+module _ (content : Content) (refs ids : List ℕ) (reasons : List (Option ℕ)) (trail : List ℕ) {size : ℕ} (b : IsBase (clauses_of content) size content refs reasons trail None)
     (kept names : List ℕ) (h : Remains content refs ids (length refs) kept names) where
   -- each clause that is kept is the arena's
   kept_clause : (k : ℕ) → k < length kept → HasClause content (get_or kept k 0)
@@ -109,10 +109,10 @@ module _ (content : Content) (refs ids : List ℕ) (reasons : List (Option ℕ))
             unit = subst (λ (ls : List ℕ). IsUnit (take k trail) ls (get_or trail k 0)) (sym same) old.unit;
           }
 
-      pub base_moved : IsBase (clauses_of content') (length content.chains) content' moved reasons' trail None
+      pub base_moved : IsBase (clauses_of content') size content' moved reasons' trail None
       base_moved = record {
         clauses_are = refl;
-        size_is = q.size;
+        size_is = q.size ∙ b.size_is;
         numbered_by = sym q.references;
         attached = compacted_attached content content' kept moved whole q b.attached;
         known = known_there;

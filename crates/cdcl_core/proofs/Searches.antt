@@ -20,8 +20,8 @@ use Rattle.cdcl_core.specs.Assumed.{IsAssumed}
 use Rattle.cdcl_core.specs.Analysed.{AtConflict}
 use Rattle.cdcl_core.specs.Hinted.{HasReasons}
 use Rattle.cdcl_core.specs.Solved.{RefutesTidily, TidyPropagation}
-use Rattle.cdcl_core.specs.Held.{Covers}
-use Rattle.cdcl_core.specs.Searched.{IsBase, IsModelOf, EndsOver, GoesOn}
+use Rattle.cdcl_core.specs.declared.solver.Solver.{Solver}
+use Rattle.cdcl_core.specs.Searched.{IsBase, HasBase, IsModelOf, IsSearched, EndsOver, GoesOn}
 use Rattle.cdcl_core.proofs.Lists.{nothing_in}
 use Rattle.cdcl_core.proofs.Grounds.{found_at, ground_assumed, ground_later, ground_closed, justified_assumed, justified_later, justified_more}
 use Rattle.cdcl_core.proofs.Refuted.{ground_forces}
@@ -191,19 +191,15 @@ base_reasons clauses size content refs reasons trail at b = record {
 pub tidy_empty : (live : ℕ → Option (List ℕ)) (literals hints : List ℕ) → literals ≡ [] → RefutesTidily live [] hints → TidyPropagation live literals hints
 tidy_empty live literals hints e r = rw e r
 
--- what holds over other held clauses, and where more is true before any decision
-pub ends_onto : (held held' : List (List ℕ)) (ids base base' : List ℕ) (id : ℕ) (a : List ℕ) (ending : Ending) → held' ≡ held → All (Contains base') base → EndsOver held' ids base' id a ending → EndsOver held ids base id a ending
-ends_onto held held' ids base base' id a ending e w r clauses v f = r clauses (subst (λ (h : List (List ℕ)). Covers clauses h ids base') (sym e) (covers_grown clauses held ids base v base' w)) f
+-- what holds over the same clauses, where more is true before any decision
+module _ (before after : Solver) (e : clauses_of after.arena ≡ clauses_of before.arena) (w : All (Contains after.trail) before.trail) where
+  pub ends_onto : (id : ℕ) (a : List ℕ) (ending : Ending) → IsSearched before after → EndsOver (clauses_of after.arena) after.ids.items after.trail id a ending → EndsOver (clauses_of before.arena) before.ids.items before.trail id a ending
+  ends_onto id a ending f r clauses v n = r clauses (rw (e, f) (covers_grown clauses (clauses_of before.arena) before.ids.items before.trail v after.trail w)) n
 
-pub goes_onto : (held held' : List (List ℕ)) (size size' : ℕ) (content : Content) (refs : List ℕ) (reasons : List (Option ℕ)) (base base' a : List ℕ) (ending : Ending) → held' ≡ held → size' ≡ size → All (Contains base') base
-    → GoesOn held' size' content refs reasons base' a ending → GoesOn held size content refs reasons base a ending
-goes_onto held held' size size' content refs reasons base base' a Model e f w r = r
-goes_onto held held' size size' content refs reasons base base' a (Refuted line) e f w r = r
-goes_onto held held' size size' content refs reasons base base' a (Taught line) e f w r = (
-  subst (λ (h : List (List ℕ)). IsBase h size content refs reasons a None) e (subst (λ (n : ℕ). IsBase held' n content refs reasons a None) f r.0),
-  All-weaker (Contains base') (Contains a) (λ x c. All-contains (Contains a) base' x r.1 c) base w,
-  r.2,
-)
+  pub goes_onto : (last : Solver) (ending : Ending) → GoesOn after last ending → GoesOn before last ending
+  goes_onto last Model r = r
+  goes_onto last (Refuted line) r = r
+  goes_onto last (Taught line) r = (subst (λ (h : List (List ℕ)). HasBase h last None) e r.0, r.1, All-weaker (Contains after.trail) (Contains last.trail) (λ x c. All-contains (Contains last.trail) after.trail x r.2 c) before.trail w, r.3)
 
 -- the trail begins with what was true before any decision
 module _ (content : Content) (a : List ℕ) (low : ℕ) (e : low ≡ length a) where

@@ -15,7 +15,8 @@ use Rattle.cnf_gates.specs.Cnf.{Cnf, IsLiteral}
 use Rattle.cnf_gates.specs.Meaning.{number_value, clause_value, all_true, assigned}
 use Rattle.cdcl_core.specs.Implied.{clauses_of}
 use Rattle.cdcl_core.specs.Held.{Covers}
-use Rattle.cdcl_core.specs.Searched.{IsBase}
+use Rattle.cdcl_core.specs.declared.solver.Solver.{Solver}
+use Rattle.cdcl_core.specs.Searched.{IsBase, HasBase}
 use Rattle.cdcl_core.specs.Solved.{AreBelow, HasEmpty, HasValues}
 use Rattle.cdcl_core.proofs.Lists.{nothing_in, All-left, All-right}
 use Rattle.cdcl_core.proofs.Covered.{covers_more}
@@ -85,10 +86,10 @@ reaches_more from reach end reach' literals l h b e f = record {
     last n (x ∷ xs) g = last n xs (All-tail (λ y. y < 2 * n) x (xs ++ l ∷ []) g)
 
 -- an arena without clauses
-pub base_begun : (variables : ℕ) (content : Content) (refs : List ℕ) (reasons : List (Option ℕ)) (trail : List ℕ) → content ≡ record { clauses = []; chains = replicate (2 * variables) [] } → refs ≡ [] → reasons ≡ [] → trail ≡ [] → IsBase [] (length content.chains) content refs reasons trail None
+pub base_begun : (variables : ℕ) (content : Content) (refs : List ℕ) (reasons : List (Option ℕ)) (trail : List ℕ) → content ≡ record { clauses = []; chains = replicate (2 * variables) [] } → refs ≡ [] → reasons ≡ [] → trail ≡ [] → IsBase [] (2 * variables) content refs reasons trail None
 base_begun variables content refs reasons trail e f g h = rw (e, f, g, h) record {
   clauses_are = refl;
-  size_is = refl;
+  size_is = length-replicate (2 * variables) [];
   numbered_by = refl;
   attached = λ at slot l w. absurd (empty (2 * variables) l (at, slot) w.1);
   known = record {
@@ -115,9 +116,6 @@ base_begun variables content refs reasons trail e f g h = rw (e, f, g, h) record
 
         none : (xs : List (ℕ × ℕ)) → xs ≡ [] → Contains xs w → ⊥
         none xs e c = let m : length xs ≡ 0 = ap length e in absurd (omega (arith, m, c.1))
-
-pub base_onto : (clauses clauses' : List (List ℕ)) (size size' : ℕ) (content : Content) (refs : List ℕ) (reasons : List (Option ℕ)) (trail : List ℕ) (conflict : Option ℕ) → clauses' ≡ clauses → size' ≡ size → IsBase clauses' size' content refs reasons trail conflict → IsBase clauses size content refs reasons trail conflict
-base_onto clauses clauses' size size' content refs reasons trail conflict e f b = rw (← e, ← f) b
 
 pub not_empty : (xs : List ℤ) (ys : List ℕ) → xs ≢ [] → ys ≡ map code_of xs → 0 < length ys
 not_empty [] ys n e = absurd (n refl)
@@ -220,11 +218,9 @@ reached numbers i from reach end reach' l b lits e f g h =
     let t : map code_of (take (i + 1) numbers) ≡ map code_of (take i numbers) ++ code_of z ∷ [] = ap (map code_of) (take_more numbers i (pos 0) b) ∙ map_push code_of (take i numbers) z in
     subst (λ (ls : List ℕ). Reaches from reach' ls) (sym t) (reaches_more from reach (end + 1) reach' (map code_of (take i numbers)) (code_of z) h (code_below z (lits i (pos 0) b)) (ap (λ (x : ℕ). x + 1) (f ∙ ap (λ (x : ℕ). x / 2) e)) g)
 
-pub loaded : (clauses : List (List ℤ)) (i : ℕ) (x : List ℤ) (literals shown : List ℕ) (size : ℕ) (content content' : Content) (refs refs' : List ℕ) (reasons reasons' : List (Option ℕ)) (trail trail' : List ℕ) (conflict conflict' : Option ℕ) → slice_get clauses (i + 1 - 1) ≡ Some x → shown ≡ literals → literals ≡ map code_of x
-    → IsBase (codes_of (take i clauses)) size content refs reasons trail conflict → IsBase (clauses_of content ++ shown ∷ []) (length content.chains) content' refs' reasons' trail' conflict' → IsBase (codes_of (take (i + 1) clauses)) size content' refs' reasons' trail' conflict'
-loaded clauses i x literals shown size content content' refs refs' reasons reasons' trail trail' conflict conflict' e f g b d =
-    base_onto (codes_of (take (i + 1) clauses)) (clauses_of content ++ shown ∷ []) size (length content.chains) content' refs' reasons' trail' conflict'
-    (ap (λ (cs : List (List ℕ)). cs ++ shown ∷ []) b.clauses_are ∙ (ap (λ (ls : List ℕ). codes_of (take i clauses) ++ ls ∷ []) (f ∙ g) ∙ sym (codes_next clauses i x e))) b.size_is d
+pub loaded : (clauses : List (List ℤ)) (i : ℕ) (x : List ℤ) (literals shown : List ℕ) (before after : Solver) → slice_get clauses (i + 1 - 1) ≡ Some x → shown ≡ literals → literals ≡ map code_of x
+    → HasBase (codes_of (take i clauses)) before before.conflict → HasBase (clauses_of before.arena ++ shown ∷ []) after after.conflict → HasBase (codes_of (take (i + 1) clauses)) after after.conflict
+loaded clauses i x literals shown before after e f g b d = subst (λ (cs : List (List ℕ)). HasBase cs after after.conflict) (ap (λ (cs : List (List ℕ)). cs ++ shown ∷ []) b.clauses_are ∙ (ap (λ (ls : List ℕ). codes_of (take i clauses) ++ ls ∷ []) (f ∙ g) ∙ sym (codes_next clauses i x e))) d
 
 -- and its number is the next one
 pub loaded_covers : (clauses : List (List ℤ)) (i : ℕ) (x : List ℤ) (id : ℕ) (ids ids' trail trail' : List ℕ) → slice_get clauses (i + 1 - 1) ≡ Some x → id ≡ i + 1 → ids' ≡ ids ++ id ∷ [] → All (Contains trail') trail

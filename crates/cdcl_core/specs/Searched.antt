@@ -1,11 +1,12 @@
 -- What a search begins with, and how it ends.
-use Rattle.std.specs.Prelude.{ℕ, ◌≡◌, ◌+◌, List, [], All, Any, Contains, Option, Some, None, length}
+use Rattle.std.specs.Prelude.{ℕ, ◌≡◌, ◌≤◌, ◌+◌, ◌*◌, List, [], All, Any, Contains, Option, Some, None, length}
 use Rattle.clause_model.specs.Clauses.{IsConsistent}
 use Rattle.clause_model.specs.Asserting.{IsAsserting}
 use Rattle.clause_arena.specs.Contents.{Content, HasLiteral, references_of}
 use Rattle.unit_propagation.specs.Watching.{IsAttached, IsKnown}
 use Rattle.cdcl_core.specs.declared.search.Ending.{Ending}
 use Rattle.cdcl_core.specs.declared.search.Ending.TheVariants.{Model, Refuted, Taught}
+use Rattle.cdcl_core.specs.declared.solver.Solver.{Solver}
 use Rattle.cdcl_core.specs.Implied.{clauses_of, IsConflict, IsJustified, IsCovered, AreSpare}
 use Rattle.cdcl_core.specs.Held.{Covers}
 use Rattle.cdcl_core.specs.Solved.{Adds}
@@ -23,6 +24,24 @@ pub record IsBase (clauses : List (List ℕ)) (size : ℕ) (content : Content) (
   pub spare : conflict ≡ None → AreSpare content reasons trail
   pub falsified : (at : ℕ) → conflict ≡ Some at → IsConflict content trail at
 
+-- so it is in a solver
+abbrev pub HasBase : List (List ℕ) → Solver → Option ℕ → Type 0
+HasBase clauses solver conflict = IsBase clauses (2 * solver.variables) solver.arena solver.refs.items solver.reasons.items solver.trail conflict
+
+-- the invariant of a solver between searches
+pub record IsReady (solver : Solver) (conflict : Option ℕ) : Type 0 where
+  pub base : HasBase (clauses_of solver.arena) solver conflict
+  pub ids : length solver.ids.items ≡ length solver.refs.items
+  pub variables : solver.variables ≤ 200000
+
+-- only watches changed, and what is true
+abbrev pub IsPropagated : Solver → Solver → Type 0
+IsPropagated before after = after ≡ record before { arena = after.arena; trail = after.trail; reasons = after.reasons }
+
+-- and whether a clause is false before any decision, and the order of decisions
+abbrev pub IsSearched : Solver → Solver → Type 0
+IsSearched before after = after ≡ record before { arena = after.arena; trail = after.trail; reasons = after.reasons; conflict = after.conflict; order = after.order }
+
 -- each clause has a literal that is true
 pub record IsModelOf (clauses : List (List ℕ)) (a : List ℕ) : Type 0 where
   pub consistent : IsConsistent a
@@ -39,8 +58,8 @@ abbrev pub EndsOver : List (List ℕ) → List ℕ → List ℕ → ℕ → List
 EndsOver held ids base id a ending = (clauses : List (List ℕ)) → Covers clauses held ids base → id ≡ length clauses + 1 → EndsAs clauses a ending
 
 -- after a clause was taught, the search may begin anew, and no less is true before any decision; the clause's literals are the arena's
-abbrev pub GoesOn : List (List ℕ) → ℕ → Content → List ℕ → List (Option ℕ) → List ℕ → List ℕ → Ending → Type 0
-GoesOn clauses size content references reasons base trail Model = Unit {0}
-GoesOn clauses size content references reasons base trail (Refuted line) = Unit {0}
-GoesOn clauses size content references reasons base trail (Taught line) =
-    IsBase clauses size content references reasons trail None × All (Contains trail) base × All (HasLiteral content) line.literals.items
+abbrev pub GoesOn : Solver → Solver → Ending → Type 0
+GoesOn before after Model = Unit {0}
+GoesOn before after (Refuted line) = Unit {0}
+GoesOn before after (Taught line) =
+    HasBase (clauses_of before.arena) after None × (after.conflict ≡ None) × All (Contains after.trail) before.trail × All (HasLiteral after.arena) line.literals.items

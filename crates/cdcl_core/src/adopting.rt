@@ -1,12 +1,13 @@
 //! Clauses that join those of the search.
 
-ghost use Rattle.std.specs.Prelude.{◌≡◌, ◌≢◌, ℕ, ◌<◌, ◌++◌, ◌∷◌, [], OnOk, IfOk, IfSome, None, All, List, length, Contains};
+ghost use Rattle.std.specs.Prelude.{◌≡◌, ◌≢◌, ◌<◌, ◌++◌, ◌∷◌, [], OnOk, IfSome, None, All, length, Contains};
 ghost use Rattle.clause_arena.specs.Contents.{HasLiteral};
 ghost use Rattle.cdcl_core.specs.Implied.{clauses_of};
-ghost use Rattle.cdcl_core.specs.Searched.{IsBase};
+ghost use Rattle.cdcl_core.specs.Searched.{HasBase};
 
-use clause_arena::{Arena, Memory, Ref};
-use clause_model::{Assignment, Literal};
+use crate::solver::Solver;
+use clause_arena::Memory;
+use clause_model::Literal;
 use lrat_check::Id;
 use unit_propagation::{attach, store};
 
@@ -23,49 +24,43 @@ fn find_other(literals: &[u32], first: u32) -> Option<u32>
     None
 }
 
-/// Adds a clause to those of the search, under a number, where nothing is decided. It watches two different literals
-/// of its own; where it has only one, this is made true. The answer is a clause that is false, if
-/// there is one.
-pub fn adopt(
-    arena: &mut Arena,
-    refs: &mut Vec<Ref>,
-    ids: &mut Vec<Id>,
-    trail: &mut Assignment,
-    reasons: &mut Vec<Option<Ref>>,
-    conflict: Option<Ref>,
-    literals: &[u32],
-    id: Id,
-) -> Result<Option<Ref>, Memory>
-    requires base { IsBase (clauses_of arena.old) (length arena.old.chains) arena.old refs.old.items reasons.old.items trail.old conflict }
-    requires some { 0 < length literals.now }
-    requires known { All (HasLiteral arena.old) literals.now }
-    ensures ids { OnOk result (ids.new.items ≡ ids.old.items ++ id ∷ []) }
-    ensures grows { OnOk result (All (Contains trail.new) trail.old) }
-    ensures base { IfOk result (λ now. IsBase (clauses_of arena.old ++ literals.now ∷ []) (length arena.old.chains) arena.new refs.new.items reasons.new.items trail.new now) }
-{
-    ids.push(id)?;
-    let first = literals[0];
-    match find_other(literals, first) {
-        Some(second) => {
-            let at = attach(arena, literals, first, second)?;
-            let _whole = arena.literals();
-            refs.push(at)?;
-            Ok(conflict)
-        }
-        None => {
-            let at = store(arena, literals)?;
-            let _whole = arena.literals();
-            refs.push(at)?;
-            let literal = Literal::from_code(first);
-            if trail.is_true(literal) {
-                return Ok(conflict);
+impl Solver {
+    /// Adds a clause to those of the search, under a number, where nothing is decided. It watches two different literals
+    /// of its own; where it has only one, this is made true, or the clause is the conflict.
+    pub fn adopt(&mut self, literals: &[u32], id: Id) -> Result<(), Memory>
+        requires base { HasBase (clauses_of self.old.arena) self.old self.old.conflict }
+        requires some { 0 < length literals.now }
+        requires known { All (HasLiteral self.old.arena) literals.now }
+        ensures ids { OnOk result (self.new.ids.items ≡ self.old.ids.items ++ id ∷ []) }
+        ensures grows { OnOk result (All (Contains self.new.trail) self.old.trail) }
+        ensures base { OnOk result (HasBase (clauses_of self.old.arena ++ literals.now ∷ []) self.new self.new.conflict) }
+        ensures variables { OnOk result (self.new.variables ≡ self.old.variables) }
+    {
+        self.ids.push(id)?;
+        let first = literals[0];
+        match find_other(literals, first) {
+            Some(second) => {
+                let at = attach(&mut self.arena, literals, first, second)?;
+                let _whole = self.arena.literals();
+                self.refs.push(at)?;
+                Ok(())
             }
-            if trail.is_true(literal.negated()) {
-                return Ok(Some(at));
+            None => {
+                let at = store(&mut self.arena, literals)?;
+                let _whole = self.arena.literals();
+                self.refs.push(at)?;
+                let literal = Literal::from_code(first);
+                if self.trail.is_true(literal) {
+                    return Ok(());
+                }
+                if self.trail.is_true(literal.negated()) {
+                    self.conflict = Some(at);
+                    return Ok(());
+                }
+                self.trail.set(literal)?;
+                self.reasons.push(Some(at))?;
+                Ok(())
             }
-            trail.set(literal)?;
-            reasons.push(Some(at))?;
-            Ok(conflict)
         }
     }
 }

@@ -1,12 +1,13 @@
 //! What a conflict teaches: the clause of the first unique implication point.
 
-ghost use Rattle.std.specs.Prelude.{◌≡◌, ℕ, ◌≤◌, ◌<◌, ◌⊎◌, OnOk, IfOk, All, Any, List, length, take, drop, Contains, IsTrue, ◌↔◌, ◌-◌};
+ghost use Rattle.std.specs.Prelude.{◌≡◌, ◌<◌, ◌⊎◌, OnOk, IfOk, All, Any, Contains, IsTrue, ◌↔◌, ◌-◌};
 ghost use Rattle.clause_model.specs.Literals.{negated};
-ghost use Rattle.clause_model.specs.Clauses.{AllFalse, IsConsistent};
+ghost use Rattle.clause_model.specs.Clauses.{AllFalse};
 ghost use Rattle.cdcl_core.specs.Implied.{clauses_of};
 ghost use Rattle.cdcl_core.specs.Analysed.{AtConflict, LearnsFrom, Sees};
 
-use clause_arena::{Arena, Memory, Ref};
+use crate::solver::Solver;
+use clause_arena::{Memory, Ref};
 use clause_model::{Assignment, Literal};
 use std::alloc::Global;
 
@@ -69,38 +70,38 @@ fn contraries(alloc: Global, seen: &Assignment, part: &[Literal]) -> Result<Vec<
     Ok(found)
 }
 
-/// The clause that the conflict teaches: the literal of this level, and the others.
-pub fn analyse(
-    alloc: Global,
-    arena: &Arena,
-    trail: &Assignment,
-    reasons: &[Option<Ref>],
-    seen: &mut Assignment,
-    low: usize,
-    start: usize,
-    conflict: Ref,
-) -> Result<(Literal, Vec<Literal>), Memory>
-    requires { AtConflict arena.now reasons.now trail.now low start conflict }
-    ensures { IfOk result (λ learnt. LearnsFrom (clauses_of arena.now) trail.now low start learnt.0 learnt.1.items) }
-{
-    seen.truncate(0);
-    see(seen, arena.lits(conflict), trail)?;
-    let literals = trail.literals();
-    let mut at = trail.len();
-    while at > start {
-        at -= 1;
-        let literal = literals[at];
-        if seen.is_true(literal) {
-            if !sees_some(seen, &literals[start..at]) {
-                let others = contraries(alloc, seen, &literals[low..start])?;
-                return Ok((literal.negated(), others));
-            }
-            let reason = reasons[at];
-            match reason {
-                Some(number) => see(seen, arena.lits(number), trail)?,
-                None => unreachable!(),
+impl Solver {
+    /// The clause that the conflict teaches: the literal of this level, and the others. `seen` is room for the literals
+    /// that led to the conflict, which it holds then.
+    pub fn analyse(
+        &self,
+        seen: &mut Assignment,
+        low: usize,
+        start: usize,
+        conflict: Ref,
+    ) -> Result<(Literal, Vec<Literal>), Memory>
+        requires { AtConflict self.now.arena self.now.reasons.items self.now.trail low start conflict }
+        ensures { IfOk result (λ learnt. LearnsFrom (clauses_of self.now.arena) self.now.trail low start learnt.0 learnt.1.items) }
+    {
+        seen.truncate(0);
+        see(seen, self.arena.lits(conflict), &self.trail)?;
+        let literals = self.trail.literals();
+        let mut at = self.trail.len();
+        while at > start {
+            at -= 1;
+            let literal = literals[at];
+            if seen.is_true(literal) {
+                if !sees_some(seen, &literals[start..at]) {
+                    let others = contraries(self.alloc, seen, &literals[low..start])?;
+                    return Ok((literal.negated(), others));
+                }
+                let reason = self.reasons[at];
+                match reason {
+                    Some(number) => see(seen, self.arena.lits(number), &self.trail)?,
+                    None => unreachable!(),
+                }
             }
         }
+        unreachable!()
     }
-    unreachable!()
 }

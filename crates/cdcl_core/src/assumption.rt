@@ -1,6 +1,6 @@
 //! Literals that are made false, to see what follows.
 
-ghost use Rattle.std.specs.Prelude.{◌≡◌, ℕ, ◌≤◌, OnOk, IfOk, All, Any, Contains, List, take, true, false};
+ghost use Rattle.std.specs.Prelude.{◌≡◌, ℕ, OnOk, IfOk, All, Any, Contains, List, take, true, false};
 ghost use Rattle.clause_arena.specs.Contents.{HasLiteral};
 ghost use Rattle.unit_propagation.specs.Watching.{Rule};
 ghost use Rattle.cdcl_core.specs.Implied.{Level, IsGround};

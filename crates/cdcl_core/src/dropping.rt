@@ -3,14 +3,15 @@
 //! Such a clause is dropped, unless a literal is true by it: nothing follows from it any more. The
 //! arena is compacted once dropped clauses have more than half of its words.
 
-ghost use Rattle.std.specs.Prelude.{◌≡◌, ◌≢◌, ℕ, ◌+◌, ◌<◌, OnOk, IfOk, IsTrue, ◌↔◌, All, AllPairs, Any, List, length, Contains, Option, Some, None, slice_get, get_or, false, true};
+ghost use Rattle.std.specs.Prelude.{◌≡◌, ◌≢◌, ℕ, ◌<◌, OnOk, IfOk, IsTrue, ◌↔◌, AllPairs, Any, List, length, Contains, Some, None, slice_get, get_or, false, true};
 ghost use Rattle.clause_arena.specs.Contents.{references_of};
 ghost use Rattle.cdcl_core.specs.Implied.{clauses_of, IsNoReason};
 ghost use Rattle.cdcl_core.specs.Held.{Covers};
 ghost use Rattle.cdcl_core.specs.Dropped.{Remains, AreDropped, IsMarkedAt, IsRenamed};
-ghost use Rattle.cdcl_core.specs.Searched.{IsBase};
+ghost use Rattle.cdcl_core.specs.Searched.{IsBase, HasBase, IsReady};
 
 use crate::hinting::place_of;
+use crate::solver::Solver;
 use clause_arena::{Arena, Memory, Ref};
 use clause_model::{Assignment, Literal};
 use lrat_check::Id;
@@ -156,39 +157,39 @@ fn rename(
     Ok(renamed)
 }
 
-/// Drops clauses that are true before any decision, where nothing is decided and more is true than
-/// when this was done last. Where dropped clauses have more than half of the arena's words, they go.
-pub fn drop_true(
-    alloc: Global,
-    arena: &mut Arena,
-    refs: &mut Vec<Ref>,
-    ids: &mut Vec<Id>,
-    trail: &Assignment,
-    reasons: &mut Vec<Option<Ref>>,
-    swept: &mut usize,
-) -> Result<(), Memory>
-    requires base { IsBase (clauses_of arena.old) (length arena.old.chains) arena.old refs.old.items reasons.old.items trail.now None }
-    requires ids { length ids.old.items ≡ length refs.old.items }
-    ensures base { OnOk result (IsBase (clauses_of arena.new) (length arena.old.chains) arena.new refs.new.items reasons.new.items trail.now None) }
-    ensures swept { swept.new ≡ length trail.now }
-    ensures dropped { OnOk result (swept.old ≢ length trail.now → AreDropped arena.new refs.new.items reasons.new.items trail.now (length refs.new.items)) }
-    ensures covers { OnOk result ((clauses : List (List ℕ)) → Covers clauses (clauses_of arena.old) ids.old.items trail.now → Covers clauses (clauses_of arena.new) ids.new.items trail.now) }
-{
-    if trail.len() == *swept {
-        return Ok(());
+impl Solver {
+    /// Drops clauses that are true before any decision, where nothing is decided and more is true than when this was
+    /// done last. Where dropped clauses have more than half of the arena's words, they go.
+    pub fn drop_true(&mut self) -> Result<(), Memory>
+        requires { IsReady self.old None }
+        ensures fields { OnOk result (self.new ≡ record self.old { arena = self.new.arena; refs = self.new.refs; ids = self.new.ids; reasons = self.new.reasons; swept = self.new.swept }) }
+        ensures base { OnOk result (HasBase (clauses_of self.new.arena) self.new None) }
+        ensures swept { self.new.swept ≡ length self.old.trail }
+        ensures dropped { OnOk result (self.old.swept ≢ length self.old.trail → AreDropped self.new.arena self.new.refs.items self.new.reasons.items self.old.trail (length self.new.refs.items)) }
+        ensures covers { OnOk result ((clauses : List (List ℕ)) → Covers clauses (clauses_of self.old.arena) self.old.ids.items self.old.trail → Covers clauses (clauses_of self.new.arena) self.new.ids.items self.old.trail) }
+    {
+        if self.trail.len() == self.swept {
+            return Ok(());
+        }
+        self.swept = self.trail.len();
+        drop_spare(
+            self.alloc,
+            &mut self.arena,
+            &self.refs,
+            &self.trail,
+            &self.reasons,
+        )?;
+        let rest = live_clauses(self.alloc, &self.arena, &self.refs, &self.ids)?;
+        if rest.dropped_words <= rest.words {
+            return Ok(());
+        }
+        let _whole = self.arena.literals();
+        let mut moved = Vec::from_slice(self.alloc, &rest.refs)?;
+        self.arena.compact(&mut moved)?;
+        let _compacted = self.arena.literals();
+        self.reasons = rename(self.alloc, &rest.refs, &moved, &self.reasons)?;
+        self.refs = moved;
+        self.ids = rest.ids;
+        Ok(())
     }
-    *swept = trail.len();
-    drop_spare(alloc, arena, refs, trail, reasons)?;
-    let rest = live_clauses(alloc, arena, refs, ids)?;
-    if rest.dropped_words <= rest.words {
-        return Ok(());
-    }
-    let _whole = arena.literals();
-    let mut moved = Vec::from_slice(alloc, &rest.refs)?;
-    arena.compact(&mut moved)?;
-    let _compacted = arena.literals();
-    *reasons = rename(alloc, &rest.refs, &moved, reasons)?;
-    *refs = moved;
-    *ids = rest.ids;
-    Ok(())
 }

@@ -1,18 +1,17 @@
 //! Formulas as the clauses of an arena.
 
-ghost use Rattle.std.specs.Prelude.{◌≡◌, ◌≢◌, ℕ, ◌<◌, ◌≤◌, ◌*◌, ◌^◌, IfOk, OnOk, All, Any, None, true, false, List, [], map, length};
+ghost use Rattle.std.specs.Prelude.{◌≡◌, ◌≢◌, ℕ, ◌<◌, ◌≤◌, ◌*◌, OnOk, All, Any, true, false, [], map, length};
 ghost use Rattle.clause_model.specs.Literals.{code_of, codes_of};
 ghost use Rattle.cnf_gates.specs.Cnf.{IsLiteral};
 ghost use Rattle.cdcl_core.specs.Held.{Covers};
-ghost use Rattle.cdcl_core.specs.Searched.{IsBase};
+ghost use Rattle.cdcl_core.specs.Searched.{HasBase};
 ghost use Rattle.cdcl_core.specs.Solved.{AreBelow};
 
-use crate::adopting::adopt;
-use clause_arena::{Arena, Memory, Ref};
-use clause_model::{Assignment, Literal};
+use crate::solver::Solver;
+use clause_arena::Memory;
+use clause_model::Literal;
 use cnf_gates::Formula;
 use lrat_check::Id;
-use std::alloc::Global;
 
 /// Whether a clause is empty.
 pub fn has_empty(formula: &Formula) -> bool
@@ -74,31 +73,24 @@ fn write_codes(numbers: &[i32], codes: &mut Vec<u32>) -> Result<(), Memory>
     Ok(())
 }
 
-/// Gives the arena the formula's clauses, numbered from 1; the answer is a clause that is false at once.
-pub fn load(
-    alloc: Global,
-    formula: &Formula,
-    arena: &mut Arena,
-    refs: &mut Vec<Ref>,
-    ids: &mut Vec<Id>,
-    trail: &mut Assignment,
-    reasons: &mut Vec<Option<Ref>>,
-) -> Result<Option<Ref>, Memory>
-    requires base { IsBase [] (length arena.old.chains) arena.old refs.old.items reasons.old.items trail.old None }
-    requires ids { ids.old.items ≡ [] }
-    requires few { length formula.now.clauses ≤ 4294967295 }
-    requires filled { All (λ clause. clause ≢ []) formula.now.clauses }
-    requires known { All (λ clause. All (λ l. l < length arena.old.chains) clause) (codes_of formula.now.clauses) }
-    ensures covers { OnOk result (Covers (codes_of formula.now.clauses) (codes_of formula.now.clauses) ids.new.items trail.new) }
-    ensures base { IfOk result (IsBase (codes_of formula.now.clauses) (length arena.old.chains) arena.new refs.new.items reasons.new.items trail.new) }
-{
-    let mut conflict: Option<Ref> = None;
-    let mut literals = Vec::new(alloc);
-    for i in 0..formula.clauses() {
-        write_codes(formula.clause(i + 1), &mut literals)?;
-        let before = conflict;
-        let id = Id::new(i as u32 + 1);
-        conflict = adopt(arena, refs, ids, trail, reasons, before, &literals, id)?;
+impl Solver {
+    /// Takes the formula's clauses, numbered from 1.
+    pub fn load(&mut self, formula: &Formula) -> Result<(), Memory>
+        requires base { HasBase [] self.old self.old.conflict }
+        requires ids { self.old.ids.items ≡ [] }
+        requires few { length formula.now.clauses ≤ 4294967295 }
+        requires filled { All (λ clause. clause ≢ []) formula.now.clauses }
+        requires known { AreBelow self.old.variables (codes_of formula.now.clauses) }
+        ensures covers { OnOk result (Covers (codes_of formula.now.clauses) (codes_of formula.now.clauses) self.new.ids.items self.new.trail) }
+        ensures base { OnOk result (HasBase (codes_of formula.now.clauses) self.new self.new.conflict) }
+        ensures variables { OnOk result (self.new.variables ≡ self.old.variables) }
+    {
+        let mut literals = Vec::new(self.alloc);
+        for i in 0..formula.clauses() {
+            write_codes(formula.clause(i + 1), &mut literals)?;
+            let id = Id::new(i as u32 + 1);
+            self.adopt(&literals, id)?;
+        }
+        Ok(())
     }
-    Ok(conflict)
 }

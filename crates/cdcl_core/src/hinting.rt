@@ -12,7 +12,8 @@ ghost use Rattle.cdcl_core.specs.Hinted.{HasReasons};
 ghost use Rattle.cdcl_core.specs.Solved.{RefutesTidily};
 
 use crate::analysis::see;
-use clause_arena::{Arena, Memory, Ref};
+use crate::solver::Solver;
+use clause_arena::{Memory, Ref};
 use clause_model::{Assignment, Literal};
 use lrat_check::{Addition, Hint, Id};
 use std::alloc::Global;
@@ -36,16 +37,6 @@ pub fn place_of(refs: &[Ref], at: Ref) -> usize
     low
 }
 
-/// The hint that names a clause.
-fn hint_of(refs: &[Ref], ids: &[Id], at: Ref) -> Hint
-    requires ascending { AllPairs (λ r s. r < s) refs.now }
-    requires within { Contains refs.now at }
-    requires ids { length ids.now ≡ length refs.now }
-    ensures { (k : ℕ) × (slice_get refs.now k ≡ Some at) × (result ≡ pos (get_or ids.now k 0)) }
-{
-    Hint::new(ids[place_of(refs, at)])
-}
-
 /// The contraries of literals.
 fn negations(alloc: Global, literals: &[Literal]) -> Result<Vec<Literal>, Memory>
     ensures { IfOk result (λ v. v.items ≡ map negated literals.now) }
@@ -57,53 +48,61 @@ fn negations(alloc: Global, literals: &[Literal]) -> Result<Vec<Literal>, Memory
     Ok(found)
 }
 
-/// The line that adds the clause of the contraries of the given literals, which leave a clause false.
-pub fn derive(
-    alloc: Global,
-    arena: &Arena,
-    refs: &[Ref],
-    ids: &[Id],
-    trail: &Assignment,
-    reasons: &[Option<Ref>],
-    seen: &mut Assignment,
-    givens: &[Literal],
-    conflict: Ref,
-    id: Id,
-) -> Result<Addition, Memory>
-    requires refs { refs.now ≡ references_of arena.now }
-    requires ids { length ids.now ≡ length refs.now }
-    requires reasons { HasReasons arena.now reasons.now trail.now givens.now conflict }
-    requires distinct { AllPairs (λ l m. l ≢ m) givens.now }
-    requires bounded { All (λ l. l < 400000) givens.now }
-    ensures id { IfOk result (λ line. line.id ≡ id) }
-    ensures literals { IfOk result (λ line. line.literals.items ≡ map negated givens.now) }
-    ensures hints { IfOk result (λ line. (live : ℕ → Option (List ℕ)) → AreNumbered live (clauses_of arena.now) ids.now → (hints : List ℕ) × (line.hints.items ≡ map pos hints) × RefutesTidily live givens.now hints) }
-{
-    let _whole = arena.literals();
-    let literals = negations(alloc, givens)?;
-    seen.truncate(0);
-    see(seen, arena.lits(conflict), trail)?;
-    let mut hints = Vec::new(alloc);
-    hints.push(hint_of(refs, ids, conflict))?;
-    let trues = trail.literals();
-    let mut at = trail.len();
-    while at > 0 {
-        at -= 1;
-        if !seen.is_true(trues[at]) {
-            continue;
-        }
-        let reason = reasons[at];
-        match reason {
-            Some(number) => {
-                see(seen, arena.lits(number), trail)?;
-                hints.insert(0, hint_of(refs, ids, number))?;
+impl Solver {
+    /// The line that adds the clause of the contraries of the given literals, which leave a clause false. `seen` is room
+    /// for the literals that led there.
+    pub fn derive(
+        &self,
+        seen: &mut Assignment,
+        givens: &[Literal],
+        conflict: Ref,
+        id: Id,
+    ) -> Result<Addition, Memory>
+        requires refs { self.now.refs.items ≡ references_of self.now.arena }
+        requires ids { length self.now.ids.items ≡ length self.now.refs.items }
+        requires reasons { HasReasons self.now.arena self.now.reasons.items self.now.trail givens.now conflict }
+        requires distinct { AllPairs (λ l m. l ≢ m) givens.now }
+        requires bounded { All (λ l. l < 400000) givens.now }
+        ensures id { IfOk result (λ line. line.id ≡ id) }
+        ensures literals { IfOk result (λ line. line.literals.items ≡ map negated givens.now) }
+        ensures hints { IfOk result (λ line. (live : ℕ → Option (List ℕ)) → AreNumbered live (clauses_of self.now.arena) self.now.ids.items → (hints : List ℕ) × (line.hints.items ≡ map pos hints) × RefutesTidily live givens.now hints) }
+    {
+        let _whole = self.arena.literals();
+        let literals = negations(self.alloc, givens)?;
+        seen.truncate(0);
+        see(seen, self.arena.lits(conflict), &self.trail)?;
+        let mut hints = Vec::new(self.alloc);
+        hints.push(self.hint_of(conflict))?;
+        let trues = self.trail.literals();
+        let mut at = self.trail.len();
+        while at > 0 {
+            at -= 1;
+            if !seen.is_true(trues[at]) {
+                continue;
             }
-            None => {}
+            let reason = self.reasons[at];
+            match reason {
+                Some(number) => {
+                    see(seen, self.arena.lits(number), &self.trail)?;
+                    hints.insert(0, self.hint_of(number))?;
+                }
+                None => {}
+            }
         }
+        Ok(Addition {
+            id,
+            literals,
+            hints,
+        })
     }
-    Ok(Addition {
-        id,
-        literals,
-        hints,
-    })
+
+    /// The hint that names a clause.
+    fn hint_of(&self, at: Ref) -> Hint
+        requires ascending { AllPairs (λ r s. r < s) self.now.refs.items }
+        requires within { Contains self.now.refs.items at }
+        requires ids { length self.now.ids.items ≡ length self.now.refs.items }
+        ensures { (k : ℕ) × (slice_get self.now.refs.items k ≡ Some at) × (result ≡ pos (get_or self.now.ids.items k 0)) }
+    {
+        Hint::new(self.ids[place_of(&self.refs, at)])
+    }
 }

@@ -13,6 +13,7 @@ mod learning;
 mod minimising;
 mod order;
 mod search;
+mod solver;
 mod solving;
 
 pub use clause_arena::Memory;

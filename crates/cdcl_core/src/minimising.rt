@@ -16,9 +16,11 @@ ghost use Rattle.clause_arena.specs.Contents.{HasLiteral};
 ghost use Rattle.unit_propagation.specs.Watching.{Rule, IsLater};
 ghost use Rattle.cdcl_core.specs.Implied.{clauses_of, IsRefutable, IsGround, IsJustified, Level, level_of};
 ghost use Rattle.cdcl_core.specs.Assumed.{CanFalsify};
+ghost use Rattle.cdcl_core.specs.Searched.{IsPropagated};
 ghost use Rattle.cdcl_core.specs.Minimal.{AreNeeded};
 
 use crate::assumption::{back, deny};
+use crate::solver::Solver;
 use clause_arena::{Arena, Memory, Ref};
 use clause_model::{Assignment, Literal};
 use std::alloc::Global;
@@ -65,27 +67,34 @@ fn needed(
     Ok(part)
 }
 
-/// Adds to `kept` each literal of `rest` without which the others' negations leave nothing false.
-pub fn minimise(
-    alloc: Global,
-    arena: &mut Arena,
-    trail: &mut Assignment,
-    reasons: &mut Vec<Option<Ref>>,
-    low: usize,
-    kept: &mut Vec<Literal>,
-    rest: &[Literal],
-) -> Result<(), Memory>
-    requires ground { IsGround (level_of arena.old trail.old low) arena.old reasons.old.items trail.old }
-    requires falsifiable { CanFalsify (length arena.old.chains) (take low trail.old) (kept.old.items ++ rest.now) }
-    requires refutable { IsRefutable (clauses_of arena.old) (kept.old.items ++ rest.now) }
-    ensures ground { OnOk result (IsGround (level_of arena.old trail.old low) arena.new reasons.new.items trail.new) }
-    ensures refutable { OnOk result (IsRefutable (clauses_of arena.old) kept.new.items) }
-    ensures freed { OnOk result (All (λ l. Contains kept.old.items l ⊎ IsFreed (clauses_of arena.old) kept.new.items l) kept.new.items) }
-    ensures subset { OnOk result (All (Contains (kept.old.items ++ rest.now)) kept.new.items) }
-    ensures first { OnOk result (take (length kept.old.items) kept.new.items ≡ kept.old.items) }
-{
-    back(trail, reasons, low);
-    let part = needed(alloc, arena, trail, reasons, kept, rest)?;
-    kept.extend_from_slice(&part)?;
-    Ok(())
+impl Solver {
+    /// Adds to `kept` each literal of `rest` without which the others' negations leave nothing false.
+    pub fn minimise(
+        &mut self,
+        low: usize,
+        kept: &mut Vec<Literal>,
+        rest: &[Literal],
+    ) -> Result<(), Memory>
+        requires ground { IsGround (level_of self.old.arena self.old.trail low) self.old.arena self.old.reasons.items self.old.trail }
+        requires falsifiable { CanFalsify (length self.old.arena.chains) (take low self.old.trail) (kept.old.items ++ rest.now) }
+        requires refutable { IsRefutable (clauses_of self.old.arena) (kept.old.items ++ rest.now) }
+        ensures fields { OnOk result (IsPropagated self.old self.new) }
+        ensures ground { OnOk result (IsGround (level_of self.old.arena self.old.trail low) self.new.arena self.new.reasons.items self.new.trail) }
+        ensures refutable { OnOk result (IsRefutable (clauses_of self.old.arena) kept.new.items) }
+        ensures freed { OnOk result (All (λ l. Contains kept.old.items l ⊎ IsFreed (clauses_of self.old.arena) kept.new.items l) kept.new.items) }
+        ensures subset { OnOk result (All (Contains (kept.old.items ++ rest.now)) kept.new.items) }
+        ensures first { OnOk result (take (length kept.old.items) kept.new.items ≡ kept.old.items) }
+    {
+        back(&mut self.trail, &mut self.reasons, low);
+        let part = needed(
+            self.alloc,
+            &mut self.arena,
+            &mut self.trail,
+            &mut self.reasons,
+            kept,
+            rest,
+        )?;
+        kept.extend_from_slice(&part)?;
+        Ok(())
+    }
 }

@@ -8,7 +8,7 @@
 //! since shortening it is most of the work; the searches by number may cost twice as much as the
 //! others in all, so that an order whose clauses are long gets few conflicts.
 
-ghost use Rattle.std.specs.Prelude.{ℕ, ◌*◌, ◌<◌, ◌≤◌, IfSome, IsTrue, ◌↔◌, ◌≡◌, ◌+◌, ◌^◌, ◌⊎◌};
+ghost use Rattle.std.specs.Prelude.{◌*◌, ◌<◌, ◌≤◌, IfSome, IsTrue, ◌↔◌, ◌≡◌, ◌+◌, ◌^◌, ◌⊎◌};
 ghost use Rattle.clause_model.specs.Clauses.{IsUnset};
 
 use clause_arena::Memory;

@@ -1,21 +1,19 @@
 //! The search for a model: decisions, until each clause is true or one is false.
 
-ghost use Rattle.std.specs.Prelude.{◌≡◌, ℕ, ◌+◌, ◌*◌, ◌<◌, ◌≤◌, ◌^◌, OnOk, IfOk, IfSome, None, Some, All, List, [], length};
+ghost use Rattle.std.specs.Prelude.{◌≡◌, ℕ, ◌+◌, ◌*◌, ◌<◌, ◌≤◌, OnOk, IfOk, IfSome, None, Some, All, Contains, length};
 ghost use Rattle.clause_model.specs.Clauses.{IsUnset};
 ghost use Rattle.unit_propagation.specs.Watching.{Rule};
-ghost use Rattle.cdcl_core.specs.Implied.{clauses_of, IsConflict};
+ghost use Rattle.cdcl_core.specs.Implied.{clauses_of};
 ghost use Rattle.step_ledger.specs.Counts.{RisesByAtLeast};
 ghost use Rattle.cdcl_core.specs.Costs.{conflicts_in};
-ghost use Rattle.cdcl_core.specs.Searched.{IsBase, EndsOver, GoesOn};
+ghost use Rattle.cdcl_core.specs.Searched.{IsReady, EndsOver, GoesOn, IsSearched};
 
 use crate::assumption::back;
-use crate::hinting::derive;
-use crate::learning::learn;
 use crate::order::{Order, is_unset};
-use clause_arena::{Arena, Memory, Ref};
+use crate::solver::Solver;
+use clause_arena::{Memory, Ref};
 use clause_model::{Assignment, Literal};
 use lrat_check::{Addition, Id};
-use std::alloc::Global;
 use step_ledger::{Ledger, Steps};
 use unit_propagation::propagate;
 
@@ -52,135 +50,104 @@ fn pick(order: &mut Order, variables: u32, trail: &Assignment) -> Option<Literal
     None
 }
 
-/// The line that adds the empty clause, where one is false before any decision.
-fn refute(
-    alloc: Global,
-    arena: &Arena,
-    refs: &[Ref],
-    ids: &[Id],
-    trail: &Assignment,
-    reasons: &[Option<Ref>],
-    seen: &mut Assignment,
-    conflict: Ref,
-    id: Id,
-) -> Result<Ending, Memory>
-    requires base { IsBase (clauses_of arena.now) (length arena.now.chains) arena.now refs.now reasons.now trail.now (Some conflict) }
-    requires ids { length ids.now ≡ length refs.now }
-    ensures ends { IfOk result (EndsOver (clauses_of arena.now) ids.now trail.now id trail.now) }
-    ensures goes_on { IfOk result (GoesOn (clauses_of arena.now) (length arena.now.chains) arena.now refs.now reasons.now trail.now trail.now) }
-{
-    let line = derive(
-        alloc,
-        arena,
-        refs,
-        ids,
-        trail,
-        reasons,
-        seen,
-        &[],
-        conflict,
-        id,
-    )?;
-    Ok(Ending::Refuted(line))
-}
+impl Solver {
+    /// Makes true what follows before any decision, where no clause is false.
+    fn settle(&mut self) -> Result<(), Memory>
+        requires { IsReady self.old self.old.conflict }
+        ensures fields { OnOk result (IsSearched self.old self.new) }
+        ensures ready { OnOk result (IsReady self.new self.new.conflict) }
+        ensures rule { OnOk result (self.new.conflict ≡ None → Rule self.new.arena self.new.trail) }
+        ensures clauses { OnOk result (clauses_of self.new.arena ≡ clauses_of self.old.arena) }
+        ensures grows { OnOk result (All (Contains self.new.trail) self.old.trail) }
+    {
+        match self.conflict {
+            Some(_) => Ok(()),
+            None => {
+                self.conflict = propagate(&mut self.arena, &mut self.trail, &mut self.reasons, 0)?;
+                let _trues = self.trail.len();
+                Ok(())
+            }
+        }
+    }
 
-/// Decides until each clause is true or one is false, where nothing is left to propagate.
-fn decide<L: Ledger>(
-    alloc: Global,
-    arena: &mut Arena,
-    refs: &[Ref],
-    ids: &[Id],
-    trail: &mut Assignment,
-    reasons: &mut Vec<Option<Ref>>,
-    seen: &mut Assignment,
-    order: &mut Order,
-    variables: u32,
-    id: Id,
-    steps: &mut Steps<L>,
-) -> Result<Ending, Memory>
-    requires base { IsBase (clauses_of arena.old) (length arena.old.chains) arena.old refs.now reasons.old.items trail.old None }
-    requires rule { Rule arena.old trail.old }
-    requires ids { length ids.now ≡ length refs.now }
-    requires variables { variables ≤ 200000 }
-    requires size { length arena.old.chains ≡ 2 * variables }
-    ensures ends { IfOk result (EndsOver (clauses_of arena.old) ids.now trail.old id trail.new) }
-    ensures goes_on { IfOk result (GoesOn (clauses_of arena.old) (length arena.old.chains) arena.new refs.now reasons.new.items trail.old trail.new) }
-    ensures cost { steps.new ≤ steps.old + variables + 1 }
-    ensures rises { IfOk result (λ ending. RisesByAtLeast steps.old steps.new (conflicts_in ending)) }
-{
-    let low = trail.len();
-    order.begin();
-    'deciding: loop {
-        let _literals = arena.literals();
-        let start = trail.len();
-        match pick(order, variables, trail) {
-            None => return Ok(Ending::Model),
-            Some(literal) => {
-                steps.tick();
-                trail.set(literal)?;
-                reasons.push(None)?;
-                match propagate(arena, trail, reasons, start)? {
-                    None => {}
-                    Some(conflict) => {
-                        steps.tick();
-                        order.save(trail.literals());
-                        let line = learn(
-                            alloc, arena, refs, ids, trail, reasons, seen, low, start, conflict, id,
-                        )?;
-                        order.note(seen.literals(), line.literals.len())?;
-                        back(trail, reasons, low);
-                        return Ok(Ending::Taught(line));
+    /// The line that adds the empty clause, where one is false before any decision.
+    fn refute(&self, seen: &mut Assignment, conflict: Ref, id: Id) -> Result<Ending, Memory>
+        requires { IsReady self.now (Some conflict) }
+        ensures ends { IfOk result (EndsOver (clauses_of self.now.arena) self.now.ids.items self.now.trail id self.now.trail) }
+        ensures goes_on { IfOk result (GoesOn self.now self.now) }
+    {
+        let line = self.derive(seen, &[], conflict, id)?;
+        Ok(Ending::Refuted(line))
+    }
+
+    /// Decides until each clause is true or one is false, where nothing is left to propagate.
+    fn decide<L: Ledger>(
+        &mut self,
+        seen: &mut Assignment,
+        id: Id,
+        steps: &mut Steps<L>,
+    ) -> Result<Ending, Memory>
+        requires ready { IsReady self.old None }
+        requires none { self.old.conflict ≡ None }
+        requires rule { Rule self.old.arena self.old.trail }
+        ensures fields { OnOk result (IsSearched self.old self.new) }
+        ensures ends { IfOk result (EndsOver (clauses_of self.old.arena) self.old.ids.items self.old.trail id self.new.trail) }
+        ensures goes_on { IfOk result (GoesOn self.old self.new) }
+        ensures cost { steps.new ≤ steps.old + self.old.variables + 1 }
+        ensures rises { IfOk result (λ ending. RisesByAtLeast steps.old steps.new (conflicts_in ending)) }
+    {
+        let low = self.trail.len();
+        self.order.begin();
+        'deciding: loop {
+            let _literals = self.arena.literals();
+            let start = self.trail.len();
+            match pick(&mut self.order, self.variables, &self.trail) {
+                None => return Ok(Ending::Model),
+                Some(literal) => {
+                    steps.tick();
+                    self.trail.set(literal)?;
+                    self.reasons.push(None)?;
+                    match propagate(&mut self.arena, &mut self.trail, &mut self.reasons, start)? {
+                        None => {}
+                        Some(conflict) => {
+                            steps.tick();
+                            self.order.save(self.trail.literals());
+                            let line = self.learn(seen, low, start, conflict, id)?;
+                            self.order.note(seen.literals(), line.literals.len())?;
+                            back(&mut self.trail, &mut self.reasons, low);
+                            return Ok(Ending::Taught(line));
+                        }
                     }
                 }
             }
         }
     }
-}
 
-/// Searches for a model from what is true before any decision.
-pub fn search<L: Ledger>(
-    alloc: Global,
-    arena: &mut Arena,
-    refs: &[Ref],
-    ids: &[Id],
-    trail: &mut Assignment,
-    reasons: &mut Vec<Option<Ref>>,
-    seen: &mut Assignment,
-    order: &mut Order,
-    variables: u32,
-    conflict: Option<Ref>,
-    id: Id,
-    steps: &mut Steps<L>,
-) -> Result<Ending, Memory>
-    requires base { IsBase (clauses_of arena.old) (length arena.old.chains) arena.old refs.now reasons.old.items trail.old conflict }
-    requires ids { length ids.now ≡ length refs.now }
-    requires variables { variables ≤ 200000 }
-    requires size { length arena.old.chains ≡ 2 * variables }
-    ensures ends { IfOk result (EndsOver (clauses_of arena.old) ids.now trail.old id trail.new) }
-    ensures goes_on { IfOk result (GoesOn (clauses_of arena.old) (length arena.old.chains) arena.new refs.now reasons.new.items trail.old trail.new) }
-    ensures cost { steps.new ≤ steps.old + variables + 1 }
-    ensures rises { IfOk result (λ ending. RisesByAtLeast steps.old steps.new (conflicts_in ending)) }
-{
-    match conflict {
-        Some(at) => {
-            steps.tick();
-            let ending = refute(alloc, arena, refs, ids, trail, reasons, seen, at, id)?;
-            Ok(ending)
-        }
-        None => match propagate(arena, trail, reasons, 0)? {
+    /// Searches for a model from what is true before any decision. `seen` is room for the literals that lead to a conflict.
+    pub fn search<L: Ledger>(
+        &mut self,
+        seen: &mut Assignment,
+        id: Id,
+        steps: &mut Steps<L>,
+    ) -> Result<Ending, Memory>
+        requires { IsReady self.old self.old.conflict }
+        ensures fields { OnOk result (IsSearched self.old self.new) }
+        ensures ends { IfOk result (EndsOver (clauses_of self.old.arena) self.old.ids.items self.old.trail id self.new.trail) }
+        ensures goes_on { IfOk result (GoesOn self.old self.new) }
+        ensures cost { steps.new ≤ steps.old + self.old.variables + 1 }
+        ensures rises { IfOk result (λ ending. RisesByAtLeast steps.old steps.new (conflicts_in ending)) }
+    {
+        self.settle()?;
+        match self.conflict {
             Some(at) => {
                 steps.tick();
-                let ending = refute(alloc, arena, refs, ids, trail, reasons, seen, at, id)?;
+                let ending = self.refute(seen, at, id)?;
                 Ok(ending)
             }
             None => {
-                let _trues = trail.len();
-                let _literals = arena.literals();
-                let ending = decide(
-                    alloc, arena, refs, ids, trail, reasons, seen, order, variables, id, steps,
-                )?;
+                let ending = self.decide(seen, id, steps)?;
                 Ok(ending)
             }
-        },
+        }
     }
 }

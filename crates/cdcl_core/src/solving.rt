@@ -1,22 +1,20 @@
 //! The solver.
 
-ghost use Rattle.std.specs.Prelude.{◌≡◌, ◌≢◌, ℕ, ◌+◌, ◌*◌, ◌<◌, ◌≤◌, ◌^◌, ◌∷◌, [], ◌++◌, OnOk, OnErr, IfOk, All, IsTrue, ◌↔◌, List, length, map, Contains};
+ghost use Rattle.std.specs.Prelude.{◌≡◌, ◌≢◌, ℕ, ◌+◌, ◌*◌, ◌<◌, ◌≤◌, [], IfOk, All, IsTrue, ◌↔◌, length, Contains};
 ghost use Rattle.clause_model.specs.Literals.{codes_of};
 ghost use Rattle.cnf_gates.specs.Cnf.{IsLiteral};
 ghost use Rattle.cnf_gates.specs.Meaning.{assigned};
 ghost use Rattle.cdcl_core.specs.Implied.{clauses_of};
 ghost use Rattle.cdcl_core.specs.Held.{Covers};
-ghost use Rattle.cdcl_core.specs.Searched.{IsBase};
+ghost use Rattle.cdcl_core.specs.Searched.{HasBase};
 ghost use Rattle.step_ledger.specs.Counts.{RisesByAtLeast};
 ghost use Rattle.cdcl_core.specs.Costs.{lines_in};
-ghost use Rattle.cdcl_core.specs.Solved.{AreBelow, VerdictOf, literals_in};
+ghost use Rattle.cdcl_core.specs.Solved.{AreBelow, VerdictOf};
 
-use crate::adopting::adopt;
-use crate::dropping::drop_true;
-use crate::formulas::{has_empty, load, reach};
-use crate::order::Order;
-use crate::search::{Ending, search};
-use clause_arena::{Arena, Memory, Ref};
+use crate::formulas::{has_empty, reach};
+use crate::search::Ending;
+use crate::solver::Solver;
+use clause_arena::Memory;
 use clause_model::{Assignment, Literal};
 use cnf_gates::{Formula, Model};
 use lrat_check::{Addition, Id, Line};
@@ -60,63 +58,50 @@ fn codes_in(alloc: Global, line: &Addition) -> Result<Vec<u32>, Memory>
     Ok(found)
 }
 
-/// Searches again and again, until there is a model, the empty clause, or no budget.
-fn run<L: Ledger>(
-    alloc: Global,
-    formula: &Formula,
-    budget: u32,
-    arena: &mut Arena,
-    refs: &mut Vec<Ref>,
-    ids: &mut Vec<Id>,
-    trail: &mut Assignment,
-    reasons: &mut Vec<Option<Ref>>,
-    variables: u32,
-    conflict: Option<Ref>,
-    steps: &mut Steps<L>,
-) -> Result<Verdict, Memory>
-    requires ids { budget + length formula.now.clauses ≤ 4294967295 }
-    requires variables { variables ≤ 200000 }
-    requires size { length arena.old.chains ≡ 2 * variables }
-    requires literals { All (λ clause. All IsLiteral clause) formula.now.clauses }
-    requires below { AreBelow variables (codes_of formula.now.clauses) }
-    requires reached { formula.now.variables ≤ variables }
-    requires filled { All (λ clause. clause ≢ []) formula.now.clauses }
-    requires base { IsBase (clauses_of arena.old) (length arena.old.chains) arena.old refs.old.items reasons.old.items trail.old conflict }
-    requires covers { Covers (codes_of formula.now.clauses) (clauses_of arena.old) ids.old.items trail.old }
-    ensures verdict { IfOk result (VerdictOf formula.now budget) }
-    ensures cost { steps.new ≤ steps.old + budget * (variables + 1) }
-    ensures rises { IfOk result (λ verdict. RisesByAtLeast steps.old steps.new (lines_in verdict)) }
-{
-    let mut log = Vec::new(alloc);
-    let mut seen = Assignment::new(alloc);
-    let mut order = Order::new(alloc, variables)?;
-    let mut current = conflict;
-    let mut swept = 0;
-    for round in 0..budget {
-        let id = Id::new(formula.clauses() as u32 + round + 1);
-        let before = current;
-        match search(
-            alloc, arena, refs, ids, trail, reasons, &mut seen, &mut order, variables, before, id,
-            steps,
-        )? {
-            Ending::Model => {
-                let _trues = trail.len();
-                let model = model_of(alloc, variables, trail)?;
-                return Ok(Verdict::Sat(model));
-            }
-            Ending::Refuted(line) => {
-                log.push(Line::Addition(line))?;
-                return Ok(Verdict::Unsat(log));
-            }
-            Ending::Taught(line) => {
-                drop_true(alloc, arena, refs, ids, trail, reasons, &mut swept)?;
-                let literals = codes_in(alloc, &line)?;
-                current = adopt(arena, refs, ids, trail, reasons, None, &literals, id)?;
-                log.push(Line::Addition(line))?;
+impl Solver {
+    /// Searches again and again, until there is a model, the empty clause, or no budget.
+    fn run<L: Ledger>(
+        &mut self,
+        formula: &Formula,
+        budget: u32,
+        steps: &mut Steps<L>,
+    ) -> Result<Verdict, Memory>
+        requires ids { budget + length formula.now.clauses ≤ 4294967295 }
+        requires variables { self.old.variables ≤ 200000 }
+        requires literals { All (λ clause. All IsLiteral clause) formula.now.clauses }
+        requires below { AreBelow self.old.variables (codes_of formula.now.clauses) }
+        requires reached { formula.now.variables ≤ self.old.variables }
+        requires filled { All (λ clause. clause ≢ []) formula.now.clauses }
+        requires base { HasBase (clauses_of self.old.arena) self.old self.old.conflict }
+        requires covers { Covers (codes_of formula.now.clauses) (clauses_of self.old.arena) self.old.ids.items self.old.trail }
+        ensures verdict { IfOk result (VerdictOf formula.now budget) }
+        ensures cost { steps.new ≤ steps.old + budget * (self.old.variables + 1) }
+        ensures rises { IfOk result (λ verdict. RisesByAtLeast steps.old steps.new (lines_in verdict)) }
+    {
+        let mut log = Vec::new(self.alloc);
+        let mut seen = Assignment::new(self.alloc);
+        for round in 0..budget {
+            let id = Id::new(formula.clauses() as u32 + round + 1);
+            match self.search(&mut seen, id, steps)? {
+                Ending::Model => {
+                    let _trues = self.trail.len();
+                    let model = model_of(self.alloc, self.variables, &self.trail)?;
+                    return Ok(Verdict::Sat(model));
+                }
+                Ending::Refuted(line) => {
+                    log.push(Line::Addition(line))?;
+                    return Ok(Verdict::Unsat(log));
+                }
+                Ending::Taught(line) => {
+                    self.drop_true()?;
+                    let literals = codes_in(self.alloc, &line)?;
+                    self.adopt(&literals, id)?;
+                    log.push(Line::Addition(line))?;
+                }
             }
         }
+        Ok(Verdict::Spent(log))
     }
-    Ok(Verdict::Spent(log))
 }
 
 /// Whether the formula has a model, as far as so many learnt clauses tell.
@@ -138,33 +123,8 @@ pub fn solve<L: Ledger>(
     if has_empty(formula) {
         return Ok(Verdict::Unsat(Vec::new(alloc)));
     }
-    let variables = reach(formula);
-    let mut arena = Arena::new(alloc, variables)?;
-    let mut refs = Vec::new(alloc);
-    let mut ids = Vec::new(alloc);
-    let mut trail = Assignment::new(alloc);
-    let mut reasons = Vec::new(alloc);
-    let conflict = load(
-        alloc,
-        formula,
-        &mut arena,
-        &mut refs,
-        &mut ids,
-        &mut trail,
-        &mut reasons,
-    )?;
-    let verdict = run(
-        alloc,
-        formula,
-        budget,
-        &mut arena,
-        &mut refs,
-        &mut ids,
-        &mut trail,
-        &mut reasons,
-        variables,
-        conflict,
-        steps,
-    )?;
+    let mut solver = Solver::new(alloc, reach(formula))?;
+    solver.load(formula)?;
+    let verdict = solver.run(formula, budget, steps)?;
     Ok(verdict)
 }
