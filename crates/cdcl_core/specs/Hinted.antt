@@ -1,7 +1,8 @@
 -- A conflict that reasons lead to.
-use Rattle.std.specs.Prelude.{ℕ, ◌≡◌, List, All, Contains, Option, Some, None, slice_get, get_or, length}
-use Rattle.clause_arena.specs.Contents.{Content}
+use Rattle.std.specs.Prelude.{ℕ, ◌≡◌, ◌≢◌, ◌<◌, List, All, AllPairs, Contains, Option, Some, None, slice_get, get_or, length}
+use Rattle.clause_arena.specs.Contents.{Content, references_of}
 use Rattle.unit_propagation.specs.Watching.{IsReason}
+use Rattle.cdcl_core.specs.declared.solver.Solver.{Solver}
 use Rattle.cdcl_core.specs.Implied.{IsConflict}
 
 -- a clause is false under the trail, whose literals but the given ones have reasons
@@ -12,3 +13,11 @@ pub record HasReasons (content : Content) (reasons : List (Option ℕ)) (trail g
   pub proper : (k r : ℕ) → slice_get reasons k ≡ Some (Some r) → Contains givens (get_or trail k 0) → ⊥
   pub part : All (Contains trail) givens
   pub falsified : IsConflict content trail conflict
+
+-- so it is in a solver, where each clause has a reference and a number; the given literals differ
+pub record IsDerivable (solver : Solver) (givens : List ℕ) (conflict : ℕ) : Type 0 where
+  pub refs : solver.refs.items ≡ references_of solver.arena
+  pub ids : length solver.ids.items ≡ length solver.refs.items
+  pub reasons : HasReasons solver.arena solver.reasons.items solver.trail givens conflict
+  pub distinct : AllPairs (λ l m. l ≢ m) givens
+  pub bounded : All (λ l. l < 400000) givens

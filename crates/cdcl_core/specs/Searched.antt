@@ -1,7 +1,9 @@
 -- What a search begins with, and how it ends.
 use Rattle.std.specs.Prelude.{ℕ, ◌≡◌, ◌≤◌, ◌+◌, ◌*◌, List, [], All, Any, Contains, Option, Some, None, length}
+use Rattle.clause_model.specs.Literals.{codes_of}
 use Rattle.clause_model.specs.Clauses.{IsConsistent}
 use Rattle.clause_model.specs.Asserting.{IsAsserting}
+use Rattle.cnf_gates.specs.Cnf.{Cnf}
 use Rattle.clause_arena.specs.Contents.{Content, HasLiteral, references_of}
 use Rattle.unit_propagation.specs.Watching.{IsAttached, IsKnown}
 use Rattle.cdcl_core.specs.declared.search.Ending.{Ending}
@@ -9,7 +11,7 @@ use Rattle.cdcl_core.specs.declared.search.Ending.TheVariants.{Model, Refuted, T
 use Rattle.cdcl_core.specs.declared.solver.Solver.{Solver}
 use Rattle.cdcl_core.specs.Implied.{clauses_of, IsConflict, IsJustified, IsCovered, AreSpare}
 use Rattle.cdcl_core.specs.Held.{Covers}
-use Rattle.cdcl_core.specs.Solved.{Adds}
+use Rattle.cdcl_core.specs.Solved.{Adds, AreBelow}
 
 -- the arena has the clauses; what is true follows from them, and either a clause is false, or each watches two literals or has a true one, and those that are dropped are spare
 pub record IsBase (clauses : List (List ℕ)) (size : ℕ) (content : Content) (references : List ℕ) (reasons : List (Option ℕ)) (trail : List ℕ) (conflict : Option ℕ) : Type 0 where
@@ -33,6 +35,14 @@ pub record IsReady (solver : Solver) (conflict : Option ℕ) : Type 0 where
   pub base : HasBase (clauses_of solver.arena) solver conflict
   pub ids : length solver.ids.items ≡ length solver.refs.items
   pub variables : solver.variables ≤ 200000
+
+-- it has the formula's clauses, but for some that have a literal that is true before any decision
+pub record IsLoaded (formula : Cnf) (solver : Solver) : Type 0 where
+  pub variables : solver.variables ≤ 200000
+  pub reached : formula.variables ≤ solver.variables
+  pub below : AreBelow solver.variables (codes_of formula.clauses)
+  pub base : HasBase (clauses_of solver.arena) solver solver.conflict
+  pub covers : Covers (codes_of formula.clauses) (clauses_of solver.arena) solver.ids.items solver.trail
 
 -- only watches changed, and what is true
 abbrev pub IsPropagated : Solver → Solver → Type 0

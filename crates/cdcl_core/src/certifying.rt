@@ -48,17 +48,14 @@ impl Solver {
             unreachable!();
         }
         let high = self.trail.len();
-        match propagate(&mut self.arena, &mut self.trail, &mut self.reasons, low)? {
-            Some(conflict) => {
-                let givens = &self.trail.literals()[low..high];
-                let line = self.derive(seen, givens, conflict, id)?;
-                Ok(line)
-            }
-            None => {
-                let _trues = self.trail.len();
-                let _literals = self.arena.literals();
-                unreachable!()
-            }
-        }
+        let Some(conflict) = propagate(&mut self.arena, &mut self.trail, &mut self.reasons, low)?
+        else {
+            let _trues = self.trail.len();
+            let _literals = self.arena.literals();
+            unreachable!()
+        };
+        let givens = &self.trail.literals()[low..high];
+        let line = self.derive(seen, givens, conflict, id)?;
+        Ok(line)
     }
 }

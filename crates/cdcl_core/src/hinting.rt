@@ -3,12 +3,11 @@
 //! The hints are read off the trail from its end: the false clause, and before it the reason of each
 //! literal whose contrary stands in a clause of a hint.
 
-ghost use Rattle.std.specs.Prelude.{◌≡◌, ◌≢◌, ℕ, ◌+◌, ◌<◌, IfOk, All, AllPairs, List, length, map, Contains, Option, Some, slice_get, get_or, pos};
+ghost use Rattle.std.specs.Prelude.{◌≡◌, ℕ, ◌+◌, ◌<◌, IfOk, AllPairs, List, length, map, Contains, Option, Some, slice_get, get_or, pos};
 ghost use Rattle.clause_model.specs.Literals.{negated};
-ghost use Rattle.clause_arena.specs.Contents.{references_of};
 ghost use Rattle.cdcl_core.specs.Implied.{clauses_of};
 ghost use Rattle.cdcl_core.specs.Held.{AreNumbered};
-ghost use Rattle.cdcl_core.specs.Hinted.{HasReasons};
+ghost use Rattle.cdcl_core.specs.Hinted.{IsDerivable};
 ghost use Rattle.cdcl_core.specs.Solved.{RefutesTidily};
 
 use crate::analysis::see;
@@ -58,11 +57,7 @@ impl Solver {
         conflict: Ref,
         id: Id,
     ) -> Result<Addition, Memory>
-        requires refs { self.now.refs.items ≡ references_of self.now.arena }
-        requires ids { length self.now.ids.items ≡ length self.now.refs.items }
-        requires reasons { HasReasons self.now.arena self.now.reasons.items self.now.trail givens.now conflict }
-        requires distinct { AllPairs (λ l m. l ≢ m) givens.now }
-        requires bounded { All (λ l. l < 400000) givens.now }
+        requires { IsDerivable self.now givens.now conflict }
         ensures id { IfOk result (λ line. line.id ≡ id) }
         ensures literals { IfOk result (λ line. line.literals.items ≡ map negated givens.now) }
         ensures hints { IfOk result (λ line. (live : ℕ → Option (List ℕ)) → AreNumbered live (clauses_of self.now.arena) self.now.ids.items → (hints : List ℕ) × (line.hints.items ≡ map pos hints) × RefutesTidily live givens.now hints) }

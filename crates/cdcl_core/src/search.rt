@@ -101,24 +101,24 @@ impl Solver {
         'deciding: loop {
             let _literals = self.arena.literals();
             let start = self.trail.len();
-            match pick(&mut self.order, self.variables, &self.trail) {
-                None => return Ok(Ending::Model),
-                Some(literal) => {
-                    steps.tick();
-                    self.trail.set(literal)?;
-                    self.reasons.push(None)?;
-                    match propagate(&mut self.arena, &mut self.trail, &mut self.reasons, start)? {
-                        None => {}
-                        Some(conflict) => {
-                            steps.tick();
-                            self.order.save(self.trail.literals());
-                            let line = self.learn(seen, low, start, conflict, id)?;
-                            self.order.note(seen.literals(), line.literals.len())?;
-                            back(&mut self.trail, &mut self.reasons, low);
-                            return Ok(Ending::Taught(line));
-                        }
-                    }
-                }
+            let Some(literal) = pick(&mut self.order, self.variables, &self.trail) else {
+                return Ok(Ending::Model);
+            };
+            steps.tick();
+            self.trail.set(literal)?;
+            self.reasons.push(None)?;
+            if let Some(conflict) = propagate(
+                &mut self.arena,
+                &mut self.trail,
+                &mut self.reasons,
+                start,
+            )? {
+                steps.tick();
+                self.order.save(self.trail.literals());
+                let line = self.learn(seen, low, start, conflict, id)?;
+                self.order.note(seen.literals(), line.literals.len())?;
+                back(&mut self.trail, &mut self.reasons, low);
+                return Ok(Ending::Taught(line));
             }
         }
     }

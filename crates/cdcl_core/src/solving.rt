@@ -4,9 +4,7 @@ ghost use Rattle.std.specs.Prelude.{◌≡◌, ◌≢◌, ℕ, ◌+◌, ◌*◌,
 ghost use Rattle.clause_model.specs.Literals.{codes_of};
 ghost use Rattle.cnf_gates.specs.Cnf.{IsLiteral};
 ghost use Rattle.cnf_gates.specs.Meaning.{assigned};
-ghost use Rattle.cdcl_core.specs.Implied.{clauses_of};
-ghost use Rattle.cdcl_core.specs.Held.{Covers};
-ghost use Rattle.cdcl_core.specs.Searched.{HasBase};
+ghost use Rattle.cdcl_core.specs.Searched.{IsLoaded};
 ghost use Rattle.step_ledger.specs.Counts.{RisesByAtLeast};
 ghost use Rattle.cdcl_core.specs.Costs.{lines_in};
 ghost use Rattle.cdcl_core.specs.Solved.{AreBelow, VerdictOf};
@@ -67,13 +65,9 @@ impl Solver {
         steps: &mut Steps<L>,
     ) -> Result<Verdict, Memory>
         requires ids { budget + length formula.now.clauses ≤ 4294967295 }
-        requires variables { self.old.variables ≤ 200000 }
         requires literals { All (λ clause. All IsLiteral clause) formula.now.clauses }
-        requires below { AreBelow self.old.variables (codes_of formula.now.clauses) }
-        requires reached { formula.now.variables ≤ self.old.variables }
         requires filled { All (λ clause. clause ≢ []) formula.now.clauses }
-        requires base { HasBase (clauses_of self.old.arena) self.old self.old.conflict }
-        requires covers { Covers (codes_of formula.now.clauses) (clauses_of self.old.arena) self.old.ids.items self.old.trail }
+        requires loaded { IsLoaded formula.now self.old }
         ensures verdict { IfOk result (VerdictOf formula.now budget) }
         ensures cost { steps.new ≤ steps.old + budget * (self.old.variables + 1) }
         ensures rises { IfOk result (λ verdict. RisesByAtLeast steps.old steps.new (lines_in verdict)) }

@@ -15,20 +15,17 @@ cost_within new old budget width n cost low =
 pub load-requires-clause-known : goal.load-requires-clause-known
 load-requires-clause-known g c = subst (λ (n : ℕ). AreBelow n (codes_of c.args.formula.now.clauses)) (sym c.in_ok-solver.ensures.variables) c.reach.ensures.below
 
-pub run-requires-clause-variables : goal.run-requires-clause-variables
-run-requires-clause-variables g c = omega (arith, c.in_ok-load.ensures.variables, c.in_ok-solver.ensures.variables, c.reach.ensures.few)
-
-pub run-requires-clause-below : goal.run-requires-clause-below
-run-requires-clause-below g c = subst (λ (n : ℕ). AreBelow n (codes_of c.args.formula.now.clauses)) (sym (c.in_ok-load.ensures.variables ∙ c.in_ok-solver.ensures.variables)) c.reach.ensures.below
-
-pub run-requires-clause-reached : goal.run-requires-clause-reached
-run-requires-clause-reached g c = omega (arith, c.in_ok-load.ensures.variables, c.in_ok-solver.ensures.variables, c.reach.ensures.reached)
-
-pub run-requires-clause-base : goal.run-requires-clause-base
-run-requires-clause-base g c = base_here c.in_ok-load.ensures.base
-
-pub run-requires-clause-covers : goal.run-requires-clause-covers
-run-requires-clause-covers g c = subst (λ (cs : List (List ℕ)). Covers (codes_of c.args.formula.now.clauses) cs c.load.new.self.ids.items c.load.new.self.trail) (sym c.in_ok-load.ensures.base.clauses_are) c.in_ok-load.ensures.covers
+pub run-requires-clause-loaded : goal.run-requires-clause-loaded
+run-requires-clause-loaded g c =
+    let l = c.in_ok-load.ensures in
+    let n = l.variables ∙ c.in_ok-solver.ensures.variables in
+    record {
+      variables = omega (arith, n, c.reach.ensures.few);
+      reached = omega (arith, n, c.reach.ensures.reached);
+      below = subst (λ (k : ℕ). AreBelow k (codes_of c.args.formula.now.clauses)) (sym n) c.reach.ensures.below;
+      base = base_here l.base;
+      covers = subst (λ (cs : List (List ℕ)). Covers (codes_of c.args.formula.now.clauses) cs c.load.new.self.ids.items c.load.new.self.trail) (sym l.base.clauses_are) l.covers;
+    }
 
 pub returns-clause-cost : goal.returns-clause-cost
 returns-clause-cost g c = λ n v b. cost_within c.run.new.steps c.args.steps.now c.args.budget c.load.new.self.variables n c.run.ensures.cost (omega (arith, c.in_ok-load.ensures.variables, c.in_ok-solver.ensures.variables, c.reach.ensures.least n v b))

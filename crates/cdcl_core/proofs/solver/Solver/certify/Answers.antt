@@ -8,44 +8,30 @@ use Rattle.cdcl_core.proofs.Falsified.{rule_from, back_falsifiable}
 use Rattle.cdcl_core.proofs.Derived.{denied_ground, derived_ground, givens_are, givens_distinct, givens_bounded, givens_reasons, never_settled, part_of_clause, whole_clause, givens_known, tidy_here, numbered_there}
 use Rattle.cdcl_core.proofs.solver.Solver.certify.Goals as goal
 
-pub propagate-requires-clause-aligned : goal.propagate-requires-clause-aligned
-propagate-requires-clause-aligned c = (denied_ground c.args.self.now.arena c.args.low c.args.self.now.reasons.items c.args.self.now.trail c.requires.ground c.args.clause.now c.requires.falsifiable c.back.new.reasons.items c.back.new.trail c.back.ensures.trail c.back.ensures.reasons c.assume.new.reasons.items c.assume.new.trail (c.in_ok-is_true.ensures.each c.if-is_true.false)).aligned
+pub propagate-requires : goal.propagate-requires
+propagate-requires c =
+    let d = denied_ground c.args.self.now.arena c.args.low c.args.self.now.reasons.items c.args.self.now.trail c.requires.ground c.args.clause.now c.requires.falsifiable c.back.new.reasons.items c.back.new.trail c.back.ensures.trail c.back.ensures.reasons c.assume.new.reasons.items c.assume.new.trail (c.in_ok-is_true.ensures.each c.if-is_true.false) in
+    record { aligned = d.aligned; attached = d.attached; known = d.known; literals = d.literals; from = d.within; rule = rule_from (level_of c.args.self.now.arena c.args.self.now.trail c.args.low) c.args.self.now.arena c.assume.new.reasons.items c.assume.new.trail d }
 
-pub propagate-requires-clause-attached : goal.propagate-requires-clause-attached
-propagate-requires-clause-attached c = (denied_ground c.args.self.now.arena c.args.low c.args.self.now.reasons.items c.args.self.now.trail c.requires.ground c.args.clause.now c.requires.falsifiable c.back.new.reasons.items c.back.new.trail c.back.ensures.trail c.back.ensures.reasons c.assume.new.reasons.items c.assume.new.trail (c.in_ok-is_true.ensures.each c.if-is_true.false)).attached
-
-pub propagate-requires-clause-known : goal.propagate-requires-clause-known
-propagate-requires-clause-known c = (denied_ground c.args.self.now.arena c.args.low c.args.self.now.reasons.items c.args.self.now.trail c.requires.ground c.args.clause.now c.requires.falsifiable c.back.new.reasons.items c.back.new.trail c.back.ensures.trail c.back.ensures.reasons c.assume.new.reasons.items c.assume.new.trail (c.in_ok-is_true.ensures.each c.if-is_true.false)).known
-
-pub propagate-requires-clause-literals : goal.propagate-requires-clause-literals
-propagate-requires-clause-literals c = (denied_ground c.args.self.now.arena c.args.low c.args.self.now.reasons.items c.args.self.now.trail c.requires.ground c.args.clause.now c.requires.falsifiable c.back.new.reasons.items c.back.new.trail c.back.ensures.trail c.back.ensures.reasons c.assume.new.reasons.items c.assume.new.trail (c.in_ok-is_true.ensures.each c.if-is_true.false)).literals
-
-pub propagate-requires-clause-from : goal.propagate-requires-clause-from
-propagate-requires-clause-from c = (denied_ground c.args.self.now.arena c.args.low c.args.self.now.reasons.items c.args.self.now.trail c.requires.ground c.args.clause.now c.requires.falsifiable c.back.new.reasons.items c.back.new.trail c.back.ensures.trail c.back.ensures.reasons c.assume.new.reasons.items c.assume.new.trail (c.in_ok-is_true.ensures.each c.if-is_true.false)).within
-
-pub propagate-requires-clause-rule : goal.propagate-requires-clause-rule
-propagate-requires-clause-rule c = rule_from (level_of c.args.self.now.arena c.args.self.now.trail c.args.low) c.args.self.now.arena c.assume.new.reasons.items c.assume.new.trail (denied_ground c.args.self.now.arena c.args.low c.args.self.now.reasons.items c.args.self.now.trail c.requires.ground c.args.clause.now c.requires.falsifiable c.back.new.reasons.items c.back.new.trail c.back.ensures.trail c.back.ensures.reasons c.assume.new.reasons.items c.assume.new.trail (c.in_ok-is_true.ensures.each c.if-is_true.false))
-
-pub derive-requires-clause-refs : goal.derive-requires-clause-refs
-derive-requires-clause-refs c = c.requires.refs ∙ ap (λ (cs : List Clause). references_of record { clauses = cs; chains = c.propagate.new.arena.chains }) (sym c.in_ok-conflict.ensures.later.clauses)
-
-pub derive-requires-clause-reasons : goal.derive-requires-clause-reasons
-derive-requires-clause-reasons c = subst (λ (xs : List ℕ). HasReasons c.propagate.new.arena c.propagate.new.reasons.items c.propagate.new.assignment xs c.in-Some.conflict) (sym (givens_are c.args.self.now.arena c.args.low c.args.self.now.reasons.items c.args.self.now.trail c.requires.ground c.args.clause.now c.requires.falsifiable c.back.new.reasons.items c.back.new.trail c.back.ensures.trail c.back.ensures.reasons c.assume.new.reasons.items c.assume.new.trail (c.in_ok-is_true.ensures.each c.if-is_true.false) c.propagate.new.arena c.propagate.new.reasons.items c.propagate.new.assignment c.in_ok-conflict.ensures.later c.literals.result.now c.len-high.result c.literals.ensures.value c.len-high.ensures.value))
-    (givens_reasons c.args.self.now.arena c.args.low c.args.self.now.reasons.items c.args.self.now.trail c.requires.ground c.args.clause.now c.requires.falsifiable c.back.new.reasons.items c.back.new.trail c.back.ensures.trail c.back.ensures.reasons c.assume.new.reasons.items c.assume.new.trail (c.in_ok-is_true.ensures.each c.if-is_true.false) c.propagate.new.arena c.propagate.new.reasons.items c.propagate.new.assignment c.in_ok-conflict.ensures.later c.in-Some.conflict (c.in_ok-conflict.ensures.conflict c.in-Some.conflict c.in-Some.is) c.literals.ensures.distinct)
-
-pub derive-requires-clause-distinct : goal.derive-requires-clause-distinct
-derive-requires-clause-distinct c = subst (AllPairs (λ x y. x ≢ y)) (sym (givens_are c.args.self.now.arena c.args.low c.args.self.now.reasons.items c.args.self.now.trail c.requires.ground c.args.clause.now c.requires.falsifiable c.back.new.reasons.items c.back.new.trail c.back.ensures.trail c.back.ensures.reasons c.assume.new.reasons.items c.assume.new.trail (c.in_ok-is_true.ensures.each c.if-is_true.false) c.propagate.new.arena c.propagate.new.reasons.items c.propagate.new.assignment c.in_ok-conflict.ensures.later c.literals.result.now c.len-high.result c.literals.ensures.value c.len-high.ensures.value)) (givens_distinct c.args.self.now.arena c.args.low c.args.self.now.reasons.items c.args.self.now.trail c.requires.ground c.args.clause.now c.requires.falsifiable c.back.new.reasons.items c.back.new.trail c.back.ensures.trail c.back.ensures.reasons c.assume.new.reasons.items c.assume.new.trail (c.in_ok-is_true.ensures.each c.if-is_true.false) c.propagate.new.arena c.propagate.new.reasons.items c.propagate.new.assignment c.in_ok-conflict.ensures.later c.literals.ensures.distinct)
-
-pub derive-requires-clause-bounded : goal.derive-requires-clause-bounded
-derive-requires-clause-bounded c = subst (All (λ x. x < 400000)) (sym (givens_are c.args.self.now.arena c.args.low c.args.self.now.reasons.items c.args.self.now.trail c.requires.ground c.args.clause.now c.requires.falsifiable c.back.new.reasons.items c.back.new.trail c.back.ensures.trail c.back.ensures.reasons c.assume.new.reasons.items c.assume.new.trail (c.in_ok-is_true.ensures.each c.if-is_true.false) c.propagate.new.arena c.propagate.new.reasons.items c.propagate.new.assignment c.in_ok-conflict.ensures.later c.literals.result.now c.len-high.result c.literals.ensures.value c.len-high.ensures.value)) (givens_bounded c.args.self.now.arena c.args.low c.args.self.now.reasons.items c.args.self.now.trail c.requires.ground c.args.clause.now c.requires.falsifiable c.back.new.reasons.items c.back.new.trail c.back.ensures.trail c.back.ensures.reasons c.assume.new.reasons.items c.assume.new.trail (c.in_ok-is_true.ensures.each c.if-is_true.false) c.propagate.new.arena c.propagate.new.reasons.items c.propagate.new.assignment c.in_ok-conflict.ensures.later 400000 c.requires.size)
+pub derive-requires : goal.derive-requires
+derive-requires c =
+    let e = givens_are c.args.self.now.arena c.args.low c.args.self.now.reasons.items c.args.self.now.trail c.requires.ground c.args.clause.now c.requires.falsifiable c.back.new.reasons.items c.back.new.trail c.back.ensures.trail c.back.ensures.reasons c.assume.new.reasons.items c.assume.new.trail (c.in_ok-is_true.ensures.each c.if-is_true.false) c.propagate.new.arena c.propagate.new.reasons.items c.propagate.new.assignment c.in_ok-conflict.ensures.later c.literals.result.now c.len-high.result c.literals.ensures.value c.len-high.ensures.value in
+    record {
+      refs = c.requires.refs ∙ ap (λ (cs : List Clause). references_of record { clauses = cs; chains = c.propagate.new.arena.chains }) (sym c.in_ok-conflict.ensures.later.clauses);
+      ids = c.requires.ids;
+      reasons = subst (λ (xs : List ℕ). HasReasons c.propagate.new.arena c.propagate.new.reasons.items c.propagate.new.assignment xs c.in-Some.conflict) (sym e)
+          (givens_reasons c.args.self.now.arena c.args.low c.args.self.now.reasons.items c.args.self.now.trail c.requires.ground c.args.clause.now c.requires.falsifiable c.back.new.reasons.items c.back.new.trail c.back.ensures.trail c.back.ensures.reasons c.assume.new.reasons.items c.assume.new.trail (c.in_ok-is_true.ensures.each c.if-is_true.false) c.propagate.new.arena c.propagate.new.reasons.items c.propagate.new.assignment c.in_ok-conflict.ensures.later c.in-Some.conflict (c.in_ok-conflict.ensures.conflict c.in-Some.conflict c.in-Some.is) c.literals.ensures.distinct);
+      distinct = subst (AllPairs (λ x y. x ≢ y)) (sym e) (givens_distinct c.args.self.now.arena c.args.low c.args.self.now.reasons.items c.args.self.now.trail c.requires.ground c.args.clause.now c.requires.falsifiable c.back.new.reasons.items c.back.new.trail c.back.ensures.trail c.back.ensures.reasons c.assume.new.reasons.items c.assume.new.trail (c.in_ok-is_true.ensures.each c.if-is_true.false) c.propagate.new.arena c.propagate.new.reasons.items c.propagate.new.assignment c.in_ok-conflict.ensures.later c.literals.ensures.distinct);
+      bounded = subst (All (λ x. x < 400000)) (sym e) (givens_bounded c.args.self.now.arena c.args.low c.args.self.now.reasons.items c.args.self.now.trail c.requires.ground c.args.clause.now c.requires.falsifiable c.back.new.reasons.items c.back.new.trail c.back.ensures.trail c.back.ensures.reasons c.assume.new.reasons.items c.assume.new.trail (c.in_ok-is_true.ensures.each c.if-is_true.false) c.propagate.new.arena c.propagate.new.reasons.items c.propagate.new.assignment c.in_ok-conflict.ensures.later 400000 c.requires.size);
+    }
 
 pub unreachable-requires : goal.unreachable-requires
 unreachable-requires c =
     let w = c.in_ok-is_true.ensures.tried in
     never_true (length c.args.self.now.arena.chains) c.back.new.trail c.args.clause.now w.0 c.back.new.reasons.items c.assume.new.reasons.items c.assume.new.trail (back_falsifiable (length c.args.self.now.arena.chains) c.args.low c.args.self.now.trail c.back.new.trail c.args.clause.now c.back.ensures.trail c.requires.falsifiable) w.1 w.2 (c.in_ok-is_true.ensures.one c.if-is_true.true)
 
-pub unreachable-requires-in-None : goal.unreachable-requires-in-None
-unreachable-requires-in-None c = never_settled c.args.self.now.arena c.args.low c.args.self.now.reasons.items c.args.self.now.trail c.requires.ground c.args.clause.now c.requires.falsifiable c.back.new.reasons.items c.back.new.trail c.back.ensures.trail c.back.ensures.reasons c.assume.new.reasons.items c.assume.new.trail (c.in_ok-is_true.ensures.each c.if-is_true.false) c.propagate.new.arena c.propagate.new.reasons.items c.propagate.new.assignment c.in_ok-conflict.ensures.later c.requires.refutable c.len-trues.ensures.consistent c.literals-literals.ensures.whole (c.in_ok-conflict.ensures.done c.in-None.is)
+pub unreachable-requires-in_default : goal.unreachable-requires-in_default
+unreachable-requires-in_default c = never_settled c.args.self.now.arena c.args.low c.args.self.now.reasons.items c.args.self.now.trail c.requires.ground c.args.clause.now c.requires.falsifiable c.back.new.reasons.items c.back.new.trail c.back.ensures.trail c.back.ensures.reasons c.assume.new.reasons.items c.assume.new.trail (c.in_ok-is_true.ensures.each c.if-is_true.false) c.propagate.new.arena c.propagate.new.reasons.items c.propagate.new.assignment c.in_ok-conflict.ensures.later c.requires.refutable c.len-trues.ensures.consistent c.literals-literals.ensures.whole (c.in_ok-conflict.ensures.done c.in_default.is)
 
 pub returns-clause-ground : goal.returns-clause-ground
 returns-clause-ground c = derived_ground c.args.self.now.arena c.args.low c.args.self.now.reasons.items c.args.self.now.trail c.requires.ground c.args.clause.now c.requires.falsifiable c.back.new.reasons.items c.back.new.trail c.back.ensures.trail c.back.ensures.reasons c.assume.new.reasons.items c.assume.new.trail (c.in_ok-is_true.ensures.each c.if-is_true.false) c.propagate.new.arena c.propagate.new.reasons.items c.propagate.new.assignment c.in_ok-conflict.ensures.later
@@ -54,15 +40,15 @@ pub returns-clause-clauses : goal.returns-clause-clauses
 returns-clause-clauses c = c.in_ok-conflict.ensures.later.clauses
 
 pub returns-clause-part : goal.returns-clause-part
-returns-clause-part c = part_of_clause c.args.self.now.arena c.args.low c.args.self.now.reasons.items c.args.self.now.trail c.requires.ground c.args.clause.now c.requires.falsifiable c.back.new.reasons.items c.back.new.trail c.back.ensures.trail c.back.ensures.reasons c.assume.new.reasons.items c.assume.new.trail (c.in_ok-is_true.ensures.each c.if-is_true.false) _ c.in_ok-line-in-Some.line.literals.items (givens_are c.args.self.now.arena c.args.low c.args.self.now.reasons.items c.args.self.now.trail c.requires.ground c.args.clause.now c.requires.falsifiable c.back.new.reasons.items c.back.new.trail c.back.ensures.trail c.back.ensures.reasons c.assume.new.reasons.items c.assume.new.trail (c.in_ok-is_true.ensures.each c.if-is_true.false) c.propagate.new.arena c.propagate.new.reasons.items c.propagate.new.assignment c.in_ok-conflict.ensures.later c.literals.result.now c.len-high.result c.literals.ensures.value c.len-high.ensures.value) c.in_ok-line-in-Some.ensures.literals
+returns-clause-part c = part_of_clause c.args.self.now.arena c.args.low c.args.self.now.reasons.items c.args.self.now.trail c.requires.ground c.args.clause.now c.requires.falsifiable c.back.new.reasons.items c.back.new.trail c.back.ensures.trail c.back.ensures.reasons c.assume.new.reasons.items c.assume.new.trail (c.in_ok-is_true.ensures.each c.if-is_true.false) _ c.in_ok-line.line.literals.items (givens_are c.args.self.now.arena c.args.low c.args.self.now.reasons.items c.args.self.now.trail c.requires.ground c.args.clause.now c.requires.falsifiable c.back.new.reasons.items c.back.new.trail c.back.ensures.trail c.back.ensures.reasons c.assume.new.reasons.items c.assume.new.trail (c.in_ok-is_true.ensures.each c.if-is_true.false) c.propagate.new.arena c.propagate.new.reasons.items c.propagate.new.assignment c.in_ok-conflict.ensures.later c.literals.result.now c.len-high.result c.literals.ensures.value c.len-high.ensures.value) c.in_ok-line.ensures.literals
 
 pub returns-clause-whole : goal.returns-clause-whole
-returns-clause-whole c = whole_clause c.args.self.now.arena c.args.low c.args.self.now.reasons.items c.args.self.now.trail c.requires.ground c.args.clause.now c.requires.falsifiable c.back.new.reasons.items c.back.new.trail c.back.ensures.trail c.back.ensures.reasons c.assume.new.reasons.items c.assume.new.trail (c.in_ok-is_true.ensures.each c.if-is_true.false) _ c.in_ok-line-in-Some.line.literals.items (givens_are c.args.self.now.arena c.args.low c.args.self.now.reasons.items c.args.self.now.trail c.requires.ground c.args.clause.now c.requires.falsifiable c.back.new.reasons.items c.back.new.trail c.back.ensures.trail c.back.ensures.reasons c.assume.new.reasons.items c.assume.new.trail (c.in_ok-is_true.ensures.each c.if-is_true.false) c.propagate.new.arena c.propagate.new.reasons.items c.propagate.new.assignment c.in_ok-conflict.ensures.later c.literals.result.now c.len-high.result c.literals.ensures.value c.len-high.ensures.value) c.in_ok-line-in-Some.ensures.literals c.requires.fresh
+returns-clause-whole c = whole_clause c.args.self.now.arena c.args.low c.args.self.now.reasons.items c.args.self.now.trail c.requires.ground c.args.clause.now c.requires.falsifiable c.back.new.reasons.items c.back.new.trail c.back.ensures.trail c.back.ensures.reasons c.assume.new.reasons.items c.assume.new.trail (c.in_ok-is_true.ensures.each c.if-is_true.false) _ c.in_ok-line.line.literals.items (givens_are c.args.self.now.arena c.args.low c.args.self.now.reasons.items c.args.self.now.trail c.requires.ground c.args.clause.now c.requires.falsifiable c.back.new.reasons.items c.back.new.trail c.back.ensures.trail c.back.ensures.reasons c.assume.new.reasons.items c.assume.new.trail (c.in_ok-is_true.ensures.each c.if-is_true.false) c.propagate.new.arena c.propagate.new.reasons.items c.propagate.new.assignment c.in_ok-conflict.ensures.later c.literals.result.now c.len-high.result c.literals.ensures.value c.len-high.ensures.value) c.in_ok-line.ensures.literals c.requires.fresh
 
 pub returns-clause-tidy : goal.returns-clause-tidy
 returns-clause-tidy c = λ live a.
-    let w = c.in_ok-line-in-Some.ensures.hints live (numbered_there live c.args.self.now.arena c.propagate.new.arena c.args.self.now.ids.items c.in_ok-conflict.ensures.later.clauses a) in
-    (w.0, w.1, tidy_here live _ c.in_ok-line-in-Some.line.literals.items w.0 c.in_ok-line-in-Some.ensures.literals w.2)
+    let w = c.in_ok-line.ensures.hints live (numbered_there live c.args.self.now.arena c.propagate.new.arena c.args.self.now.ids.items c.in_ok-conflict.ensures.later.clauses a) in
+    (w.0, w.1, tidy_here live _ c.in_ok-line.line.literals.items w.0 c.in_ok-line.ensures.literals w.2)
 
 pub returns-clause-known : goal.returns-clause-known
-returns-clause-known c = givens_known c.args.self.now.arena c.args.low c.args.self.now.reasons.items c.args.self.now.trail c.requires.ground c.args.clause.now c.requires.falsifiable c.back.new.reasons.items c.back.new.trail c.back.ensures.trail c.back.ensures.reasons c.assume.new.reasons.items c.assume.new.trail (c.in_ok-is_true.ensures.each c.if-is_true.false) c.propagate.new.arena c.propagate.new.reasons.items c.propagate.new.assignment c.in_ok-conflict.ensures.later _ c.in_ok-line-in-Some.line.literals.items (givens_are c.args.self.now.arena c.args.low c.args.self.now.reasons.items c.args.self.now.trail c.requires.ground c.args.clause.now c.requires.falsifiable c.back.new.reasons.items c.back.new.trail c.back.ensures.trail c.back.ensures.reasons c.assume.new.reasons.items c.assume.new.trail (c.in_ok-is_true.ensures.each c.if-is_true.false) c.propagate.new.arena c.propagate.new.reasons.items c.propagate.new.assignment c.in_ok-conflict.ensures.later c.literals.result.now c.len-high.result c.literals.ensures.value c.len-high.ensures.value) c.in_ok-line-in-Some.ensures.literals
+returns-clause-known c = givens_known c.args.self.now.arena c.args.low c.args.self.now.reasons.items c.args.self.now.trail c.requires.ground c.args.clause.now c.requires.falsifiable c.back.new.reasons.items c.back.new.trail c.back.ensures.trail c.back.ensures.reasons c.assume.new.reasons.items c.assume.new.trail (c.in_ok-is_true.ensures.each c.if-is_true.false) c.propagate.new.arena c.propagate.new.reasons.items c.propagate.new.assignment c.in_ok-conflict.ensures.later _ c.in_ok-line.line.literals.items (givens_are c.args.self.now.arena c.args.low c.args.self.now.reasons.items c.args.self.now.trail c.requires.ground c.args.clause.now c.requires.falsifiable c.back.new.reasons.items c.back.new.trail c.back.ensures.trail c.back.ensures.reasons c.assume.new.reasons.items c.assume.new.trail (c.in_ok-is_true.ensures.each c.if-is_true.false) c.propagate.new.arena c.propagate.new.reasons.items c.propagate.new.assignment c.in_ok-conflict.ensures.later c.literals.result.now c.len-high.result c.literals.ensures.value c.len-high.ensures.value) c.in_ok-line.ensures.literals

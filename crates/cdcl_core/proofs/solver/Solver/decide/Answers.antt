@@ -19,79 +19,66 @@ deciding-init g c = (deciding_begun (clauses_of c.args.self.now.arena) (2 * c.ar
 pub pick-requires-clause-bounded : goal.pick-requires-clause-bounded
 pick-requires-clause-bounded g c = bounded_by (level_of c.args.self.now.arena c.args.self.now.trail c.len-low.result) c.deciding.self.arena c.deciding.self.reasons.items c.deciding.self.trail (2 * c.deciding.self.variables) c.deciding.invariant.0.ground (same_size c.args.self.now c.deciding.self c.deciding.invariant.3 c.requires.ready.base.size_is)
 
-pub returns-in-None-clause-ends : goal.returns-in-None-clause-ends
-returns-in-None-clause-ends g c = λ clauses v e. all_true clauses (clauses_of c.args.self.now.arena) c.args.self.now.ids.items c.args.self.now.trail v c.deciding.self.trail (ground_grows c.args.self.now.arena c.args.self.now.trail c.len-low.result c.len-low.ensures.value c.deciding.self.arena c.deciding.self.reasons.items c.deciding.self.trail c.deciding.invariant.0.ground)
-    (model_of (level_of c.args.self.now.arena c.args.self.now.trail c.len-low.result) c.deciding.self.arena c.deciding.self.reasons.items c.deciding.self.trail c.deciding.invariant.0 c.literals-literals.ensures.whole c.len-start.ensures.consistent (λ l b u. c.in-None.ensures.none refl l (below_bound (level_of c.args.self.now.arena c.args.self.now.trail c.len-low.result) c.deciding.self.arena c.deciding.self.reasons.items c.deciding.self.trail (2 * c.deciding.self.variables) l c.deciding.invariant.0.ground (same_size c.args.self.now c.deciding.self c.deciding.invariant.3 c.requires.ready.base.size_is) b) u))
+pub returns-in_default-clause-ends : goal.returns-in_default-clause-ends
+returns-in_default-clause-ends g c = λ clauses v e. all_true clauses (clauses_of c.args.self.now.arena) c.args.self.now.ids.items c.args.self.now.trail v c.deciding.self.trail (ground_grows c.args.self.now.arena c.args.self.now.trail c.len-low.result c.len-low.ensures.value c.deciding.self.arena c.deciding.self.reasons.items c.deciding.self.trail c.deciding.invariant.0.ground)
+    (model_of (level_of c.args.self.now.arena c.args.self.now.trail c.len-low.result) c.deciding.self.arena c.deciding.self.reasons.items c.deciding.self.trail c.deciding.invariant.0 c.literals-literals.ensures.whole c.len-start.ensures.consistent (λ l b u. c.in_default.ensures.none refl l (below_bound (level_of c.args.self.now.arena c.args.self.now.trail c.len-low.result) c.deciding.self.arena c.deciding.self.reasons.items c.deciding.self.trail (2 * c.deciding.self.variables) l c.deciding.invariant.0.ground (same_size c.args.self.now c.deciding.self c.deciding.invariant.3 c.requires.ready.base.size_is) b) u))
 
-pub returns-in-None-clause-cost : goal.returns-in-None-clause-cost
-returns-in-None-clause-cost g c =
+pub returns-in_default-clause-cost : goal.returns-in_default-clause-cost
+returns-in_default-clause-cost g c =
     let b : length c.deciding.self.trail ≤ c.deciding.self.variables = count_variables c.deciding.self.variables c.deciding.self.trail c.len-start.ensures.consistent c.len-start.ensures.distinct (bounded_by (level_of c.args.self.now.arena c.args.self.now.trail c.len-low.result) c.deciding.self.arena c.deciding.self.reasons.items c.deciding.self.trail (2 * c.deciding.self.variables) c.deciding.invariant.0.ground (same_size c.args.self.now c.deciding.self c.deciding.invariant.3 c.requires.ready.base.size_is)) in
     omega (arith, b, c.deciding.invariant.1, ap (λ (s : Solver). s.variables) c.deciding.invariant.3)
 
-pub propagate-requires-clause-aligned : goal.propagate-requires-clause-aligned
-propagate-requires-clause-aligned g c = (decided_ground (level_of c.args.self.now.arena c.args.self.now.trail c.len-low.result) c.deciding.self.arena c.deciding.self.reasons.items c.deciding.self.trail c.deciding.invariant.0 c.in-Some.literal (known_below (level_of c.args.self.now.arena c.args.self.now.trail c.len-low.result) c.deciding.self.arena c.deciding.self.reasons.items c.deciding.self.trail (2 * c.deciding.self.variables) c.in-Some.literal c.deciding.invariant.0.ground (same_size c.args.self.now c.deciding.self c.deciding.invariant.3 c.requires.ready.base.size_is) c.in-Some.ensures.some.1) c.push.new.self.items c.set.new.self c.in_ok-push-in-Some.ensures.items c.in_ok-set-in-Some.ensures.ok).aligned
-
-pub propagate-requires-clause-attached : goal.propagate-requires-clause-attached
-propagate-requires-clause-attached g c = (decided_ground (level_of c.args.self.now.arena c.args.self.now.trail c.len-low.result) c.deciding.self.arena c.deciding.self.reasons.items c.deciding.self.trail c.deciding.invariant.0 c.in-Some.literal (known_below (level_of c.args.self.now.arena c.args.self.now.trail c.len-low.result) c.deciding.self.arena c.deciding.self.reasons.items c.deciding.self.trail (2 * c.deciding.self.variables) c.in-Some.literal c.deciding.invariant.0.ground (same_size c.args.self.now c.deciding.self c.deciding.invariant.3 c.requires.ready.base.size_is) c.in-Some.ensures.some.1) c.push.new.self.items c.set.new.self c.in_ok-push-in-Some.ensures.items c.in_ok-set-in-Some.ensures.ok).attached
-
-pub propagate-requires-clause-known : goal.propagate-requires-clause-known
-propagate-requires-clause-known g c = (decided_ground (level_of c.args.self.now.arena c.args.self.now.trail c.len-low.result) c.deciding.self.arena c.deciding.self.reasons.items c.deciding.self.trail c.deciding.invariant.0 c.in-Some.literal (known_below (level_of c.args.self.now.arena c.args.self.now.trail c.len-low.result) c.deciding.self.arena c.deciding.self.reasons.items c.deciding.self.trail (2 * c.deciding.self.variables) c.in-Some.literal c.deciding.invariant.0.ground (same_size c.args.self.now c.deciding.self c.deciding.invariant.3 c.requires.ready.base.size_is) c.in-Some.ensures.some.1) c.push.new.self.items c.set.new.self c.in_ok-push-in-Some.ensures.items c.in_ok-set-in-Some.ensures.ok).known
-
-pub propagate-requires-clause-literals : goal.propagate-requires-clause-literals
-propagate-requires-clause-literals g c = (decided_ground (level_of c.args.self.now.arena c.args.self.now.trail c.len-low.result) c.deciding.self.arena c.deciding.self.reasons.items c.deciding.self.trail c.deciding.invariant.0 c.in-Some.literal (known_below (level_of c.args.self.now.arena c.args.self.now.trail c.len-low.result) c.deciding.self.arena c.deciding.self.reasons.items c.deciding.self.trail (2 * c.deciding.self.variables) c.in-Some.literal c.deciding.invariant.0.ground (same_size c.args.self.now c.deciding.self c.deciding.invariant.3 c.requires.ready.base.size_is) c.in-Some.ensures.some.1) c.push.new.self.items c.set.new.self c.in_ok-push-in-Some.ensures.items c.in_ok-set-in-Some.ensures.ok).literals
-
-pub propagate-requires-clause-rule : goal.propagate-requires-clause-rule
-propagate-requires-clause-rule g c = decided_rule (level_of c.args.self.now.arena c.args.self.now.trail c.len-low.result) c.deciding.self.arena c.deciding.self.reasons.items c.deciding.self.trail c.deciding.invariant.0 c.in-Some.literal (known_below (level_of c.args.self.now.arena c.args.self.now.trail c.len-low.result) c.deciding.self.arena c.deciding.self.reasons.items c.deciding.self.trail (2 * c.deciding.self.variables) c.in-Some.literal c.deciding.invariant.0.ground (same_size c.args.self.now c.deciding.self c.deciding.invariant.3 c.requires.ready.base.size_is) c.in-Some.ensures.some.1) c.push.new.self.items c.set.new.self c.in_ok-push-in-Some.ensures.items c.in_ok-set-in-Some.ensures.ok c.len-start.result c.len-start.ensures.value
+pub propagate-requires : goal.propagate-requires
+propagate-requires g c =
+    let d = decided_ground (level_of c.args.self.now.arena c.args.self.now.trail c.len-low.result) c.deciding.self.arena c.deciding.self.reasons.items c.deciding.self.trail c.deciding.invariant.0 c.in-Some.literal (known_below (level_of c.args.self.now.arena c.args.self.now.trail c.len-low.result) c.deciding.self.arena c.deciding.self.reasons.items c.deciding.self.trail (2 * c.deciding.self.variables) c.in-Some.literal c.deciding.invariant.0.ground (same_size c.args.self.now c.deciding.self c.deciding.invariant.3 c.requires.ready.base.size_is) c.in-Some.ensures.some.1) c.push.new.self.items c.set.new.self c.in_ok-push.ensures.items c.in_ok-set.ensures.ok in
+    let n : length c.set.new.self ≡ length c.deciding.self.trail + 1 = ap length c.in_ok-set.ensures.ok ∙ length-append c.deciding.self.trail (c.in-Some.literal ∷ []) in
+    record { aligned = d.aligned; attached = d.attached; known = d.known; literals = d.literals; from = omega (arith, n, c.len-start.ensures.value); rule = decided_rule (level_of c.args.self.now.arena c.args.self.now.trail c.len-low.result) c.deciding.self.arena c.deciding.self.reasons.items c.deciding.self.trail c.deciding.invariant.0 c.in-Some.literal (known_below (level_of c.args.self.now.arena c.args.self.now.trail c.len-low.result) c.deciding.self.arena c.deciding.self.reasons.items c.deciding.self.trail (2 * c.deciding.self.variables) c.in-Some.literal c.deciding.invariant.0.ground (same_size c.args.self.now c.deciding.self c.deciding.invariant.3 c.requires.ready.base.size_is) c.in-Some.ensures.some.1) c.push.new.self.items c.set.new.self c.in_ok-push.ensures.items c.in_ok-set.ensures.ok c.len-start.result c.len-start.ensures.value }
 
 pub deciding-preserved : goal.deciding-preserved
 deciding-preserved g c =
-    let n : length c.set.new.self ≡ length c.deciding.self.trail + 1 = ap length c.in_ok-set-in-Some.ensures.ok ∙ length-append c.deciding.self.trail (c.in-Some.literal ∷ []) in
-    (deciding_later (level_of c.args.self.now.arena c.args.self.now.trail c.len-low.result) c.deciding.self.arena c.deciding.self.reasons.items c.deciding.self.trail c.deciding.invariant.0 c.in-Some.literal (known_below (level_of c.args.self.now.arena c.args.self.now.trail c.len-low.result) c.deciding.self.arena c.deciding.self.reasons.items c.deciding.self.trail (2 * c.deciding.self.variables) c.in-Some.literal c.deciding.invariant.0.ground (same_size c.args.self.now c.deciding.self c.deciding.invariant.3 c.requires.ready.base.size_is) c.in-Some.ensures.some.1) c.push.new.self.items c.set.new.self c.in_ok-push-in-Some.ensures.items c.in_ok-set-in-Some.ensures.ok c.propagate.new.arena c.propagate.new.reasons.items c.propagate.new.assignment c.in_ok-propagate-in-Some.ensures.later (c.in_ok-propagate-in-Some.ensures.done c.in-None-2.is), omega (arith, n, c.tick.ensures, c.deciding.invariant.1, c.in_ok-propagate-in-Some.ensures.later.longer), at_least-goes_on _ _ _ 0 0 c.deciding.invariant.2 (at_least-fewer _ _ 1 0 (omega arith) (at_least-ticks _ _ c.tick.ensures)), decided_on c.args.self.now c.deciding.self _ c.deciding.invariant.3 refl)
+    let n : length c.set.new.self ≡ length c.deciding.self.trail + 1 = ap length c.in_ok-set.ensures.ok ∙ length-append c.deciding.self.trail (c.in-Some.literal ∷ []) in
+    (deciding_later (level_of c.args.self.now.arena c.args.self.now.trail c.len-low.result) c.deciding.self.arena c.deciding.self.reasons.items c.deciding.self.trail c.deciding.invariant.0 c.in-Some.literal (known_below (level_of c.args.self.now.arena c.args.self.now.trail c.len-low.result) c.deciding.self.arena c.deciding.self.reasons.items c.deciding.self.trail (2 * c.deciding.self.variables) c.in-Some.literal c.deciding.invariant.0.ground (same_size c.args.self.now c.deciding.self c.deciding.invariant.3 c.requires.ready.base.size_is) c.in-Some.ensures.some.1) c.push.new.self.items c.set.new.self c.in_ok-push.ensures.items c.in_ok-set.ensures.ok c.propagate.new.arena c.propagate.new.reasons.items c.propagate.new.assignment c.in_ok-conflict.ensures.later (c.in_ok-conflict.ensures.done c.in_default-2.is), omega (arith, n, c.tick.ensures, c.deciding.invariant.1, c.in_ok-conflict.ensures.later.longer), at_least-goes_on _ _ _ 0 0 c.deciding.invariant.2 (at_least-fewer _ _ 1 0 (omega arith) (at_least-ticks _ _ c.tick.ensures)), decided_on c.args.self.now c.deciding.self _ c.deciding.invariant.3 refl)
 
-pub learn-requires-clause-ground : goal.learn-requires-clause-ground
-learn-requires-clause-ground g c = ground_again (level_of c.args.self.now.arena c.args.self.now.trail c.len-low.result) c.propagate.new.arena c.propagate.new.reasons.items c.propagate.new.assignment (later_ground (level_of c.args.self.now.arena c.args.self.now.trail c.len-low.result) c.deciding.self.arena c.deciding.self.reasons.items c.deciding.self.trail c.deciding.invariant.0 c.in-Some.literal (known_below (level_of c.args.self.now.arena c.args.self.now.trail c.len-low.result) c.deciding.self.arena c.deciding.self.reasons.items c.deciding.self.trail (2 * c.deciding.self.variables) c.in-Some.literal c.deciding.invariant.0.ground (same_size c.args.self.now c.deciding.self c.deciding.invariant.3 c.requires.ready.base.size_is) c.in-Some.ensures.some.1) c.push.new.self.items c.set.new.self c.in_ok-push-in-Some.ensures.items c.in_ok-set-in-Some.ensures.ok c.propagate.new.arena c.propagate.new.reasons.items c.propagate.new.assignment c.in_ok-propagate-in-Some.ensures.later)
-
-pub learn-requires-clause-conflict : goal.learn-requires-clause-conflict
-learn-requires-clause-conflict g c = at_conflict (level_of c.args.self.now.arena c.args.self.now.trail c.len-low.result) c.deciding.self.arena c.deciding.self.reasons.items c.deciding.self.trail c.deciding.invariant.0 c.in-Some.literal (known_below (level_of c.args.self.now.arena c.args.self.now.trail c.len-low.result) c.deciding.self.arena c.deciding.self.reasons.items c.deciding.self.trail (2 * c.deciding.self.variables) c.in-Some.literal c.deciding.invariant.0.ground (same_size c.args.self.now c.deciding.self c.deciding.invariant.3 c.requires.ready.base.size_is) c.in-Some.ensures.some.1) c.push.new.self.items c.set.new.self c.in_ok-push-in-Some.ensures.items c.in_ok-set-in-Some.ensures.ok c.propagate.new.arena c.propagate.new.reasons.items c.propagate.new.assignment c.in_ok-propagate-in-Some.ensures.later c.len-start.result c.in-Some-2.conflict c.len-start.ensures.value c.literals-literals.ensures.whole (c.in_ok-propagate-in-Some.ensures.conflict c.in-Some-2.conflict c.in-Some-2.is)
-
-pub learn-requires-clause-refs : goal.learn-requires-clause-refs
-learn-requires-clause-refs g c = ap (λ (s : Solver). s.refs.items) c.deciding.invariant.3 ∙ (c.requires.ready.base.numbered_by ∙ sym (later_ground (level_of c.args.self.now.arena c.args.self.now.trail c.len-low.result) c.deciding.self.arena c.deciding.self.reasons.items c.deciding.self.trail c.deciding.invariant.0 c.in-Some.literal (known_below (level_of c.args.self.now.arena c.args.self.now.trail c.len-low.result) c.deciding.self.arena c.deciding.self.reasons.items c.deciding.self.trail (2 * c.deciding.self.variables) c.in-Some.literal c.deciding.invariant.0.ground (same_size c.args.self.now c.deciding.self c.deciding.invariant.3 c.requires.ready.base.size_is) c.in-Some.ensures.some.1) c.push.new.self.items c.set.new.self c.in_ok-push-in-Some.ensures.items c.in_ok-set-in-Some.ensures.ok c.propagate.new.arena c.propagate.new.reasons.items c.propagate.new.assignment c.in_ok-propagate-in-Some.ensures.later).references)
-
-pub learn-requires-clause-ids : goal.learn-requires-clause-ids
-learn-requires-clause-ids g c = subst (λ (s : Solver). length s.ids.items ≡ length s.refs.items) (sym c.deciding.invariant.3) c.requires.ready.ids
-
-pub learn-requires-clause-size : goal.learn-requires-clause-size
-learn-requires-clause-size g c = omega (arith, (later_ground (level_of c.args.self.now.arena c.args.self.now.trail c.len-low.result) c.deciding.self.arena c.deciding.self.reasons.items c.deciding.self.trail c.deciding.invariant.0 c.in-Some.literal (known_below (level_of c.args.self.now.arena c.args.self.now.trail c.len-low.result) c.deciding.self.arena c.deciding.self.reasons.items c.deciding.self.trail (2 * c.deciding.self.variables) c.in-Some.literal c.deciding.invariant.0.ground (same_size c.args.self.now c.deciding.self c.deciding.invariant.3 c.requires.ready.base.size_is) c.in-Some.ensures.some.1) c.push.new.self.items c.set.new.self c.in_ok-push-in-Some.ensures.items c.in_ok-set-in-Some.ensures.ok c.propagate.new.arena c.propagate.new.reasons.items c.propagate.new.assignment c.in_ok-propagate-in-Some.ensures.later).size, c.requires.ready.base.size_is, c.requires.ready.variables)
+pub learn-requires : goal.learn-requires
+learn-requires g c =
+    let d = later_ground (level_of c.args.self.now.arena c.args.self.now.trail c.len-low.result) c.deciding.self.arena c.deciding.self.reasons.items c.deciding.self.trail c.deciding.invariant.0 c.in-Some.literal (known_below (level_of c.args.self.now.arena c.args.self.now.trail c.len-low.result) c.deciding.self.arena c.deciding.self.reasons.items c.deciding.self.trail (2 * c.deciding.self.variables) c.in-Some.literal c.deciding.invariant.0.ground (same_size c.args.self.now c.deciding.self c.deciding.invariant.3 c.requires.ready.base.size_is) c.in-Some.ensures.some.1) c.push.new.self.items c.set.new.self c.in_ok-push.ensures.items c.in_ok-set.ensures.ok c.propagate.new.arena c.propagate.new.reasons.items c.propagate.new.assignment c.in_ok-conflict.ensures.later in
+    record {
+      ground = ground_again (level_of c.args.self.now.arena c.args.self.now.trail c.len-low.result) c.propagate.new.arena c.propagate.new.reasons.items c.propagate.new.assignment d;
+      conflict = at_conflict (level_of c.args.self.now.arena c.args.self.now.trail c.len-low.result) c.deciding.self.arena c.deciding.self.reasons.items c.deciding.self.trail c.deciding.invariant.0 c.in-Some.literal (known_below (level_of c.args.self.now.arena c.args.self.now.trail c.len-low.result) c.deciding.self.arena c.deciding.self.reasons.items c.deciding.self.trail (2 * c.deciding.self.variables) c.in-Some.literal c.deciding.invariant.0.ground (same_size c.args.self.now c.deciding.self c.deciding.invariant.3 c.requires.ready.base.size_is) c.in-Some.ensures.some.1) c.push.new.self.items c.set.new.self c.in_ok-push.ensures.items c.in_ok-set.ensures.ok c.propagate.new.arena c.propagate.new.reasons.items c.propagate.new.assignment c.in_ok-conflict.ensures.later c.len-start.result c.in-Some-2.conflict c.len-start.ensures.value c.literals-literals.ensures.whole (c.in_ok-conflict.ensures.conflict c.in-Some-2.conflict c.in-Some-2.is);
+      refs = ap (λ (s : Solver). s.refs.items) c.deciding.invariant.3 ∙ (c.requires.ready.base.numbered_by ∙ sym d.references);
+      ids = subst (λ (s : Solver). length s.ids.items ≡ length s.refs.items) (sym c.deciding.invariant.3) c.requires.ready.ids;
+      size = omega (arith, d.size, c.requires.ready.base.size_is, c.requires.ready.variables);
+    }
 
 pub returns-in-Some-2-clause-ends : goal.returns-in-Some-2-clause-ends
 returns-in-Some-2-clause-ends g c =
     let held : List (List ℕ) = clauses_of c.args.self.now.arena in
-    let d = (later_ground (level_of c.args.self.now.arena c.args.self.now.trail c.len-low.result) c.deciding.self.arena c.deciding.self.reasons.items c.deciding.self.trail c.deciding.invariant.0 c.in-Some.literal (known_below (level_of c.args.self.now.arena c.args.self.now.trail c.len-low.result) c.deciding.self.arena c.deciding.self.reasons.items c.deciding.self.trail (2 * c.deciding.self.variables) c.in-Some.literal c.deciding.invariant.0.ground (same_size c.args.self.now c.deciding.self c.deciding.invariant.3 c.requires.ready.base.size_is) c.in-Some.ensures.some.1) c.push.new.self.items c.set.new.self c.in_ok-push-in-Some.ensures.items c.in_ok-set-in-Some.ensures.ok c.propagate.new.arena c.propagate.new.reasons.items c.propagate.new.assignment c.in_ok-propagate-in-Some.ensures.later) in
+    let d = (later_ground (level_of c.args.self.now.arena c.args.self.now.trail c.len-low.result) c.deciding.self.arena c.deciding.self.reasons.items c.deciding.self.trail c.deciding.invariant.0 c.in-Some.literal (known_below (level_of c.args.self.now.arena c.args.self.now.trail c.len-low.result) c.deciding.self.arena c.deciding.self.reasons.items c.deciding.self.trail (2 * c.deciding.self.variables) c.in-Some.literal c.deciding.invariant.0.ground (same_size c.args.self.now c.deciding.self c.deciding.invariant.3 c.requires.ready.base.size_is) c.in-Some.ensures.some.1) c.push.new.self.items c.set.new.self c.in_ok-push.ensures.items c.in_ok-set.ensures.ok c.propagate.new.arena c.propagate.new.reasons.items c.propagate.new.assignment c.in_ok-conflict.ensures.later) in
     λ clauses v e. (
-      adds_over clauses held c.args.self.now.ids.items c.args.self.now.trail v c.in_ok-line-in-Some-2.line c.args.id c.in_ok-line-in-Some-2.ensures.id e (λ live a. c.in_ok-line-in-Some-2.ensures.tidy live (subst (AreNumbered live (clauses_of c.propagate.new.arena)) (sym (ap (λ (s : Solver). s.ids.items) c.deciding.invariant.3)) (subst (λ (cs : List (List ℕ)). AreNumbered live cs c.args.self.now.ids.items) (sym d.clauses) a))),
-      all_asserting clauses held c.args.self.now.ids.items c.args.self.now.trail v (base_forced c.args.self.now.arena c.args.self.now.trail c.len-low.result c.len-low.ensures.value c.propagate.new.arena c.propagate.new.reasons.items c.propagate.new.assignment d) c.in_ok-line-in-Some-2.line.literals.items
-          (subst (λ (cs : List (List ℕ)). IsAsserting cs c.in_ok-line-in-Some-2.line.literals.items) d.clauses c.in_ok-line-in-Some-2.ensures.asserting),
+      adds_over clauses held c.args.self.now.ids.items c.args.self.now.trail v c.in_ok-line.line c.args.id c.in_ok-line.ensures.id e (λ live a. c.in_ok-line.ensures.tidy live (subst (AreNumbered live (clauses_of c.propagate.new.arena)) (sym (ap (λ (s : Solver). s.ids.items) c.deciding.invariant.3)) (subst (λ (cs : List (List ℕ)). AreNumbered live cs c.args.self.now.ids.items) (sym d.clauses) a))),
+      all_asserting clauses held c.args.self.now.ids.items c.args.self.now.trail v (base_forced c.args.self.now.arena c.args.self.now.trail c.len-low.result c.len-low.ensures.value c.propagate.new.arena c.propagate.new.reasons.items c.propagate.new.assignment d) c.in_ok-line.line.literals.items
+          (subst (λ (cs : List (List ℕ)). IsAsserting cs c.in_ok-line.line.literals.items) d.clauses c.in_ok-line.ensures.asserting),
     )
 
 pub returns-in-Some-2-clause-goes_on : goal.returns-in-Some-2-clause-goes_on
 returns-in-Some-2-clause-goes_on g c =
     let s = c.args.self.now in
     let l = c.learn.new.self in
-    let f : IsDecided s l = learnt_on s c.deciding.self l c.save.new.self c.deciding.invariant.3 c.in_ok-line-in-Some-2.ensures.fields in
-    let d = later_ground (level_of c.args.self.now.arena c.args.self.now.trail c.len-low.result) c.deciding.self.arena c.deciding.self.reasons.items c.deciding.self.trail c.deciding.invariant.0 c.in-Some.literal (known_below (level_of c.args.self.now.arena c.args.self.now.trail c.len-low.result) c.deciding.self.arena c.deciding.self.reasons.items c.deciding.self.trail (2 * c.deciding.self.variables) c.in-Some.literal c.deciding.invariant.0.ground (same_size c.args.self.now c.deciding.self c.deciding.invariant.3 c.requires.ready.base.size_is) c.in-Some.ensures.some.1) c.push.new.self.items c.set.new.self c.in_ok-push-in-Some.ensures.items c.in_ok-set-in-Some.ensures.ok c.propagate.new.arena c.propagate.new.reasons.items c.propagate.new.assignment c.in_ok-propagate-in-Some.ensures.later in
-    let o = ground_onto (level_of c.args.self.now.arena c.args.self.now.trail c.len-low.result) c.propagate.new.arena c.propagate.new.reasons.items c.propagate.new.assignment d c.learn.new.self.arena c.learn.new.self.reasons.items c.learn.new.self.trail c.in_ok-line-in-Some-2.ensures.ground in (
+    let f : IsDecided s l = learnt_on s c.deciding.self l c.save.new.self c.deciding.invariant.3 c.in_ok-line.ensures.fields in
+    let d = later_ground (level_of c.args.self.now.arena c.args.self.now.trail c.len-low.result) c.deciding.self.arena c.deciding.self.reasons.items c.deciding.self.trail c.deciding.invariant.0 c.in-Some.literal (known_below (level_of c.args.self.now.arena c.args.self.now.trail c.len-low.result) c.deciding.self.arena c.deciding.self.reasons.items c.deciding.self.trail (2 * c.deciding.self.variables) c.in-Some.literal c.deciding.invariant.0.ground (same_size c.args.self.now c.deciding.self c.deciding.invariant.3 c.requires.ready.base.size_is) c.in-Some.ensures.some.1) c.push.new.self.items c.set.new.self c.in_ok-push.ensures.items c.in_ok-set.ensures.ok c.propagate.new.arena c.propagate.new.reasons.items c.propagate.new.assignment c.in_ok-conflict.ensures.later in
+    let o = ground_onto (level_of c.args.self.now.arena c.args.self.now.trail c.len-low.result) c.propagate.new.arena c.propagate.new.reasons.items c.propagate.new.assignment d c.learn.new.self.arena c.learn.new.self.reasons.items c.learn.new.self.trail c.in_ok-line.ensures.ground in (
       subst (λ (n : ℕ). IsBase (clauses_of s.arena) n l.arena l.refs.items c.back.new.reasons.items c.back.new.trail None) (same_size s l f c.requires.ready.base.size_is)
           (base_back (level_of c.args.self.now.arena c.args.self.now.trail c.len-low.result) l.arena l.reasons.items c.back.new.reasons.items l.trail c.back.new.trail l.refs.items o (ap (λ (x : Solver). x.refs.items) f ∙ c.requires.ready.base.numbered_by) c.back.ensures.trail c.back.ensures.reasons),
       ap (λ (x : Solver). x.conflict) f ∙ c.requires.none,
       back_grows s.arena s.trail c.len-low.result c.len-low.ensures.value l.arena l.reasons.items l.trail c.back.new.trail o c.back.ensures.trail,
-      known_there (level_of c.args.self.now.arena c.args.self.now.trail c.len-low.result) l.arena c.propagate.new.arena c.propagate.new.reasons.items c.propagate.new.assignment c.in_ok-line-in-Some-2.line.literals.items d o.size c.in_ok-line-in-Some-2.ensures.known,
+      known_there (level_of c.args.self.now.arena c.args.self.now.trail c.len-low.result) l.arena c.propagate.new.arena c.propagate.new.reasons.items c.propagate.new.assignment c.in_ok-line.line.literals.items d o.size c.in_ok-line.ensures.known,
     )
 
 pub returns-in-Some-2-clause-fields : goal.returns-in-Some-2-clause-fields
-returns-in-Some-2-clause-fields g c = decided_search c.args.self.now _ (decided_on c.args.self.now c.learn.new.self _ (learnt_on c.args.self.now c.deciding.self c.learn.new.self c.save.new.self c.deciding.invariant.3 c.in_ok-line-in-Some-2.ensures.fields) refl)
+returns-in-Some-2-clause-fields g c = decided_search c.args.self.now _ (decided_on c.args.self.now c.learn.new.self _ (learnt_on c.args.self.now c.deciding.self c.learn.new.self c.save.new.self c.deciding.invariant.3 c.in_ok-line.ensures.fields) refl)
 
-pub returns-in-None-clause-fields : goal.returns-in-None-clause-fields
-returns-in-None-clause-fields g c = decided_search c.args.self.now _ (decided_on c.args.self.now c.deciding.self _ c.deciding.invariant.3 refl)
+pub returns-in_default-clause-fields : goal.returns-in_default-clause-fields
+returns-in_default-clause-fields g c = decided_search c.args.self.now _ (decided_on c.args.self.now c.deciding.self _ c.deciding.invariant.3 refl)
 
 pub pick-requires-clause-few : goal.pick-requires-clause-few
 pick-requires-clause-few g c = subst (λ (s : Solver). s.variables ≤ 200000) (sym c.deciding.invariant.3) c.requires.ready.variables

@@ -28,12 +28,12 @@ pub search-requires : goal.search-requires
 search-requires g c = record {
   base = c.loop-round.invariant.0.base;
   ids = running_aligned (codes_of c.args.formula.now.clauses) c.loop-round.self c.loop-round.log.items c.loop-round.round c.loop-round.invariant.0;
-  variables = subst (λ (n : ℕ). n ≤ 200000) (sym c.loop-round.invariant.3) c.requires.variables;
+  variables = subst (λ (n : ℕ). n ≤ 200000) (sym c.loop-round.invariant.3) c.requires.loaded.variables;
 }
 
 pub loop-round-init : goal.loop-round-init
 loop-round-init g c = (
-  running_begun (codes_of c.args.formula.now.clauses) c.args.self.now c.new-log.result.items c.requires.base c.requires.covers c.new-log.ensures.items,
+  running_begun (codes_of c.args.formula.now.clauses) c.args.self.now c.new-log.result.items c.requires.loaded.base c.requires.loaded.covers c.new-log.ensures.items,
   omega arith,
   rw c.new-log.ensures.items (at_least-stays _),
   refl,
@@ -46,7 +46,7 @@ drop_true-requires g c =
     record {
       base = base_here w.0;
       ids = subst (λ (s : Solver). length s.ids.items ≡ length s.refs.items) (sym f) (running_aligned (codes_of c.args.formula.now.clauses) c.loop-round.self c.loop-round.log.items c.loop-round.round c.loop-round.invariant.0);
-      variables = subst (λ (n : ℕ). n ≤ 200000) (sym (ap (λ (s : Solver). s.variables) f ∙ c.loop-round.invariant.3)) c.requires.variables;
+      variables = subst (λ (n : ℕ). n ≤ 200000) (sym (ap (λ (s : Solver). s.variables) f ∙ c.loop-round.invariant.3)) c.requires.loaded.variables;
     }
 
 pub adopt-requires-clause-base : goal.adopt-requires-clause-base
@@ -69,18 +69,18 @@ adopt-requires-clause-some g c =
     asserting_some clauses c.in-Taught.line.literals.items c.deref.result.now (c.deref.ensures.value ∙ c.in_ok-literals-in-Taught.ensures) t.1
 
 pub model_of-requires : goal.model_of-requires
-model_of-requires g c = subst (λ (n : ℕ). n ≤ 200000) (sym (ap (λ (s : Solver). s.variables) c.in_ok-search.ensures.fields ∙ c.loop-round.invariant.3)) c.requires.variables
+model_of-requires g c = subst (λ (n : ℕ). n ≤ 200000) (sym (ap (λ (s : Solver). s.variables) c.in_ok-search.ensures.fields ∙ c.loop-round.invariant.3)) c.requires.loaded.variables
 
 pub returns-in-Model-clause-verdict : goal.returns-in-Model-clause-verdict
 returns-in-Model-clause-verdict g c =
     let formula = c.args.formula.now in
     let n : ℕ = c.search.new.self.variables in
     let same : n ≡ c.args.self.now.variables = ap (λ (s : Solver). s.variables) c.in_ok-search.ensures.fields ∙ c.loop-round.invariant.3 in
-    let below : AreBelow n (codes_of formula.clauses) = subst (λ (k : ℕ). AreBelow k (codes_of formula.clauses)) (sym same) c.requires.below in
+    let below : AreBelow n (codes_of formula.clauses) = subst (λ (k : ℕ). AreBelow k (codes_of formula.clauses)) (sym same) c.requires.loaded.below in
     let all = subst (EndsOver (clauses_of c.loop-round.self.arena) c.loop-round.self.ids.items c.loop-round.self.trail c.new-id.result c.search.new.self.trail) c.in-Model.is c.in_ok-search.ensures.ends in
     let m = all (with_log (codes_of formula.clauses) c.loop-round.log.items) c.loop-round.invariant.0.covers (next_id (codes_of c.args.formula.now.clauses) c.loop-round.self c.loop-round.log.items c.loop-round.round c.loop-round.invariant.0 c.new-id.result (omega (arith, c.new-id.ensures, c.clauses.ensures, length-map c.args.formula.now.clauses (map code_of)))) in
     let model = model_true c.in_ok-model-in-Model.model n c.search.new.self.trail c.len-trues.ensures.consistent c.in_ok-model-in-Model.ensures.values formula.clauses c.requires.literals below (formula_holds (codes_of c.args.formula.now.clauses) c.loop-round.self c.loop-round.log.items c.loop-round.round c.loop-round.invariant.0 c.search.new.self.trail m) in
-    (model, values_for c.in_ok-model-in-Model.model n formula c.in_ok-model-in-Model.ensures.count (subst (λ (k : ℕ). formula.variables ≤ k) (sym same) c.requires.reached) below)
+    (model, values_for c.in_ok-model-in-Model.model n formula c.in_ok-model-in-Model.ensures.count (subst (λ (k : ℕ). formula.variables ≤ k) (sym same) c.requires.loaded.reached) below)
 
 pub returns-in-Refuted-clause-verdict : goal.returns-in-Refuted-clause-verdict
 returns-in-Refuted-clause-verdict g c =
