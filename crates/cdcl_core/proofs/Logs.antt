@@ -94,6 +94,10 @@ rounds_more r w = grind arith
 pub rounds_within : (r b w : ℕ) → r + 1 ≤ b → r * w + w ≤ b * w
 rounds_within r b w h = omega (arith, rounds_more r w, mul-le-mul_right {m = r + 1} {n = b} w h)
 
+-- the steps after one more search
+pub cost_after : (steps old new round budget width used : ℕ) → new ≤ steps + used + 1 → used ≡ width → steps ≤ old + round * (width + 1) → round < budget → new ≤ old + budget * (width + 1)
+cost_after steps old new round budget width used more e before low = omega (arith, e, rounds_within round budget (width + 1) (omega arith))
+
 pub budget_within : (b w n : ℕ) → w ≤ n → b * (w + 1) ≤ (b + 1) * (n + 1)
 budget_within b w n h =
     let p : b * (w + 1) ≤ b * (n + 1) = mul-le-mul_left {m = w + 1} {n = n + 1} b (omega arith) in

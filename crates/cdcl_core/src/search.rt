@@ -107,12 +107,8 @@ impl Solver {
             steps.tick();
             self.trail.set(literal)?;
             self.reasons.push(None)?;
-            if let Some(conflict) = propagate(
-                &mut self.arena,
-                &mut self.trail,
-                &mut self.reasons,
-                start,
-            )? {
+            let conflict = propagate(&mut self.arena, &mut self.trail, &mut self.reasons, start)?;
+            if let Some(conflict) = conflict {
                 steps.tick();
                 self.order.save(self.trail.literals());
                 let line = self.learn(seen, low, start, conflict, id)?;

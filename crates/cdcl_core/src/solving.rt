@@ -58,6 +58,7 @@ fn codes_in(alloc: Global, line: &Addition) -> Result<Vec<u32>, Memory>
 
 impl Solver {
     /// Searches again and again, until there is a model, the empty clause, or no budget.
+    #[tactic(auto, using(crate::proofs::Logs::cost_after))]
     fn run<L: Ledger>(
         &mut self,
         formula: &Formula,

@@ -37,21 +37,21 @@ propagate-requires g c =
 pub deciding-preserved : goal.deciding-preserved
 deciding-preserved g c =
     let n : length c.set.new.self ≡ length c.deciding.self.trail + 1 = ap length c.in_ok-set.ensures.ok ∙ length-append c.deciding.self.trail (c.in-Some.literal ∷ []) in
-    (deciding_later (level_of c.args.self.now.arena c.args.self.now.trail c.len-low.result) c.deciding.self.arena c.deciding.self.reasons.items c.deciding.self.trail c.deciding.invariant.0 c.in-Some.literal (known_below (level_of c.args.self.now.arena c.args.self.now.trail c.len-low.result) c.deciding.self.arena c.deciding.self.reasons.items c.deciding.self.trail (2 * c.deciding.self.variables) c.in-Some.literal c.deciding.invariant.0.ground (same_size c.args.self.now c.deciding.self c.deciding.invariant.3 c.requires.ready.base.size_is) c.in-Some.ensures.some.1) c.push.new.self.items c.set.new.self c.in_ok-push.ensures.items c.in_ok-set.ensures.ok c.propagate.new.arena c.propagate.new.reasons.items c.propagate.new.assignment c.in_ok-conflict.ensures.later (c.in_ok-conflict.ensures.done c.in_default-2.is), omega (arith, n, c.tick.ensures, c.deciding.invariant.1, c.in_ok-conflict.ensures.later.longer), at_least-goes_on _ _ _ 0 0 c.deciding.invariant.2 (at_least-fewer _ _ 1 0 (omega arith) (at_least-ticks _ _ c.tick.ensures)), decided_on c.args.self.now c.deciding.self _ c.deciding.invariant.3 refl)
+    (deciding_later (level_of c.args.self.now.arena c.args.self.now.trail c.len-low.result) c.deciding.self.arena c.deciding.self.reasons.items c.deciding.self.trail c.deciding.invariant.0 c.in-Some.literal (known_below (level_of c.args.self.now.arena c.args.self.now.trail c.len-low.result) c.deciding.self.arena c.deciding.self.reasons.items c.deciding.self.trail (2 * c.deciding.self.variables) c.in-Some.literal c.deciding.invariant.0.ground (same_size c.args.self.now c.deciding.self c.deciding.invariant.3 c.requires.ready.base.size_is) c.in-Some.ensures.some.1) c.push.new.self.items c.set.new.self c.in_ok-push.ensures.items c.in_ok-set.ensures.ok c.propagate.new.arena c.propagate.new.reasons.items c.propagate.new.assignment c.in_ok-conflict.ensures.later (c.in_ok-conflict.ensures.done c.in_default-conflict.is), omega (arith, n, c.tick.ensures, c.deciding.invariant.1, c.in_ok-conflict.ensures.later.longer), at_least-goes_on _ _ _ 0 0 c.deciding.invariant.2 (at_least-fewer _ _ 1 0 (omega arith) (at_least-ticks _ _ c.tick.ensures)), decided_on c.args.self.now c.deciding.self _ c.deciding.invariant.3 refl)
 
 pub learn-requires : goal.learn-requires
 learn-requires g c =
     let d = later_ground (level_of c.args.self.now.arena c.args.self.now.trail c.len-low.result) c.deciding.self.arena c.deciding.self.reasons.items c.deciding.self.trail c.deciding.invariant.0 c.in-Some.literal (known_below (level_of c.args.self.now.arena c.args.self.now.trail c.len-low.result) c.deciding.self.arena c.deciding.self.reasons.items c.deciding.self.trail (2 * c.deciding.self.variables) c.in-Some.literal c.deciding.invariant.0.ground (same_size c.args.self.now c.deciding.self c.deciding.invariant.3 c.requires.ready.base.size_is) c.in-Some.ensures.some.1) c.push.new.self.items c.set.new.self c.in_ok-push.ensures.items c.in_ok-set.ensures.ok c.propagate.new.arena c.propagate.new.reasons.items c.propagate.new.assignment c.in_ok-conflict.ensures.later in
     record {
       ground = ground_again (level_of c.args.self.now.arena c.args.self.now.trail c.len-low.result) c.propagate.new.arena c.propagate.new.reasons.items c.propagate.new.assignment d;
-      conflict = at_conflict (level_of c.args.self.now.arena c.args.self.now.trail c.len-low.result) c.deciding.self.arena c.deciding.self.reasons.items c.deciding.self.trail c.deciding.invariant.0 c.in-Some.literal (known_below (level_of c.args.self.now.arena c.args.self.now.trail c.len-low.result) c.deciding.self.arena c.deciding.self.reasons.items c.deciding.self.trail (2 * c.deciding.self.variables) c.in-Some.literal c.deciding.invariant.0.ground (same_size c.args.self.now c.deciding.self c.deciding.invariant.3 c.requires.ready.base.size_is) c.in-Some.ensures.some.1) c.push.new.self.items c.set.new.self c.in_ok-push.ensures.items c.in_ok-set.ensures.ok c.propagate.new.arena c.propagate.new.reasons.items c.propagate.new.assignment c.in_ok-conflict.ensures.later c.len-start.result c.in-Some-2.conflict c.len-start.ensures.value c.literals-literals.ensures.whole (c.in_ok-conflict.ensures.conflict c.in-Some-2.conflict c.in-Some-2.is);
+      conflict = at_conflict (level_of c.args.self.now.arena c.args.self.now.trail c.len-low.result) c.deciding.self.arena c.deciding.self.reasons.items c.deciding.self.trail c.deciding.invariant.0 c.in-Some.literal (known_below (level_of c.args.self.now.arena c.args.self.now.trail c.len-low.result) c.deciding.self.arena c.deciding.self.reasons.items c.deciding.self.trail (2 * c.deciding.self.variables) c.in-Some.literal c.deciding.invariant.0.ground (same_size c.args.self.now c.deciding.self c.deciding.invariant.3 c.requires.ready.base.size_is) c.in-Some.ensures.some.1) c.push.new.self.items c.set.new.self c.in_ok-push.ensures.items c.in_ok-set.ensures.ok c.propagate.new.arena c.propagate.new.reasons.items c.propagate.new.assignment c.in_ok-conflict.ensures.later c.len-start.result c.in-Some-conflict.conflict c.len-start.ensures.value c.literals-literals.ensures.whole (c.in_ok-conflict.ensures.conflict c.in-Some-conflict.conflict c.in-Some-conflict.is);
       refs = ap (λ (s : Solver). s.refs.items) c.deciding.invariant.3 ∙ (c.requires.ready.base.numbered_by ∙ sym d.references);
       ids = subst (λ (s : Solver). length s.ids.items ≡ length s.refs.items) (sym c.deciding.invariant.3) c.requires.ready.ids;
       size = omega (arith, d.size, c.requires.ready.base.size_is, c.requires.ready.variables);
     }
 
-pub returns-in-Some-2-clause-ends : goal.returns-in-Some-2-clause-ends
-returns-in-Some-2-clause-ends g c =
+pub returns-in-Some-conflict-clause-ends : goal.returns-in-Some-conflict-clause-ends
+returns-in-Some-conflict-clause-ends g c =
     let held : List (List ℕ) = clauses_of c.args.self.now.arena in
     let d = (later_ground (level_of c.args.self.now.arena c.args.self.now.trail c.len-low.result) c.deciding.self.arena c.deciding.self.reasons.items c.deciding.self.trail c.deciding.invariant.0 c.in-Some.literal (known_below (level_of c.args.self.now.arena c.args.self.now.trail c.len-low.result) c.deciding.self.arena c.deciding.self.reasons.items c.deciding.self.trail (2 * c.deciding.self.variables) c.in-Some.literal c.deciding.invariant.0.ground (same_size c.args.self.now c.deciding.self c.deciding.invariant.3 c.requires.ready.base.size_is) c.in-Some.ensures.some.1) c.push.new.self.items c.set.new.self c.in_ok-push.ensures.items c.in_ok-set.ensures.ok c.propagate.new.arena c.propagate.new.reasons.items c.propagate.new.assignment c.in_ok-conflict.ensures.later) in
     λ clauses v e. (
@@ -60,8 +60,8 @@ returns-in-Some-2-clause-ends g c =
           (subst (λ (cs : List (List ℕ)). IsAsserting cs c.in_ok-line.line.literals.items) d.clauses c.in_ok-line.ensures.asserting),
     )
 
-pub returns-in-Some-2-clause-goes_on : goal.returns-in-Some-2-clause-goes_on
-returns-in-Some-2-clause-goes_on g c =
+pub returns-in-Some-conflict-clause-goes_on : goal.returns-in-Some-conflict-clause-goes_on
+returns-in-Some-conflict-clause-goes_on g c =
     let s = c.args.self.now in
     let l = c.learn.new.self in
     let f : IsDecided s l = learnt_on s c.deciding.self l c.save.new.self c.deciding.invariant.3 c.in_ok-line.ensures.fields in
@@ -73,9 +73,6 @@ returns-in-Some-2-clause-goes_on g c =
       back_grows s.arena s.trail c.len-low.result c.len-low.ensures.value l.arena l.reasons.items l.trail c.back.new.trail o c.back.ensures.trail,
       known_there (level_of c.args.self.now.arena c.args.self.now.trail c.len-low.result) l.arena c.propagate.new.arena c.propagate.new.reasons.items c.propagate.new.assignment c.in_ok-line.line.literals.items d o.size c.in_ok-line.ensures.known,
     )
-
-pub returns-in-Some-2-clause-fields : goal.returns-in-Some-2-clause-fields
-returns-in-Some-2-clause-fields g c = decided_search c.args.self.now _ (decided_on c.args.self.now c.learn.new.self _ (learnt_on c.args.self.now c.deciding.self c.learn.new.self c.save.new.self c.deciding.invariant.3 c.in_ok-line.ensures.fields) refl)
 
 pub returns-in_default-clause-fields : goal.returns-in_default-clause-fields
 returns-in_default-clause-fields g c = decided_search c.args.self.now _ (decided_on c.args.self.now c.deciding.self _ c.deciding.invariant.3 refl)

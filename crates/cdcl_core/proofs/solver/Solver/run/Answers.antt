@@ -15,14 +15,8 @@ use Rattle.cdcl_core.specs.Solved.{AreBelow, with_log}
 use Rattle.cdcl_core.proofs.Adopted.{base_here}
 use Rattle.cdcl_core.proofs.Covered.{covers_grown}
 use Rattle.cdcl_core.proofs.Statements.{model_true, values_for, filled_formula}
-use Rattle.cdcl_core.proofs.Logs.{asserting_some, formula_holds, next_id, refuted, running_aligned, running_begun, running_more, rounds_more, rounds_within}
+use Rattle.cdcl_core.proofs.Logs.{asserting_some, formula_holds, next_id, refuted, running_aligned, running_begun, running_more, rounds_more}
 use Rattle.cdcl_core.proofs.solver.Solver.run.Goals as goal
-
--- the steps after one more search
-cost_after : (steps old new round budget width used : ℕ) → used ≡ width → steps ≤ old + round * (width + 1) → new ≤ steps + used + 1 → round < budget → new ≤ old + budget * (width + 1)
-cost_after steps old new round budget width used e before more low =
-    let within : round * (width + 1) + (width + 1) ≤ budget * (width + 1) = rounds_within round budget (width + 1) (omega arith) in
-    omega (arith, within, e)
 
 pub search-requires : goal.search-requires
 search-requires g c = record {
@@ -111,33 +105,6 @@ loop-round-preserved g c =
       rw longer (at_least-goes_on _ _ _ (length c.loop-round.log.items) 1 c.loop-round.invariant.2 one),
       c.in_ok-adopt-in-Taught.ensures.variables ∙ (ap (λ (x : Solver). x.variables) h ∙ (ap (λ (x : Solver). x.variables) f ∙ c.loop-round.invariant.3)),
     )
-
-pub returns-in_err-search-clause-cost : goal.returns-in_err-search-clause-cost
-returns-in_err-search-clause-cost g c = cost_after c.loop-round.steps c.args.steps.now c.search.new.steps c.loop-round.round c.args.budget c.args.self.now.variables c.loop-round.self.variables c.loop-round.invariant.3 c.loop-round.invariant.1 c.search.ensures.cost c.loop-round-test.true
-
-pub returns-in-Model-clause-cost : goal.returns-in-Model-clause-cost
-returns-in-Model-clause-cost g c = cost_after c.loop-round.steps c.args.steps.now c.search.new.steps c.loop-round.round c.args.budget c.args.self.now.variables c.loop-round.self.variables c.loop-round.invariant.3 c.loop-round.invariant.1 c.search.ensures.cost c.loop-round-test.true
-
-pub returns-in_err-model-in-Model-clause-cost : goal.returns-in_err-model-in-Model-clause-cost
-returns-in_err-model-in-Model-clause-cost g c = cost_after c.loop-round.steps c.args.steps.now c.search.new.steps c.loop-round.round c.args.budget c.args.self.now.variables c.loop-round.self.variables c.loop-round.invariant.3 c.loop-round.invariant.1 c.search.ensures.cost c.loop-round-test.true
-
-pub returns-in-Refuted-clause-cost : goal.returns-in-Refuted-clause-cost
-returns-in-Refuted-clause-cost g c = cost_after c.loop-round.steps c.args.steps.now c.search.new.steps c.loop-round.round c.args.budget c.args.self.now.variables c.loop-round.self.variables c.loop-round.invariant.3 c.loop-round.invariant.1 c.search.ensures.cost c.loop-round-test.true
-
-pub returns-in_err-push-in-Refuted-clause-cost : goal.returns-in_err-push-in-Refuted-clause-cost
-returns-in_err-push-in-Refuted-clause-cost g c = cost_after c.loop-round.steps c.args.steps.now c.search.new.steps c.loop-round.round c.args.budget c.args.self.now.variables c.loop-round.self.variables c.loop-round.invariant.3 c.loop-round.invariant.1 c.search.ensures.cost c.loop-round-test.true
-
-pub returns-in_err-drop_true-in-Taught-clause-cost : goal.returns-in_err-drop_true-in-Taught-clause-cost
-returns-in_err-drop_true-in-Taught-clause-cost g c = cost_after c.loop-round.steps c.args.steps.now c.search.new.steps c.loop-round.round c.args.budget c.args.self.now.variables c.loop-round.self.variables c.loop-round.invariant.3 c.loop-round.invariant.1 c.search.ensures.cost c.loop-round-test.true
-
-pub returns-in_err-literals-in-Taught-clause-cost : goal.returns-in_err-literals-in-Taught-clause-cost
-returns-in_err-literals-in-Taught-clause-cost g c = cost_after c.loop-round.steps c.args.steps.now c.search.new.steps c.loop-round.round c.args.budget c.args.self.now.variables c.loop-round.self.variables c.loop-round.invariant.3 c.loop-round.invariant.1 c.search.ensures.cost c.loop-round-test.true
-
-pub returns-in_err-adopt-in-Taught-clause-cost : goal.returns-in_err-adopt-in-Taught-clause-cost
-returns-in_err-adopt-in-Taught-clause-cost g c = cost_after c.loop-round.steps c.args.steps.now c.search.new.steps c.loop-round.round c.args.budget c.args.self.now.variables c.loop-round.self.variables c.loop-round.invariant.3 c.loop-round.invariant.1 c.search.ensures.cost c.loop-round-test.true
-
-pub returns-in_err-push-in-Taught-clause-cost : goal.returns-in_err-push-in-Taught-clause-cost
-returns-in_err-push-in-Taught-clause-cost g c = cost_after c.loop-round.steps c.args.steps.now c.search.new.steps c.loop-round.round c.args.budget c.args.self.now.variables c.loop-round.self.variables c.loop-round.invariant.3 c.loop-round.invariant.1 c.search.ensures.cost c.loop-round-test.true
 
 pub returns-in-Model-clause-rises : goal.returns-in-Model-clause-rises
 returns-in-Model-clause-rises g c =
