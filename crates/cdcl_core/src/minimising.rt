@@ -21,53 +21,46 @@ ghost use Rattle.cdcl_core.specs.Minimal.{AreNeeded};
 
 use crate::assumption::{back, deny};
 use crate::solver::Solver;
-use clause_arena::{Arena, Memory, Ref};
-use clause_model::{Assignment, Literal};
-use std::alloc::Global;
-
-/// Those of the literals that are needed where `denied` are false as well.
-fn needed(
-    alloc: Global,
-    arena: &mut Arena,
-    trail: &mut Assignment,
-    reasons: &mut Vec<Option<Ref>>,
-    denied: &[Literal],
-    literals: &[Literal],
-) -> Result<Vec<Literal>, Memory>
-    requires ground { (level : Level) × IsGround level arena.old reasons.old.items trail.old }
-    requires rule { Rule arena.old trail.old }
-    requires known_denied { All (HasLiteral arena.old) denied.now }
-    requires known { All (HasLiteral arena.old) literals.now }
-    ensures trail { OnOk result (trail.new ≡ trail.old) }
-    ensures reasons { OnOk result (reasons.new.items ≡ reasons.old.items) }
-    ensures watches { OnOk result (IsLater arena.old trail.old reasons.old.items arena.new trail.old reasons.old.items) }
-    ensures part { IfOk result (λ part. All (Contains literals.now) part.items) }
-    ensures needed { IfOk result (λ part. (others : List ℕ) → IsJustified arena.old others reasons.old.items trail.old → AllFalse trail.old others → IsRefutable (clauses_of arena.old) ((others ++ denied.now) ++ literals.now) → AreNeeded (clauses_of arena.old) (others ++ denied.now) part.items) }
-{
-    let mark = trail.len();
-    let is_refuted = deny(arena, trail, reasons, denied)?;
-    if is_refuted {
-        back(trail, reasons, mark);
-        return Ok(Vec::new(alloc));
-    }
-    if literals.len() <= 1 {
-        let _trues = trail.len();
-        let _whole = arena.literals();
-        let part = Vec::from_slice(alloc, literals)?;
-        back(trail, reasons, mark);
-        return Ok(part);
-    }
-    let middle = literals.len() / 2;
-    let first = &literals[..middle];
-    let second = &literals[middle..];
-    let mut part = needed(alloc, arena, trail, reasons, second, first)?;
-    let rest = needed(alloc, arena, trail, reasons, &part, second)?;
-    back(trail, reasons, mark);
-    part.extend_from_slice(&rest)?;
-    Ok(part)
-}
+use clause_arena::Memory;
+use clause_model::Literal;
 
 impl Solver {
+    /// Those of the literals that are needed where `denied` are false as well.
+    fn needed(&mut self, denied: &[Literal], literals: &[Literal]) -> Result<Vec<Literal>, Memory>
+        requires ground { (level : Level) × IsGround level self.old.arena self.old.reasons.items self.old.trail }
+        requires rule { Rule self.old.arena self.old.trail }
+        requires known_denied { All (HasLiteral self.old.arena) denied.now }
+        requires known { All (HasLiteral self.old.arena) literals.now }
+        ensures fields { OnOk result (IsPropagated self.old self.new) }
+        ensures trail { OnOk result (self.new.trail ≡ self.old.trail) }
+        ensures reasons { OnOk result (self.new.reasons.items ≡ self.old.reasons.items) }
+        ensures watches { OnOk result (IsLater self.old.arena self.old.trail self.old.reasons.items self.new.arena self.old.trail self.old.reasons.items) }
+        ensures part { IfOk result (λ part. All (Contains literals.now) part.items) }
+        ensures needed { IfOk result (λ part. (others : List ℕ) → IsJustified self.old.arena others self.old.reasons.items self.old.trail → AllFalse self.old.trail others → IsRefutable (clauses_of self.old.arena) ((others ++ denied.now) ++ literals.now) → AreNeeded (clauses_of self.old.arena) (others ++ denied.now) part.items) }
+    {
+        let mark = self.trail.len();
+        let is_refuted = deny(&mut self.arena, &mut self.trail, &mut self.reasons, denied)?;
+        if is_refuted {
+            back(&mut self.trail, &mut self.reasons, mark);
+            return Ok(Vec::new(self.alloc));
+        }
+        if literals.len() <= 1 {
+            let _trues = self.trail.len();
+            let _whole = self.arena.literals();
+            let part = Vec::from_slice(self.alloc, literals)?;
+            back(&mut self.trail, &mut self.reasons, mark);
+            return Ok(part);
+        }
+        let middle = literals.len() / 2;
+        let first = &literals[..middle];
+        let second = &literals[middle..];
+        let mut part = self.needed(second, first)?;
+        let rest = self.needed(&part, second)?;
+        back(&mut self.trail, &mut self.reasons, mark);
+        part.extend_from_slice(&rest)?;
+        Ok(part)
+    }
+
     /// Adds to `kept` each literal of `rest` without which the others' negations leave nothing false.
     pub fn minimise(
         &mut self,
@@ -86,14 +79,7 @@ impl Solver {
         ensures first { OnOk result (take (length kept.old.items) kept.new.items ≡ kept.old.items) }
     {
         back(&mut self.trail, &mut self.reasons, low);
-        let part = needed(
-            self.alloc,
-            &mut self.arena,
-            &mut self.trail,
-            &mut self.reasons,
-            kept,
-            rest,
-        )?;
+        let part = self.needed(kept, rest)?;
         kept.extend_from_slice(&part)?;
         Ok(())
     }

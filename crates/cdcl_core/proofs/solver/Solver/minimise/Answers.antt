@@ -19,7 +19,7 @@ pub needed-requires-clause-known : goal.needed-requires-clause-known
 needed-requires-clause-known c = known_rest c.args.self.now.arena c.args.self.now.reasons.items c.back.new.reasons.items c.args.self.now.trail c.back.new.trail c.args.low c.requires.ground c.back.ensures.trail c.back.ensures.reasons c.args.kept.now.items c.deref.result.now c.args.rest.now c.deref.ensures.value c.requires.falsifiable c.requires.refutable
 
 pub returns-clause-ground : goal.returns-clause-ground
-returns-clause-ground c = ground_there c.args.self.now.arena c.needed.new.arena c.back.new.reasons.items c.needed.new.reasons.items c.back.new.trail c.needed.new.trail c.in_ok-part.ensures.watches c.in_ok-part.ensures.trail c.in_ok-part.ensures.reasons (level_of c.args.self.now.arena c.args.self.now.trail c.args.low)
+returns-clause-ground c = ground_there c.args.self.now.arena c.needed.new.self.arena c.back.new.reasons.items c.needed.new.self.reasons.items c.back.new.trail c.needed.new.self.trail c.in_ok-part.ensures.watches c.in_ok-part.ensures.trail c.in_ok-part.ensures.reasons (level_of c.args.self.now.arena c.args.self.now.trail c.args.low)
     (back_ground (level_of c.args.self.now.arena c.args.self.now.trail c.args.low) c.args.self.now.arena c.args.self.now.reasons.items c.back.new.reasons.items c.args.self.now.trail c.back.new.trail c.requires.ground c.back.ensures.trail c.back.ensures.reasons)
 
 pub returns-clause-refutable : goal.returns-clause-refutable
