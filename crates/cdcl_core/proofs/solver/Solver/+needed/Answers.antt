@@ -5,7 +5,6 @@ use Rattle.clause_arena.specs.Contents.{HasLiteral}
 use Rattle.cdcl_core.specs.Implied.{clauses_of}
 use Rattle.cdcl_core.proofs.Minimised.{none_needed}
 use Rattle.cdcl_core.proofs.Halved.{halves, All-within, within_halves, first_half, second_half, ground_there, rule_there, known_there, one_needed, watches_both, both_needed}
-use Rattle.cdcl_core.proofs.Solvers.{propagated_on}
 use Rattle.cdcl_core.proofs.solver.Solver.+needed.Goals as goal
 
 pub returns-then-is_refuted-clause-needed : goal.returns-then-is_refuted-clause-needed
@@ -48,9 +47,6 @@ needed-requires-2 t c =
         ),
       ),
     )
-
-pub returns-clause-fields : goal.returns-clause-fields
-returns-clause-fields t c = propagated_on c.args.self.now c.needed.new.self _ c.in_ok-part-2.ensures.fields (propagated_on c.needed.new.self c.needed-2.new.self _ c.in_ok-rest.ensures.fields refl)
 
 pub returns-clause-watches : goal.returns-clause-watches
 returns-clause-watches t c =

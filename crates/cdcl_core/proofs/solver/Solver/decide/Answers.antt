@@ -10,7 +10,7 @@ use Rattle.cdcl_core.specs.Held.{AreNumbered}
 use Rattle.cdcl_core.proofs.Adopted.{base_back}
 use Rattle.cdcl_core.proofs.Covered.{all_true, all_asserting, adds_over}
 use Rattle.cdcl_core.proofs.Searches.{deciding_begun, model_of, decided_ground, decided_rule, later_ground, deciding_later, at_conflict, count_variables, bounded_by, known_below, below_bound, ground_grows, back_grows, base_forced}
-use Rattle.cdcl_core.proofs.Solvers.{IsDecided, decided_on, decided_search, learnt_on, same_size}
+use Rattle.cdcl_core.proofs.Solvers.{IsDecided, decided_on, learnt_on, same_size}
 use Rattle.cdcl_core.proofs.solver.Solver.decide.Goals as goal
 
 pub deciding-init : goal.deciding-init
@@ -73,9 +73,3 @@ returns-in-Some-conflict-clause-goes_on g c =
       back_grows s.arena s.trail c.len-low.result c.len-low.ensures.value l.arena l.reasons.items l.trail c.back.new.trail o c.back.ensures.trail,
       known_there (level_of c.args.self.now.arena c.args.self.now.trail c.len-low.result) l.arena c.propagate.new.arena c.propagate.new.reasons.items c.propagate.new.assignment c.in_ok-line.line.literals.items d o.size c.in_ok-line.ensures.known,
     )
-
-pub returns-in_default-clause-fields : goal.returns-in_default-clause-fields
-returns-in_default-clause-fields g c = decided_search c.args.self.now _ (decided_on c.args.self.now c.deciding.self _ c.deciding.invariant.3 refl)
-
-pub pick-requires-clause-few : goal.pick-requires-clause-few
-pick-requires-clause-few g c = subst (λ (s : Solver). s.variables ≤ 200000) (sym c.deciding.invariant.3) c.requires.ready.variables

@@ -1,4 +1,4 @@
-use Rattle.std.proofs.Common.{ℕ, List, [], ◌∷◌, ◌++◌, length, take, refl, sym, ◌∙◌, ap, subst, ◌≡◌, ◌≤◌, arith}
+use Rattle.std.proofs.Common.{ℕ, List, [], ◌∷◌, ◌++◌, length, take, refl, sym, ◌∙◌, ap, subst, ◌≤◌, arith}
 use Rattle.std.specs.Prelude.{All, Contains}
 use Rattle.clause_model.specs.Clauses.{IsFalse}
 use Rattle.cdcl_core.specs.declared.solver.Solver.{Solver}
@@ -9,7 +9,6 @@ use Rattle.cdcl_core.specs.Held.{AreNumbered}
 use Rattle.cdcl_core.proofs.Grounds.{ground_again, ground_onto}
 use Rattle.cdcl_core.proofs.Minimised.{falsifiable_here}
 use Rattle.cdcl_core.proofs.Learned.{whole_falsifiable, whole_refutable, kept_falsifiable, kept_fresh, learnt_asserting, same_asserting, known_there}
-use Rattle.cdcl_core.proofs.Solvers.{propagated_on}
 use Rattle.cdcl_core.proofs.solver.Solver.learn.Goals as goal
 
 pub minimise-requires-clause-falsifiable : goal.minimise-requires-clause-falsifiable
@@ -24,9 +23,6 @@ certify-requires-clause-ground c = ground_again (level_of c.args.self.now.arena 
 pub certify-requires-clause-refs : goal.certify-requires-clause-refs
 certify-requires-clause-refs c = ap (λ (s : Solver). s.refs.items) c.in_ok-minimise.ensures.fields ∙ (c.requires.refs ∙ sym c.in_ok-minimise.ensures.ground.references)
 
-pub certify-requires-clause-ids : goal.certify-requires-clause-ids
-certify-requires-clause-ids c = subst (λ (s : Solver). length s.ids.items ≡ length s.refs.items) (sym c.in_ok-minimise.ensures.fields) c.requires.ids
-
 pub certify-requires-clause-size : goal.certify-requires-clause-size
 certify-requires-clause-size c = let b : length c.args.self.now.arena.chains ≤ 400000 = c.requires.size in omega (arith, b, c.in_ok-minimise.ensures.ground.size)
 
@@ -40,9 +36,6 @@ certify-requires-clause-refutable c = subst (IsRefutable (clauses_of c.minimise.
 pub certify-requires-clause-fresh : goal.certify-requires-clause-fresh
 certify-requires-clause-fresh c = subst (λ (xs : List ℕ). All (λ l. IsFalse (take c.args.low c.minimise.new.self.trail) l → ⊥) xs) (sym c.deref-2.ensures.value)
     (subst (λ (a : List ℕ). All (λ l. IsFalse a l → ⊥) c.minimise.new.kept.items) (sym c.in_ok-minimise.ensures.ground.base) (kept_fresh c.args.self.now.arena c.args.self.now.reasons.items c.args.self.now.trail c.args.low c.args.start c.args.conflict c.requires.ground c.requires.conflict c.len-trues.ensures.consistent c.in_ok-literal.literal c.deref.result.now (subst (λ (xs : List ℕ). LearnsFrom (clauses_of c.args.self.now.arena) c.args.self.now.trail c.args.low c.args.start c.in_ok-literal.literal xs) (sym c.deref.ensures.value) c.in_ok-literal.ensures) c.push.new.self.items (c.in_ok-push.ensures.items ∙ ap (λ (xs : List ℕ). xs ++ c.in_ok-literal.literal ∷ []) c.new-literals.ensures.items) c.minimise.new.kept.items c.in_ok-minimise.ensures.subset c.in_ok-minimise.ensures.freed c.in_ok-minimise.ensures.first))
-
-pub returns-clause-fields : goal.returns-clause-fields
-returns-clause-fields c = propagated_on c.args.self.now c.minimise.new.self c.certify.new.self c.in_ok-minimise.ensures.fields c.in_ok-line.ensures.fields
 
 pub returns-clause-ground : goal.returns-clause-ground
 returns-clause-ground c = ground_onto (level_of c.args.self.now.arena c.args.self.now.trail c.args.low) c.minimise.new.self.arena c.minimise.new.self.reasons.items c.minimise.new.self.trail c.in_ok-minimise.ensures.ground c.certify.new.self.arena c.certify.new.self.reasons.items c.certify.new.self.trail c.in_ok-line.ensures.ground

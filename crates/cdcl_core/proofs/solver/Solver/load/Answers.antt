@@ -3,13 +3,9 @@ use Rattle.std.proofs.lemmas.List.{take_all}
 use Rattle.clause_model.specs.Literals.{codes_of}
 use Rattle.cdcl_core.specs.Held.{Covers}
 use Rattle.cdcl_core.specs.Searched.{HasBase}
-use Rattle.cdcl_core.proofs.Adopted.{base_here}
 use Rattle.cdcl_core.proofs.Covered.{covers_none}
 use Rattle.cdcl_core.proofs.Statements.{loaded, loaded_covers, loads_known, loads_some}
 use Rattle.cdcl_core.proofs.solver.Solver.load.Goals as goal
-
-pub adopt-requires-clause-base : goal.adopt-requires-clause-base
-adopt-requires-clause-base c = base_here c.loop-i.invariant.0
 
 pub adopt-requires-clause-some : goal.adopt-requires-clause-some
 adopt-requires-clause-some c = loads_some c.args.formula.now.clauses c.loop-i.i c.clause.result.now c.write_codes.new.codes.items c.deref.result.now c.clause.ensures.clause c.deref.ensures.value c.in_ok-write_codes.ensures c.requires.filled

@@ -62,9 +62,6 @@ adopt-requires-clause-some g c =
     let t = all clauses c.loop-round.invariant.0.covers (next_id (codes_of c.args.formula.now.clauses) c.loop-round.self c.loop-round.log.items c.loop-round.round c.loop-round.invariant.0 c.new-id.result (omega (arith, c.new-id.ensures, c.clauses.ensures, length-map c.args.formula.now.clauses (map code_of)))) in
     asserting_some clauses c.in-Taught.line.literals.items c.deref.result.now (c.deref.ensures.value ∙ c.in_ok-literals-in-Taught.ensures) t.1
 
-pub model_of-requires : goal.model_of-requires
-model_of-requires g c = subst (λ (n : ℕ). n ≤ 200000) (sym (ap (λ (s : Solver). s.variables) c.in_ok-search.ensures.fields ∙ c.loop-round.invariant.3)) c.requires.loaded.variables
-
 pub returns-in-Model-clause-verdict : goal.returns-in-Model-clause-verdict
 returns-in-Model-clause-verdict g c =
     let formula = c.args.formula.now in

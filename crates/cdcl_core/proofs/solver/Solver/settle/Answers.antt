@@ -5,12 +5,6 @@ use Rattle.cdcl_core.proofs.Adopted.{base_later, base_here, same_grows}
 use Rattle.cdcl_core.proofs.Lists.{grown_from_keeps}
 use Rattle.cdcl_core.proofs.solver.Solver.settle.Goals as goal
 
-pub returns-in-Some-clause-rule : goal.returns-in-Some-clause-rule
-returns-in-Some-clause-rule c = λ e. absurd cc
-
-pub returns-in-Some-clause-grows : goal.returns-in-Some-clause-grows
-returns-in-Some-clause-grows c = same_grows c.args.self.now.trail
-
 pub returns-in_ok-self-in-None-clause-ready : goal.returns-in_ok-self-in-None-clause-ready
 returns-in_ok-self-in-None-clause-ready c =
     let s = c.args.self.now in
@@ -19,6 +13,9 @@ returns-in_ok-self-in-None-clause-ready c =
       ids = c.requires.ids;
       variables = c.requires.variables;
     }
+
+pub returns-in-Some-clause-grows : goal.returns-in-Some-clause-grows
+returns-in-Some-clause-grows c = same_grows c.args.self.now.trail
 
 pub returns-in_ok-self-in-None-clause-grows : goal.returns-in_ok-self-in-None-clause-grows
 returns-in_ok-self-in-None-clause-grows c = grown_from_keeps c.args.self.now.trail c.propagate.new.assignment c.in_ok-self-in-None.ensures.later.prefix
