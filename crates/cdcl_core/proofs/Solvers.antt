@@ -2,14 +2,6 @@
 use Rattle.std.proofs.Common.{ℕ, ◌≡◌, ◌*◌, ◌∙◌, ap, refl, subst, sym}
 use Rattle.cdcl_core.specs.declared.order.Order.{Order}
 use Rattle.cdcl_core.specs.declared.solver.Solver.{Solver}
-use Rattle.cdcl_core.specs.Searched.{IsPropagated, IsSearched}
-
--- one step after another
-pub propagated_on : (a b c : Solver) → IsPropagated a b → IsPropagated b c → IsPropagated a c
-propagated_on a b c e f = f ∙ ap (λ (s : Solver). record s { arena = c.arena; trail = c.trail; reasons = c.reasons }) e
-
-pub searched_on : (a b c : Solver) → IsSearched a b → IsSearched b c → IsSearched a c
-searched_on a b c e f = f ∙ ap (λ (s : Solver). record s { arena = c.arena; trail = c.trail; reasons = c.reasons; conflict = c.conflict; order = c.order }) e
 
 -- while decisions are made
 abbrev pub IsDecided : Solver → Solver → Type 0
@@ -17,9 +9,6 @@ IsDecided a b = b ≡ record a { arena = b.arena; trail = b.trail; reasons = b.r
 
 pub decided_on : (a b c : Solver) → IsDecided a b → IsDecided b c → IsDecided a c
 decided_on a b c e f = f ∙ ap (λ (s : Solver). record s { arena = c.arena; trail = c.trail; reasons = c.reasons; order = c.order }) e
-
-pub decided_search : (a b : Solver) → IsDecided a b → IsSearched a b
-decided_search a b e = subst (IsSearched a) (sym e) refl
 
 pub learnt_on : (a b c : Solver) (order : Order) → IsDecided a b → c ≡ record b { arena = c.arena; trail = c.trail; reasons = c.reasons; order = order } → IsDecided a c
 learnt_on a b c order e f = subst (IsDecided a) (sym (f ∙ ap (λ (s : Solver). record s { arena = c.arena; trail = c.trail; reasons = c.reasons; order = order }) e)) refl

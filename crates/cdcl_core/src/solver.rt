@@ -12,6 +12,7 @@ use std::alloc::Global;
 /// What a solver knows of its clauses.
 #[derive(Drop)]
 pub struct Solver {
+    /// Where its memory comes from.
     pub alloc: Global,
     /// How many variables there are.
     pub variables: u32,
