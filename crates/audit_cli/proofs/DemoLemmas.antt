@@ -2,8 +2,7 @@
 use Rattle.std.proofs.Common.{◌≡◌, ◌∙◌, ℕ, ◌≤◌, List, [], ◌++◌, append_assoc, length, refl, sym, subst, arith, Option, Some, None, leb-true}
 use Rattle.thumb_model.specs.Listing.{Line}
 use Rattle.rule_model.specs.Rewriting.{Replacement, AreRewritten}
-use Rattle.seq_enum.specs.Lists.{numbers_from, held_in, grid2, grid3}
-use Rattle.seq_enum.specs.Alphabet.{rows, members, alphabet, words}
+use Rattle.seq_enum.specs.Alphabet.{numbers_from, held_in, grid2, grid3, rows, members, alphabet, words}
 use Rattle.listing_parser.specs.Parsing.{IsListing}
 use Rattle.listing_parser.proofs.MadeLemmas.{one_listing}
 use Rattle.listing_parser.proofs.VerdictLemmas.{one_verdict}
@@ -17,14 +16,13 @@ use Rattle.table_audit.specs.Shorter.{sequences_below}
 use Rattle.table_audit.proofs.Determined.{table_same}
 use Rattle.table_learn.specs.Given.{AreInLimits}
 use Rattle.window_rewrite.specs.Rewriting.{setting}
-use Rattle.thumb_assembler.specs.Refusals.{first_flaw}
-use Rattle.thumb_assembler.specs.Following.{IsAssembled}
+use Rattle.thumb_assembler.specs.Bytes.{first_flaw}
+use Rattle.thumb_assembler.specs.Runs.{IsAssembled}
 use Rattle.command_runs.specs.Plans.{Outcome, Refuses, Does}
 use Rattle.audit_cli.specs.declared.refusal.Refusal.{Refusal}
-use Rattle.audit_cli.specs.Printed.{refusal_line, demo_line, learnt_line, report_of, image_line}
+use Rattle.audit_cli.specs.Printed.{refusal_line, demo_line, learnt_line, report_of, image_line, IsUnread, unread, IsUnlisted, unlisted, IsUnaudited, no_table, other_state, too_wide as wide_table, bad_family, bad_entry, HasNoImage, no_address, inside}
 use Rattle.audit_cli.specs.Tables.{opens_of}
 use Rattle.audit_cli.specs.Learn.{IsUnlearnt, IsLearnt, too_wide, too_long as long_text}
-use Rattle.audit_cli.specs.Steps.{IsUnread, unread, IsUnlisted, unlisted, IsUnaudited, no_table, other_state, too_wide as wide_table, bad_family, bad_entry, HasNoImage, no_address, inside}
 use Rattle.audit_cli.specs.Rewrite.{instruction_count}
 use Rattle.audit_cli.specs.Demo.{demo_text, demo_settings, IsRewritingTold, IsDemo, DemoComesTo, shown, too_long}
 use Rattle.audit_cli.specs.Answers.{IsDemoListing}

@@ -22,7 +22,7 @@ use Rattle.thumb_syntax.specs.Operands.{is_name}
 use Rattle.thumb_syntax.specs.Spelling.{text_of}
 use Rattle.seq_enum.specs.Alphabet.{wide}
 use Rattle.thumb_model.specs.Listing.{Name, Nothing, Line}
-use Rattle.thumb_model.specs.ReplacedLines.{new_line}
+use Rattle.thumb_model.specs.Replaced.{new_line}
 use Rattle.listing_parser.specs.Grammar.{Read, read_lines, shown_of, most_lines}
 use Rattle.listing_parser.proofs.FirstTwice.{first_twice}
 use Rattle.listing_parser.proofs.TwiceLemmas.{none_once}

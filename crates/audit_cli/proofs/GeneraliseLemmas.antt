@@ -8,24 +8,20 @@ use Rattle.std.proofs.lemmas.Option.{same_Some, slice_get-map, slice_get_within,
 use Rattle.std.proofs.lemmas.Bool.Decides.{leb_tells}
 use Rattle.std.proofs.lemmas.Bool.{le-leb, true≢false, ne_eqb}
 use Rattle.thumb_instr.specs.declared.instr.Instr.{Instr}
-use Rattle.thumb_model.specs.Items.{Values, AreWords}
-use Rattle.thumb_model.specs.Sides.{Equal}
+use Rattle.thumb_model.specs.Effect.{Values, AreWords, Equal}
 use Rattle.window_exec.specs.declared.state.WState.{WState}
-use Rattle.window_exec.specs.State.{values_of}
-use Rattle.window_exec.specs.Telling.{Tells}
+use Rattle.window_exec.specs.State.{values_of, Tells}
 use Rattle.cnf_gates.specs.Meaning.{IsModel, assigned}
-use Rattle.bit_blast.specs.Values.{start_values}
+use Rattle.bit_blast.specs.Exactness.{start_values, IsMask, SameOver, value_at}
 use Rattle.bit_blast.specs.Slots.{instance}
-use Rattle.bit_blast.specs.Exactness.{IsMask, SameOver, value_at}
 use Rattle.bit_blast.proofs.Families.{family_models_tell, family_models_give_states}
-use Rattle.lrat_check.specs.Content.{Content, content_of}
+use Rattle.lrat_check.specs.Text.{Content, content_of}
 use Rattle.rule_table.specs.declared.table.Family.{Family as Held}
-use Rattle.rule_table.specs.Table.{Rule, Family, Table}
+use Rattle.rule_table.specs.Table.{Rule, Family, Table, IsFamily, IsRule, IsTable}
 use Rattle.rule_table.specs.Views.{family_of}
-use Rattle.rule_table.specs.Valid.{IsFamily, IsRule, IsTable}
 use Rattle.table_audit.specs.declared.errors.AuditError.TheVariants as audit
 use Rattle.table_audit.specs.declared.errors.FamilyKind.TheVariants as kind
-use Rattle.table_audit.specs.Sides.{named_count, alphabet_registers}
+use Rattle.table_audit.specs.Shorter.{named_count, alphabet_registers}
 use Rattle.table_audit.specs.Canonical.{HasFormula}
 use Rattle.table_audit.specs.Acceptance.{RaisedVerdict, FamilyVerdict, IsAccepted}
 use Rattle.table_audit.specs.Families.{entry_of, symbol_of, IsRaisable, raised_formula}

@@ -11,9 +11,8 @@ use Rattle.command_line.proofs.Usage.{asks_once}
 use Rattle.outer_store.specs.Outside.{Putting, Seen, Sunk}
 use Rattle.command_runs.specs.Plans.{Outcome, Refuses, Does, keeps_of, due, fetchings, keepings, AreTexts}
 use Rattle.command_runs.specs.Runs.{IsDone}
-use Rattle.audit_cli.specs.Steps.{IsAudited}
-use Rattle.thumb_assembler.specs.Following.{IsAssembled}
-use Rattle.audit_cli.specs.Printed.{report_of}
+use Rattle.audit_cli.specs.Printed.{IsAudited, report_of}
+use Rattle.thumb_assembler.specs.Runs.{IsAssembled}
 use Rattle.audit_cli.specs.Rewrite.{Destination, Counts, Leaves, alone, pair, no_image, RunsAsPromised, IsRewriting, LinesRewrite, unlaid, rewritten, Rewrites, unread, read, Comes, unaudited, audited}
 use Rattle.audit_cli.specs.Peep.{plan_of}
 use Rattle.audit_cli.specs.Headline.{IsHeadline, IsImage, RewritesAsPromised, image_kept, image_told}

@@ -7,16 +7,15 @@ use Rattle.std.proofs.lemmas.List.Elements.{All-append, All-cons, All-head, All-
 use Rattle.thumb_instr.specs.declared.instr.Instr.{Instr}
 use Rattle.thumb_instr.specs.declared.items.Mask.{Mask}
 use Rattle.thumb_model.specs.Listing.{Line, places_of}
-use Rattle.seq_enum.specs.Lists.{numbers_from}
+use Rattle.seq_enum.specs.Alphabet.{numbers_from, IsOver}
 use Rattle.seq_enum.specs.declared.cost_text.CostLine.{CostLine}
-use Rattle.seq_enum.specs.CostTexts.{IsCostText, IsRefusedCosts}
+use Rattle.seq_enum.specs.Costs.{IsCostText, IsRefusedCosts}
 use Rattle.seq_enum.specs.ReadingCosts.{ReadsCosts}
-use Rattle.seq_enum.specs.Alphabet.{IsOver}
 use Rattle.window_harvest.specs.Harvest.{Pair, Spot, pair_of, spot_of, spots_at, spots, IsPairAt, ArePairs, none, passed, given, AreFirsts, ended, known, new, AreHarvest}
 use Rattle.table_audit.specs.Canonical.{IsSideOf}
 use Rattle.table_audit.proofs.CanonicalForms.{form_is_side}
 use Rattle.rule_table.specs.Table.{Table}
-use Rattle.table_learn.specs.Settings.{Settings, Window}
+use Rattle.table_learn.specs.Learnt.{Settings, Window}
 use Rattle.table_learn.specs.Given.{window_of, IsWindow, AreWindows}
 use Rattle.command_runs.specs.Plans.{Outcome, Refuses}
 use Rattle.audit_cli.specs.declared.refusal.Refusal.{Refusal}

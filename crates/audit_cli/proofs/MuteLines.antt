@@ -2,14 +2,14 @@
 use Rattle.std.proofs.Common.{◌≡◌, ◌∙◌, ℕ, zero, suc, ◌+◌, ◌-◌, ◌==◌, ◌&&◌, Bool, true, false, List, [], ◌∷◌, ◌++◌, length, map, inl, inr, refl, sym, ap, subst, true≢false, Option, Some, None}
 use Rattle.std.proofs.lemmas.Bool.{cases_Bool}
 use Rattle.thumb_instr.specs.declared.instr.Instr.{Instr}
-use Rattle.thumb_instr.specs.Renaming.{renamed}
+use Rattle.thumb_instr.specs.Window.{renamed}
 use Rattle.thumb_model.specs.Listing.{Name, Statement, Nothing, Runs, Words, Aligns, Sets, Line, places_in}
 use Rattle.thumb_model.specs.Layout.{Fault, Layable, size_at, fault_at, or_first as or_first_fault, faults_from, lies_in}
 use Rattle.rule_model.specs.Rules.{Rule}
 use Rattle.rule_model.specs.Rewriting.{Setting, Replacement, AreRewritten, lines_after, lines_after_rule}
-use Rattle.thumb_model.specs.ReplacedLines.{is_op, without, labels_kept, new_line, replaced_lines}
+use Rattle.thumb_model.specs.Replaced.{is_op, without, labels_kept, new_line, replaced_lines}
 use Rattle.listing_parser.specs.Targets.{is_on_target, first_target}
-use Rattle.thumb_assembler.specs.Refusals.{flaw_of, flaws_from, first_flaw}
+use Rattle.thumb_assembler.specs.Bytes.{flaw_of, flaws_from, first_flaw}
 
 abbrev pub is_mute : Statement → Bool
 is_mute Nothing = true

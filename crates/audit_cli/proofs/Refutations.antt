@@ -5,15 +5,13 @@ use Rattle.std.specs.List.{list_any}
 use Rattle.std.proofs.lemmas.Bool.{cases_Bool, or_cases, or_left, or_right, true≢false}
 use Rattle.std.proofs.lemmas.Bool.Decides.{nat_tests}
 use Rattle.std.proofs.lemmas.List.Folds.{Any-from_list_any, list_any-from_Any}
-use Rattle.lrat_check.specs.Content.{Content, addition, deletion}
+use Rattle.lrat_check.specs.Text.{Content, addition, deletion, without, Deletes}
 use Rattle.lrat_check.specs.Live.{found_in}
-use Rattle.lrat_check.specs.Deleting.{without, Deletes}
 use Rattle.lrat_check.specs.Checking.{State, live_at, Starts, Accepts as Leads}
 use Rattle.lrat_check.specs.Runs.{AcceptsAll, IsRefutation}
-use Rattle.clause_model.specs.Propagation.{numbered}
-use Rattle.proof_logs.specs.Lines.{Known, started, without_all, Accepts, AllAccepted, added, additions}
+use Rattle.clause_model.specs.Clauses.{numbered}
+use Rattle.proof_logs.specs.Proofs.{Known, started, without_all, Accepts, AllAccepted, added, additions, LinesVerdict, ProofVerdict}
 use Rattle.proof_logs.specs.Checked.{known_of}
-use Rattle.proof_logs.specs.Proofs.{LinesVerdict, ProofVerdict}
 use Rattle.proof_logs.proofs.Checks.{begun_known, led_known, led_accepts, passed_accepted, refuted_next}
 
 -- ---- the state at the beginning ----

@@ -11,12 +11,11 @@ use Rattle.table_audit.specs.Soundness.{IsSound}
 use Rattle.listing_parser.specs.Parsing.{IsListing, text_of_lines}
 use Rattle.listing_parser.proofs.Literals.{literals_stand}
 use Rattle.window_rewrite.specs.Rewriting.{setting}
-use Rattle.thumb_assembler.specs.Following.{IsAssembled}
+use Rattle.thumb_assembler.specs.Runs.{IsAssembled}
 use Rattle.thumb_assembler.proofs.Meeting.{images_follow, images_follow_given}
 use Rattle.command_runs.specs.Plans.{Outcome, Does, Refuses}
 use Rattle.audit_cli.specs.declared.refusal.Refusal.{Refusal}
-use Rattle.audit_cli.specs.Printed.{refusal_line, report_of, image_line}
-use Rattle.audit_cli.specs.Steps.{HasNoImage}
+use Rattle.audit_cli.specs.Printed.{refusal_line, report_of, image_line, HasNoImage}
 use Rattle.audit_cli.specs.Rewrite.{Destination, Counts, WantsNone, Leaves, alone, pair, no_image, IsRewriting, instruction_count}
 use Rattle.audit_cli.proofs.WellFormed.{still_reads}
 

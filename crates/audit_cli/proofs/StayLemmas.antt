@@ -9,7 +9,7 @@ use Rattle.thumb_instr.specs.declared.operation.Hint.{Hint}
 use Rattle.thumb_instr.specs.declared.operation.Hint.TheVariants as hint
 use Rattle.thumb_instr.specs.Items.{has}
 use Rattle.thumb_instr.specs.Shape.{registers_in, pushed, offset_access, word_access}
-use Rattle.thumb_model.specs.Items.{sp}
+use Rattle.thumb_model.specs.Effect.{sp}
 use Rattle.thumb_model.specs.Listing.{Code, Place, Op, Word}
 use Rattle.thumb_model.specs.Naming.{Naming}
 use Rattle.thumb_model.specs.States.{State, At, Here, Ended, World, Answer, Target, Inside, External, Landing, Goes, Leaves, Strays, Around, Act, Event, Call, Sys, Fault, On, Stay, To, Over, puts, ends, tells, takes, aligned, answered, served, handed, answers_with}

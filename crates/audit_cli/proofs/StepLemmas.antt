@@ -3,23 +3,22 @@ use Rattle.std.proofs.Common.{◌≡◌, ◌∙◌, ap, ◌⊎◌, inl, inr, ℕ
 use Rattle.std.specs.Result.{result_map_both}
 use Rattle.rule_table.specs.Table.{Table}
 use Rattle.rule_table.specs.Refused.{IsText, IsRefused as IsRefusedTable}
-use Rattle.proof_logs.specs.Verdicts.{Answers}
+use Rattle.proof_logs.specs.Proofs.{Answers}
 use Rattle.table_audit.specs.declared.errors.AuditError.{AuditError}
 use Rattle.table_audit.specs.declared.errors.AuditError.TheVariants as audit
 use Rattle.thumb_model.specs.Listing.{Line}
 use Rattle.thumb_model.specs.Layout.{Fault, Layable}
 use Rattle.listing_parser.specs.declared.errors.Kind.{Kind}
 use Rattle.listing_parser.specs.Parsing.{IsListing, IsRefused}
-use Rattle.label_layout.specs.Faults.{first_fault}
+use Rattle.label_layout.specs.Refusals.{first_fault}
 use Rattle.label_layout.specs.Addresses.{Addresses}
 use Rattle.command_runs.specs.Plans.{Outcome, Refuses}
 use Rattle.audit_cli.specs.declared.refusal.Refusal.{Refusal}
 use Rattle.audit_cli.specs.declared.refusal.Refusal.TheVariants as refusal
-use Rattle.audit_cli.specs.Printed.{unlaid_refusal, refusal_line}
+use Rattle.audit_cli.specs.Printed.{unlaid_refusal, refusal_line, HasNoImage, no_address, inside, IsAudited, IsUnaudited, IsUnlisted, unlisted, IsUnread, unread, IsUnlaid, unlaid}
 use Rattle.thumb_assembler.specs.declared.errors.ImageError.TheVariants as image
-use Rattle.thumb_assembler.specs.Refusals.{IsRefusal}
-use Rattle.thumb_assembler.specs.Following.{IsAssembled}
-use Rattle.audit_cli.specs.Steps.{HasNoImage, no_address, inside, IsAudited, IsUnaudited, IsUnlisted, unlisted, IsUnread, unread, IsUnlaid, unlaid}
+use Rattle.thumb_assembler.specs.Bytes.{IsRefusal}
+use Rattle.thumb_assembler.specs.Runs.{IsAssembled}
 use Rattle.audit_cli.specs.Answers.{MakesImage, AuditsTable, ReadsTable, ReadsListing, LaysOut}
 
 pub is_unlisted : (text : List ℕ) (line : ℕ) → IsRefusedTable text line → IsUnlisted text (refusal.Table line)

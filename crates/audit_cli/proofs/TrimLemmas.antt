@@ -1,7 +1,7 @@
 -- The entries and families of an accepted table have formulas that their proofs refute.
 use Rattle.std.proofs.Common.{◌≡◌, ℕ, zero, suc, ◌+◌, Option, Some, None, refl}
 use Rattle.std.specs.Prelude.{All}
-use Rattle.clause_model.specs.Literals.{codes_of}
+use Rattle.clause_model.specs.Clauses.{codes_of}
 use Rattle.lrat_check.specs.Runs.{IsRefutation}
 use Rattle.rule_table.specs.Header.{Header}
 use Rattle.rule_table.specs.Table.{Rule, Family, Table}
@@ -14,7 +14,7 @@ use Rattle.table_audit.specs.Acceptance.{EntryVerdict, RaisedVerdict, FamilyVerd
 use Rattle.table_audit.specs.Families.{entry_at, entry_of, raised_formula}
 use Rattle.audit_cli.specs.Ready.{IsRaised}
 use Rattle.table_audit.specs.Canonical.{HasFormula}
-use Rattle.table_audit.specs.Sides.{formula_of}
+use Rattle.table_audit.specs.Shorter.{formula_of}
 use Rattle.table_audit.proofs.Fitting.{formula_fits}
 use Rattle.table_learn.proofs.Gains.{all_of}
 use Rattle.audit_cli.proofs.Refutations.{passed_refutes}

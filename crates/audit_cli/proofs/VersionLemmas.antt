@@ -8,12 +8,11 @@ use Rattle.rule_table.specs.declared.header.Field.TheVariants.{Version, Regs, Le
 use Rattle.rule_table.specs.declared.header.Head.TheVariants.{Number, Costs}
 use Rattle.rule_table.specs.Header.{Header, IsHeader, IsWithin, number_in, has_line, since, blank}
 use Rattle.rule_table.specs.Table.{Opened, Rule, Table}
-use Rattle.proof_logs.specs.Verdicts.{Tests, Then, InTurn}
+use Rattle.proof_logs.specs.Proofs.{Tests, Then, InTurn}
 use Rattle.table_audit.specs.declared.errors.AuditError.{AuditError}
 use Rattle.table_audit.specs.declared.errors.AuditError.TheVariants as audit
 use Rattle.table_audit.specs.declared.errors.EntryFault.TheVariants as fault
-use Rattle.table_audit.specs.Sides.{SidesFit}
-use Rattle.table_audit.specs.Shorter.{IsBelow}
+use Rattle.table_audit.specs.Shorter.{SidesFit, IsBelow}
 use Rattle.table_audit.specs.Acceptance.{IsUntold, IsFirstUntold, IsRightlyOpen, StatesVerdict, WideVerdict, SidesVerdict, EntryProofVerdict, ToldVerdict, OpensVerdict, OpenTest, EntryVerdict, EntriesVerdict, FamilyVerdict, FamiliesVerdict, TableVerdict}
 use Rattle.table_audit.proofs.Growing.{family_in_version}
 

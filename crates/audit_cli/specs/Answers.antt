@@ -6,10 +6,10 @@ use Rattle.listing_parser.specs.Parsing.{IsListing}
 use Rattle.label_layout.specs.Addresses.{Addresses, AreAddresses}
 use Rattle.rule_table.specs.Table.{Table}
 use Rattle.rule_table.specs.Refused.{IsText}
-use Rattle.table_learn.specs.Settings.{Settings}
-use Rattle.thumb_assembler.specs.Following.{IsAssembled}
+use Rattle.table_learn.specs.Learnt.{Settings}
+use Rattle.thumb_assembler.specs.Runs.{IsAssembled}
 use Rattle.audit_cli.specs.declared.refusal.Refusal.{Refusal}
-use Rattle.audit_cli.specs.Steps.{IsUnlisted, IsUnaudited, IsUnread, IsUnlaid, HasNoImage, IsAudited}
+use Rattle.audit_cli.specs.Printed.{IsUnlisted, IsUnaudited, IsUnread, IsUnlaid, HasNoImage, IsAudited}
 use Rattle.audit_cli.specs.Learn.{IsLearnt, IsUnlearnt}
 use Rattle.audit_cli.specs.Demo.{demo_text}
 

@@ -7,7 +7,7 @@ use Rattle.audit_cli.specs.Tables.{Extract}
 use Rattle.std.specs.Prelude.{ℕ, List, Option, Some, None}
 use Rattle.audit_cli.specs.declared.learn.Learn.{Learn}
 use Rattle.audit_cli.specs.declared.learn.LearnByCosts.{LearnByCosts}
-use Rattle.table_learn.specs.Settings.{Settings}
+use Rattle.table_learn.specs.Learnt.{Settings}
 use Rattle.audit_cli.specs.Learn.{Lesson}
 use Rattle.audit_cli.specs.declared.trace.Trace.{Trace}
 use Rattle.audit_cli.specs.Trace.{Journey}

@@ -5,10 +5,9 @@ use Rattle.thumb_model.specs.Listing.{Line}
 use Rattle.rule_model.specs.Rewriting.{Replacement, AreRewritten}
 use Rattle.listing_parser.specs.Parsing.{IsListing}
 use Rattle.rule_table.specs.Table.{Table}
-use Rattle.table_learn.specs.Settings.{Settings, Window}
-use Rattle.table_learn.specs.Learnt.{IsFull}
+use Rattle.table_learn.specs.Learnt.{Settings, Window, IsFull}
 use Rattle.window_rewrite.specs.Rewriting.{setting}
-use Rattle.thumb_assembler.specs.Following.{IsAssembled}
+use Rattle.thumb_assembler.specs.Runs.{IsAssembled}
 use Rattle.command_runs.specs.Plans.{Outcome, Refuses, Does}
 use Rattle.audit_cli.specs.declared.refusal.Refusal.TheVariants as refusal
 use Rattle.audit_cli.specs.Printed.{refusal_line, demo_line, learnt_line, report_of, image_line}

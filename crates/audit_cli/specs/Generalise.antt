@@ -1,15 +1,12 @@
 -- What `generalise` comes to.
 use Rattle.std.specs.Prelude.{◌≡◌, ℕ, List, [], ◌∷◌, ◌++◌, Some, None, Result, Ok, Err, length, map, max}
-use Rattle.thumb_model.specs.Items.{AreWords}
-use Rattle.thumb_model.specs.Sides.{Equal}
-use Rattle.window_exec.specs.State.{values_of}
-use Rattle.window_exec.specs.Telling.{Tells}
-use Rattle.clause_model.specs.Literals.{codes_of}
-use Rattle.lrat_check.specs.Content.{Content, content_of}
-use Rattle.proof_logs.specs.Logs.{IsSpentLog}
+use Rattle.thumb_model.specs.Effect.{AreWords, Equal}
+use Rattle.window_exec.specs.State.{values_of, Tells}
+use Rattle.clause_model.specs.Clauses.{codes_of}
+use Rattle.lrat_check.specs.Text.{Content, content_of}
+use Rattle.proof_logs.specs.Proofs.{IsSpentLog}
 use Rattle.bit_blast.specs.Slots.{Byte, IsValue, instance}
-use Rattle.rule_table.specs.Table.{Rule, Family, Table}
-use Rattle.rule_table.specs.Valid.{IsTable}
+use Rattle.rule_table.specs.Table.{Rule, Family, Table, IsTable}
 use Rattle.table_audit.specs.Acceptance.{IsAccepted}
 use Rattle.table_audit.specs.Families.{entry_of, IsRaisable, raised_formula, symbol_of}
 use Rattle.table_audit.specs.Soundness.{items_in}
@@ -19,8 +16,7 @@ use Rattle.audit_cli.specs.declared.raising.FamilyFault.{FamilyFault}
 use Rattle.audit_cli.specs.declared.raising.FamilyFault.TheVariants.{Number, Symbol, Differ, Spent, Memory}
 use Rattle.audit_cli.specs.declared.refusal.Refusal.{Refusal}
 use Rattle.audit_cli.specs.declared.refusal.Refusal.TheVariants as refusal
-use Rattle.audit_cli.specs.Printed.{refusal_line, families_line}
-use Rattle.audit_cli.specs.Steps.{IsUnaudited, IsAudited}
+use Rattle.audit_cli.specs.Printed.{refusal_line, families_line, IsUnaudited, IsAudited}
 use Rattle.audit_cli.specs.Upgrade.{IsKept}
 
 -- the family of an entry, counted from 1, for each value of a number from a least to a greatest, before it is proved

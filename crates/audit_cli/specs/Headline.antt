@@ -11,7 +11,7 @@ use Rattle.rule_table.specs.Refused.{IsText as IsTableText}
 use Rattle.table_audit.specs.Acceptance.{IsAccepted}
 use Rattle.table_audit.specs.Soundness.{IsSound}
 use Rattle.window_rewrite.specs.Rewriting.{setting}
-use Rattle.thumb_assembler.specs.Following.{IsAssembled}
+use Rattle.thumb_assembler.specs.Runs.{IsAssembled}
 use Rattle.command_line.specs.CommandLine.{rewrite, AskFor}
 use Rattle.outer_store.specs.Outside.{Putting, Seen, Sunk, Gave}
 use Rattle.command_runs.specs.declared.status.Status.TheVariants as status

@@ -2,19 +2,16 @@
 use Rattle.std.specs.Prelude.{◌≡◌, ◌<◌, ◌≤◌, ℕ, List, [], ◌∷◌, Some, length, map}
 use Rattle.thumb_model.specs.Listing.{Line}
 use Rattle.listing_parser.specs.Parsing.{IsListing}
-use Rattle.seq_enum.specs.CostTexts.{IsCostText, IsRefusedCosts}
+use Rattle.seq_enum.specs.Costs.{IsCostText, IsRefusedCosts}
 use Rattle.window_harvest.specs.Harvest.{Pair, Limits, AreHarvest}
-use Rattle.rule_table.specs.Table.{Table}
+use Rattle.rule_table.specs.Table.{Table, IsTable}
 use Rattle.rule_table.specs.Text.{text_of}
-use Rattle.rule_table.specs.Valid.{IsTable}
-use Rattle.table_learn.specs.Settings.{Settings, Window}
-use Rattle.table_learn.specs.Learnt.{Learnt, IsFull, text_length, text_limit}
+use Rattle.table_learn.specs.Learnt.{Settings, Window, Learnt, IsFull, text_length, text_limit}
 use Rattle.table_audit.specs.Acceptance.{width_of}
 use Rattle.command_runs.specs.Plans.{Outcome, Refuses, Does}
 use Rattle.audit_cli.specs.declared.refusal.Refusal.{Refusal}
 use Rattle.audit_cli.specs.declared.refusal.Refusal.TheVariants as refusal
-use Rattle.audit_cli.specs.Printed.{refusal_line, learnt_line}
-use Rattle.audit_cli.specs.Steps.{IsUnread}
+use Rattle.audit_cli.specs.Printed.{refusal_line, learnt_line, IsUnread}
 use Rattle.audit_cli.specs.Tables.{opens_of}
 
 -- the name that a table is kept under, and the settings that it is learnt with

@@ -1,6 +1,6 @@
 -- What trimming a family's proof asks.
 use Rattle.std.specs.Prelude.{◌≡◌, List, Some}
-use Rattle.clause_model.specs.Literals.{codes_of}
+use Rattle.clause_model.specs.Clauses.{codes_of}
 use Rattle.lrat_check.specs.Runs.{IsRefutation}
 use Rattle.rule_table.specs.Header.{Header}
 use Rattle.rule_table.specs.Table.{Rule, Family}

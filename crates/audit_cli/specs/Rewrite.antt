@@ -2,21 +2,19 @@
 use Rattle.std.specs.Prelude.{◌≡◌, ◌≤◌, ◌+◌, ℕ, List, [], ◌∷◌, ◌++◌, None, length, codes, if◌then◌else◌}
 use Rattle.thumb_model.specs.Listing.{Name, Line, code_of}
 use Rattle.thumb_model.specs.Layout.{Layable}
-use Rattle.thumb_model.specs.Naming.{Fits}
-use Rattle.thumb_model.specs.Laid.{laid}
+use Rattle.thumb_model.specs.Naming.{Fits, laid}
 use Rattle.thumb_model.specs.Same.{Same}
 use Rattle.rule_model.specs.Rewriting.{Replacement, AreRewritten, AllApplied, NoneApplies}
-use Rattle.thumb_model.specs.ReplacedLines.{is_op}
+use Rattle.thumb_model.specs.Replaced.{is_op}
 use Rattle.rule_table.specs.Table.{Table}
 use Rattle.table_audit.specs.Soundness.{IsSound}
 use Rattle.listing_parser.specs.Parsing.{IsListing, text_of_lines}
 use Rattle.window_rewrite.specs.Rewriting.{setting}
 use Rattle.thumb_assembler.specs.Bytes.{IsSetBy}
-use Rattle.thumb_assembler.specs.Following.{IsAssembled, Follows}
+use Rattle.thumb_assembler.specs.Runs.{IsAssembled, Follows}
 use Rattle.command_runs.specs.Plans.{Outcome, Refuses, Does}
-use Rattle.audit_cli.specs.Printed.{report_of, image_line, refusal_line}
+use Rattle.audit_cli.specs.Printed.{report_of, image_line, refusal_line, HasNoImage, IsAudited, IsUnaudited, IsUnread, IsUnlaid}
 use Rattle.audit_cli.specs.declared.refusal.Refusal.{Refusal}
-use Rattle.audit_cli.specs.Steps.{HasNoImage, IsAudited, IsUnaudited, IsUnread, IsUnlaid}
 
 -- the names that a rewritten listing and its image are kept under, and where the image lies
 pub record Destination : Type 0 where

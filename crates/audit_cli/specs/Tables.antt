@@ -3,17 +3,14 @@ use Rattle.std.specs.Prelude.{◌≡◌, ℕ, List, [], ◌∷◌, length, sum_b
 use Rattle.rule_table.specs.Table.{Rule, Family, Table}
 use Rattle.command_runs.specs.Plans.{Outcome, Refuses, Does}
 use Rattle.audit_cli.specs.declared.refusal.Refusal.{Refusal}
-use Rattle.audit_cli.specs.Printed.{refusal_line, entries_line, formula_line}
-use Rattle.audit_cli.specs.Steps.{IsUnaudited, IsAudited, IsUnlisted}
+use Rattle.audit_cli.specs.Printed.{refusal_line, entries_line, formula_line, IsUnaudited, IsAudited, IsUnlisted}
 use Rattle.std.specs.List.{flat_map}
-use Rattle.cnf_gates.specs.Cnf.{Cnf}
-use Rattle.cnf_gates.specs.Dimacs.{dimacs}
-use Rattle.lrat_check.specs.Content.{Content}
-use Rattle.lrat_check.specs.Text.{text_of}
+use Rattle.cnf_gates.specs.Cnf.{Cnf, dimacs}
+use Rattle.lrat_check.specs.Text.{Content, text_of}
 use Rattle.rule_table.specs.Refused.{IsText}
 use Rattle.table_audit.specs.declared.errors.EntryFault.TheVariants as fault
 use Rattle.table_audit.specs.declared.errors.FamilyKind.TheVariants as family
-use Rattle.table_audit.specs.Sides.{SidesFit, formula_of}
+use Rattle.table_audit.specs.Shorter.{SidesFit, formula_of}
 use Rattle.table_audit.specs.Families.{entry_at, entry_of, family_at, raised_formula, IsRaisable}
 use Rattle.audit_cli.specs.declared.refusal.Refusal.TheVariants as refusal
 

@@ -4,13 +4,11 @@ use Rattle.thumb_model.specs.Listing.{Line, code_of}
 use Rattle.thumb_model.specs.Layout.{Layable}
 use Rattle.thumb_model.specs.Same.{Same}
 use Rattle.listing_parser.specs.Parsing.{IsListing, text_of_lines}
-use Rattle.flow_tidy.specs.Tidied.{NonePossible}
-use Rattle.flow_tidy.specs.Tidying.{AreTidiedBy, setting}
+use Rattle.flow_tidy.specs.Tidying.{NonePossible, AreTidiedBy, setting}
 use Rattle.command_runs.specs.Plans.{Outcome, Refuses, Does}
 use Rattle.audit_cli.specs.declared.refusal.Refusal.{Refusal}
-use Rattle.audit_cli.specs.Printed.{refusal_line, tidied_report}
+use Rattle.audit_cli.specs.Printed.{refusal_line, tidied_report, IsUnread, IsUnlaid}
 use Rattle.audit_cli.specs.Rewrite.{instruction_count}
-use Rattle.audit_cli.specs.Steps.{IsUnread, IsUnlaid}
 
 -- the text of the lines that are left is kept, and the changes are counted, and the instructions before and after
 abbrev pub tidied_outcome : List ℕ → List Line → List Line → ℕ → Outcome

@@ -1,6 +1,6 @@
 -- What `trace` comes to.
 use Rattle.std.specs.Prelude.{ℕ, zero, suc, ◌+◌, ◌==◌, ◌||◌, nat_lt, List, [], ◌∷◌, if◌then◌else◌, ◌≡◌, ◌<◌, ◌≤◌, false, true, ◌++◌, Some, ◌/◌, ◌%◌, codes, None}
-use Rattle.thumb_model.specs.Items.{Values, sp, lr}
+use Rattle.thumb_model.specs.Effect.{Values, sp, lr}
 use Rattle.thumb_model.specs.Naming.{Naming}
 use Rattle.thumb_model.specs.States.{Answer, World, State, Event, Stay, Load, Store, Call, Sys, Left, Fault, Astray, Fell}
 use Rattle.thumb_model.specs.Steps.{step, times}
@@ -11,14 +11,13 @@ use Rattle.thumb_machine.specs.declared.machine.Stage.{Stage}
 use Rattle.thumb_machine.specs.declared.machine.Stage.TheVariants as stage
 use Rattle.thumb_machine.specs.Stages.{end_of, next_at, stage_of}
 use Rattle.std.specs.List.{flat_map}
-use Rattle.audit_cli.specs.Printed.{printed, and_number, refusal_line}
+use Rattle.audit_cli.specs.Printed.{printed, and_number, refusal_line, IsUnread, IsUnlaid}
 use Rattle.thumb_model.specs.Layout.{Layable}
 use Rattle.listing_parser.specs.Parsing.{IsListing}
 use Rattle.thumb_machine.specs.Laid.{IsLaid}
 use Rattle.command_runs.specs.Plans.{Outcome, Refuses, Does}
 use Rattle.audit_cli.specs.declared.refusal.Refusal.{Refusal}
 use Rattle.audit_cli.specs.declared.refusal.Refusal.TheVariants as refusal
-use Rattle.audit_cli.specs.Steps.{IsUnread, IsUnlaid}
 
 -- ---- where a run begins ----
 

@@ -1,17 +1,16 @@
 -- What `trim` comes to.
 use Rattle.std.specs.Prelude.{◌≡◌, ℕ, ◌+◌, List, [], ◌∷◌, length, sum_by, Some}
 use Rattle.std.specs.List.{AllZip}
-use Rattle.clause_model.specs.Literals.{codes_of}
-use Rattle.lrat_check.specs.Trimmed.{IsTrimmed}
+use Rattle.clause_model.specs.Clauses.{codes_of}
+use Rattle.lrat_check.specs.Text.{IsTrimmed}
 use Rattle.rule_table.specs.Header.{Header}
 use Rattle.rule_table.specs.Table.{Rule, Family, Table}
 use Rattle.rule_table.specs.Text.{text_of}
-use Rattle.table_audit.specs.Sides.{formula_of}
+use Rattle.table_audit.specs.Shorter.{formula_of}
 use Rattle.table_audit.specs.Families.{entry_at, raised_formula}
 use Rattle.command_runs.specs.Plans.{Outcome, Refuses, Does}
 use Rattle.audit_cli.specs.declared.refusal.Refusal.{Refusal}
-use Rattle.audit_cli.specs.Printed.{refusal_line, trimmed_line}
-use Rattle.audit_cli.specs.Steps.{IsUnaudited, IsAudited}
+use Rattle.audit_cli.specs.Printed.{refusal_line, trimmed_line, IsUnaudited, IsAudited}
 
 -- an entry has a proof without what it doesn't need, and is else the same
 pub record IsTrimmedRule (h : Header) (e trimmed : Rule) : Type 0 where

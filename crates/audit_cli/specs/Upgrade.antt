@@ -6,8 +6,7 @@ use Rattle.table_learn.specs.Learnt.{text_length, text_limit}
 use Rattle.command_runs.specs.Plans.{Outcome, Refuses, Does}
 use Rattle.audit_cli.specs.declared.refusal.Refusal.{Refusal}
 use Rattle.audit_cli.specs.declared.refusal.Refusal.TheVariants as refusal
-use Rattle.audit_cli.specs.Printed.{refusal_line, entries_line}
-use Rattle.audit_cli.specs.Steps.{IsUnaudited, IsAudited}
+use Rattle.audit_cli.specs.Printed.{refusal_line, entries_line, IsUnaudited, IsAudited}
 use Rattle.audit_cli.specs.Tables.{opens_of}
 
 -- the table in version 2, or as it is where its version is a later one

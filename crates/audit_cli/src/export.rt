@@ -1,13 +1,13 @@
 //! The command `export`: the formula of an entry or a family of a table, and its proof.
 ghost use Rattle.std.specs.Prelude.{◌≡◌, ◌<◌, ℕ, List, IfOk, Ok, length, map};
-ghost use Rattle.lrat_check.specs.Content.{content_of};
+ghost use Rattle.lrat_check.specs.Text.{content_of};
 ghost use Rattle.rule_table.specs.Refused.{IsText};
 ghost use Rattle.rule_table.specs.Views.{family_of, header_in, rule_of, table_of};
 ghost use Rattle.table_audit.specs.declared.errors.EntryFault.TheVariants.{Sides};
 ghost use Rattle.table_audit.specs.declared.errors.FamilyKind.TheVariants.{Symbol};
 ghost use Rattle.table_audit.specs.Canonical.{HasFormula};
 ghost use Rattle.table_audit.specs.Families.{raised_formula, IsRaisable};
-ghost use Rattle.table_audit.specs.Sides.{formula_of};
+ghost use Rattle.table_audit.specs.Shorter.{formula_of};
 ghost use Rattle.command_runs.specs.Outcomes.{outcome_view};
 ghost use Rattle.command_runs.specs.Plans.{Refuses};
 ghost use Rattle.audit_cli.specs.Printed.{refusal_line};

@@ -1,8 +1,7 @@
 //! The command `generalise`: an accepted table is kept with a family more, that of an entry for each value of a number.
 ghost use Rattle.std.specs.Prelude.{◌≡◌, ◌+◌, ◌++◌, ◌∷◌, [], List, IfOk, length, map};
 ghost use Rattle.std.specs.Result.{result_map_both};
-ghost use Rattle.rule_table.specs.Table.{Table as Rules, Family as Raised};
-ghost use Rattle.rule_table.specs.Valid.{IsTable};
+ghost use Rattle.rule_table.specs.Table.{Table as Rules, Family as Raised, IsTable};
 ghost use Rattle.rule_table.specs.Views.{family_of, table_of};
 ghost use Rattle.command_runs.specs.Outcomes.{outcome_view};
 ghost use Rattle.audit_cli.specs.Printed.{families_line};

@@ -1,7 +1,7 @@
 //! The command `learn`: the table that is learnt from the windows of a listing, by the costs of a second text where one is named.
 ghost use Rattle.std.specs.Prelude.{◌≡◌, ◌≤◌, IfOk};
 ghost use Rattle.command_runs.specs.Outcomes.{outcome_view};
-ghost use Rattle.rule_table.specs.Valid.{IsTable};
+ghost use Rattle.rule_table.specs.Table.{IsTable};
 ghost use Rattle.rule_table.specs.Views.{table_of};
 ghost use Rattle.table_learn.specs.Given.{settings_of, AreInLimits};
 ghost use Rattle.table_learn.specs.Learnt.{text_length, text_limit};

@@ -1,9 +1,8 @@
 //! A family of an entry for each value of a number: the solver's proof of it, or what stands against it.
 ghost use Rattle.std.specs.Prelude.{◌≡◌, ◌<◌, ◌≤◌, ◌+◌, ◌*◌, ◌^◌, ◌↔◌, All, Err, IfErr, IfOk, OnOk, length, map};
 ghost use Rattle.cnf_gates.specs.Meaning.{IsModel};
-ghost use Rattle.lrat_check.specs.Content.{content_of};
-ghost use Rattle.lrat_check.specs.Text.{IsLine};
-ghost use Rattle.rule_table.specs.Valid.{IsTable};
+ghost use Rattle.lrat_check.specs.Text.{content_of, IsLine};
+ghost use Rattle.rule_table.specs.Table.{IsTable};
 ghost use Rattle.rule_table.specs.Views.{family_of, header_in, rule_of, table_of};
 ghost use Rattle.cdcl_core.specs.Solved.{VerdictOf};
 ghost use Rattle.table_audit.specs.Acceptance.{IsAccepted};

@@ -3,11 +3,11 @@
 ghost use Rattle.std.specs.Prelude.{◌≡◌, ◌≤◌, ◌%◌, ◌++◌, ℕ, List, IfOk, length, map};
 ghost use Rattle.std.specs.Result.{result_map_both};
 ghost use Rattle.thumb_model.specs.Layout.{Layable};
-ghost use Rattle.thumb_model.specs.ReplacedLines.{is_op};
+ghost use Rattle.thumb_model.specs.Replaced.{is_op};
 ghost use Rattle.listing_parser.specs.Parsing.{IsListing, text_of_lines};
 ghost use Rattle.listing_parser.specs.Views.{line_view};
 ghost use Rattle.rule_table.specs.Refused.{IsText};
-ghost use Rattle.rule_table.specs.Valid.{IsTable};
+ghost use Rattle.rule_table.specs.Table.{IsTable};
 ghost use Rattle.rule_table.specs.Views.{table_of};
 ghost use Rattle.audit_cli.specs.Printed.{unlaid_refusal, image_line, learnt_line, report_of};
 ghost use Rattle.label_layout.specs.Refusals.{fault_of};

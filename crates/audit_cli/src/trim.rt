@@ -1,13 +1,13 @@
 //! The command `trim`: an accepted table is kept with proofs from which all is gone that they don't need.
 ghost use Rattle.std.specs.Prelude.{◌≡◌, ◌<◌, ◌≤◌, ◌+◌, ◌^◌, All, IfOk, map, sum_by, length};
 ghost use Rattle.std.specs.List.{AllZip};
-ghost use Rattle.clause_model.specs.Literals.{codes_of};
+ghost use Rattle.clause_model.specs.Clauses.{codes_of};
 ghost use Rattle.lrat_check.specs.Runs.{IsRefutation};
 ghost use Rattle.rule_table.specs.Table.{Rule, Family as Raised};
 ghost use Rattle.rule_table.specs.Views.{family_of, header_in, rule_of, table_of};
 ghost use Rattle.table_audit.specs.Acceptance.{IsAccepted};
 ghost use Rattle.table_audit.specs.Canonical.{HasFormula};
-ghost use Rattle.table_audit.specs.Sides.{formula_of};
+ghost use Rattle.table_audit.specs.Shorter.{formula_of};
 ghost use Rattle.command_runs.specs.Outcomes.{outcome_view};
 ghost use Rattle.audit_cli.specs.Ready.{IsRaised};
 ghost use Rattle.audit_cli.specs.Trim.{IsTrimmedRule, IsTrimmedFamily, IsTrimmedTable, IsTrimOf, Trims, lines_in, trimmed_outcome};

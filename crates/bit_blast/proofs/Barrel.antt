@@ -16,7 +16,7 @@ use Rattle.cnf_gates.specs.Growth.{BitBelow, AllBelow, Ready}
 use Rattle.cnf_gates.proofs.Giving.{or_gives, ite_gives, later, all_later}
 use Rattle.bit_blast.specs.Words.{bit_of, filled, fill, moved, moved_out}
 use Rattle.bit_blast.specs.Circuits.{choose_each, any_of, Shifted, stage_of, stages_from, shift_by, rotations_from, rotate_by}
-use Rattle.bit_blast.specs.Values.{number_of}
+use Rattle.bit_blast.specs.Exactness.{number_of}
 use Rattle.bit_blast.proofs.Extends.{or_extends, ite_extends}
 use Rattle.bit_blast.proofs.Steps.{Goes, Goes-none, Goes-gives, Goes-map, Goes-then, WordGives}
 use Rattle.bit_blast.proofs.Numbers.{number_lt, number_at, number_of-take, AllBelow-take, bit_below}

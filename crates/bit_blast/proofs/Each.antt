@@ -14,7 +14,7 @@ use Rattle.cnf_gates.proofs.Tables.{and_true, or_false}
 use Rattle.bit_blast.specs.declared.circuits.Connective.{Connective}
 use Rattle.bit_blast.specs.declared.circuits.Connective.TheVariants.{And, Or, Xor}
 use Rattle.bit_blast.specs.Circuits.{connected, each_of, choose_each, none_of, any_of}
-use Rattle.bit_blast.specs.Values.{number_of}
+use Rattle.bit_blast.specs.Exactness.{number_of}
 use Rattle.bit_blast.proofs.Extends.{Extends, and_extends, or_extends, xor_extends, ite_extends}
 use Rattle.bit_blast.proofs.Steps.{Goes-none, Goes-gives, Goes-map, Goes-then, BitGives, WordGives}
 use Rattle.bit_blast.proofs.Numbers.{from_bool-lt}

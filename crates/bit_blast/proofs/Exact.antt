@@ -2,17 +2,15 @@
 use Rattle.std.proofs.Common.{◌≡◌, ℕ, ◌+◌, ◌-◌, ◌*◌, ◌^◌, ◌<◌, ◌≤◌, ◌↔◌, List, [], ◌∷◌, ◌++◌, Bool, true, false, ◌||◌, cond, eqb, length, take, refl, sym, ap, ◌∙◌, arith, ⊎_elim, subst, map}
 use Rattle.std.proofs.lemmas.Bool.{cond-true, cond-false, eq-eqb, cases_eq}
 use Rattle.std.proofs.lemmas.List.{length-map}
-use Rattle.clause_model.specs.Literals.{variable_of, is_negative, number_of as number_of_literal}
+use Rattle.clause_model.specs.Clauses.{variable_of, is_negative, number_of as number_of_literal}
 use Rattle.cnf_gates.specs.declared.bit.Bit.{Bit}
 use Rattle.cnf_gates.specs.declared.bit.Bit.TheVariants.{Constant, Signed}
 use Rattle.cnf_gates.specs.Gates.{Built, xor_of, differ, or_clause_of, literals, has_true, has_pair, always_true, distinct}
 use Rattle.cnf_gates.specs.Meaning.{all_true}
 use Rattle.thumb_instr.specs.declared.instr.Instr.{Instr}
 use Rattle.thumb_instr.specs.Items.{has, n_flag, z_flag, c_flag, v_flag}
-use Rattle.thumb_model.specs.Items.{Values}
-use Rattle.thumb_model.specs.Effect.{after_all}
-use Rattle.thumb_model.specs.Sides.{AreOver}
-use Rattle.window_exec.specs.Telling.{Tells}
+use Rattle.thumb_model.specs.Effect.{Values, after_all, AreOver}
+use Rattle.window_exec.specs.State.{Tells}
 use Rattle.bit_blast.specs.declared.slots.Slot.TheVariants.{Plain}
 use Rattle.bit_blast.specs.declared.circuits.Connective.TheVariants.{Xor}
 use Rattle.bit_blast.specs.Slots.{Byte, filled as filled_slot, AreSlotsOver}
@@ -20,8 +18,7 @@ use Rattle.bit_blast.specs.Words.{filled}
 use Rattle.bit_blast.specs.Circuits.{each_of}
 use Rattle.bit_blast.specs.Forming.{Bits, formed_all}
 use Rattle.bit_blast.specs.Differences.{start_bits, start_built, register_differences, flag_difference, differences, sides_from, sides_formula}
-use Rattle.bit_blast.specs.Values.{start_values}
-use Rattle.bit_blast.specs.Exactness.{IsMask, IsMaskOver, SameOver, ModelsTell, TellersAreModels, AreEqual, HasNoModel, EndsInEmpty}
+use Rattle.bit_blast.specs.Exactness.{start_values, IsMask, IsMaskOver, SameOver, ModelsTell, TellersAreModels, AreEqual, HasNoModel, EndsInEmpty}
 use Rattle.bit_blast.proofs.Holes.{plain_over, filled_plain}
 use Rattle.bit_blast.proofs.Moves.{length-filled, number_of-filled, AllBelow-filled}
 use Rattle.bit_blast.proofs.Formed.{run_gives}

@@ -5,10 +5,8 @@ use Rattle.std.proofs.lemmas.List.{length-append, length-map}
 use Rattle.std.specs.Int.{bit_at}
 use Rattle.thumb_instr.proofs.Registers.{same_number}
 use Rattle.thumb_instr.specs.declared.instr.Instr.{Instr}
-use Rattle.thumb_model.specs.Items.{Values, AreWords}
-use Rattle.thumb_model.specs.Effect.{after_all}
-use Rattle.thumb_model.specs.Sides.{AreOver}
-use Rattle.window_exec.specs.Telling.{Tells}
+use Rattle.thumb_model.specs.Effect.{Values, AreWords, after_all, AreOver}
+use Rattle.window_exec.specs.State.{Tells}
 use Rattle.cnf_gates.specs.declared.bit.Bit.{Bit}
 use Rattle.cnf_gates.specs.declared.bit.Bit.TheVariants.{Constant}
 use Rattle.cnf_gates.specs.Gates.{Built}
@@ -19,8 +17,7 @@ use Rattle.bit_blast.specs.declared.slots.Symbol.{Symbol}
 use Rattle.bit_blast.specs.Slots.{Byte, slots, instance}
 use Rattle.bit_blast.specs.Words.{copies, inverted}
 use Rattle.bit_blast.specs.Differences.{variables_from, start_bits, start_built, low_inputs, symbol_bits, symbol_built, at_least, range_built, family_formula}
-use Rattle.bit_blast.specs.Values.{number_of, start_values}
-use Rattle.bit_blast.specs.Exactness.{IsMask, IsMaskOver, SameOver, HasNoModel, value_at, FamilyModelsTell, FamilyTellersAreModels, AreEqualForAll}
+use Rattle.bit_blast.specs.Exactness.{number_of, start_values, IsMask, IsMaskOver, SameOver, HasNoModel, value_at, FamilyModelsTell, FamilyTellersAreModels, AreEqualForAll}
 use Rattle.bit_blast.proofs.Ends.{length-variables_from}
 use Rattle.bit_blast.proofs.Numbers.{number_of-lt, number_of-append, number_of-zeros, number_of-inverted, length-copies, AllBelow-append, AllBelow-copies, AllBelow-inverted}
 use Rattle.bit_blast.proofs.Formed.{AreOf, AreOf-more}

@@ -19,10 +19,8 @@ use Rattle.thumb_instr.specs.declared.operation.Operation.TheVariants as operati
 use Rattle.thumb_instr.specs.declared.operation.ByteOperation.{ByteOperation}
 use Rattle.thumb_instr.specs.declared.operation.ByteOperation.TheVariants as byte
 use Rattle.thumb_instr.proofs.RenamingLemmas.{named_low}
-use Rattle.thumb_instr.specs.Window.{is_in_window}
-use Rattle.thumb_model.specs.Items.{Values, assigned, n_flag, z_flag, c_flag, v_flag}
-use Rattle.thumb_model.specs.Effect.{complement, three_sum, product, right_shift, extension_of, reversal_of, outputs, after, after_all}
-use Rattle.thumb_instr.specs.Renaming.{named, AreBelow}
+use Rattle.thumb_instr.specs.Window.{is_in_window, named, AreBelow}
+use Rattle.thumb_model.specs.Effect.{Values, assigned, n_flag, z_flag, c_flag, v_flag, complement, three_sum, product, right_shift, extension_of, reversal_of, outputs, after, after_all}
 use Rattle.cnf_gates.specs.declared.bit.Bit.{Bit}
 use Rattle.cnf_gates.specs.declared.bit.Bit.TheVariants.{Constant}
 use Rattle.cnf_gates.specs.Gates.{Built}
@@ -37,7 +35,7 @@ use Rattle.bit_blast.specs.Slots.{Byte, filled as filled_slot, target_of, slot_t
 use Rattle.bit_blast.specs.Words.{bit_of, filled, constant, inverted, moved, moved_out, extended, turned}
 use Rattle.bit_blast.specs.Circuits.{each_of, none_of, add_of, product_from, Shifted, shift_by, rotate_by}
 use Rattle.bit_blast.specs.Forming.{Bits, Outcome, word, result_of, summed, joined_of, shifted_of, rotated_of, multiplied_of, unflagged, flags_alone, three_of, two_of, byte_of, number_shift, outcome_of, slot_outcome, written, formed, formed_all}
-use Rattle.bit_blast.specs.Values.{number_of, values_at}
+use Rattle.bit_blast.specs.Exactness.{number_of, values_at}
 use Rattle.bit_blast.proofs.Steps.{Goes, Goes-none, Goes-map, Goes-then, Goes-within, WordGives}
 use Rattle.bit_blast.proofs.Numbers.{number_at, complement_is, length-inverted, AllBelow-inverted, bit_below}
 use Rattle.bit_blast.proofs.Each.{of_numbers, each_gives, none_gives}

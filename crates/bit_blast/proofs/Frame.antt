@@ -7,11 +7,8 @@ use Rattle.std.proofs.lemmas.Bool.{and_parts, ltb-true}
 use Rattle.std.proofs.Common.{ltb}
 use Rattle.word_bits.specs.declared.Shift.TheVariants as shift
 use Rattle.word_bits.specs.Word.{shift_of}
-use Rattle.thumb_instr.specs.Window.{is_in_window}
-use Rattle.thumb_model.specs.Items.{Values, assigned, written_to, c_flag}
-use Rattle.thumb_model.specs.Effect.{result_outputs, shift_outputs, sum_outputs, three_sum, right_shift, extension_of, reversal_of, two_outputs, byte_outputs, outputs, after, after_all}
-use Rattle.thumb_instr.specs.Renaming.{named, AreBelow}
-use Rattle.thumb_model.specs.Sides.{AreOver}
+use Rattle.thumb_instr.specs.Window.{is_in_window, named, AreBelow}
+use Rattle.thumb_model.specs.Effect.{Values, assigned, written_to, c_flag, result_outputs, shift_outputs, sum_outputs, three_sum, right_shift, extension_of, reversal_of, two_outputs, byte_outputs, outputs, after, after_all, AreOver}
 use Rattle.bit_blast.specs.Exactness.{SameOver}
 
 module _ (k : ℕ) (v w : Values) (same : SameOver k v w) where

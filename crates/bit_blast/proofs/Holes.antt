@@ -4,10 +4,9 @@ use Rattle.std.proofs.lemmas.Bool.{eqb-true}
 use Rattle.std.proofs.lemmas.List.{length-map}
 use Rattle.thumb_instr.specs.declared.instr.Instr.{Instr}
 use Rattle.thumb_instr.specs.declared.instr.Instr.TheVariants as instr
-use Rattle.thumb_instr.specs.Renaming.{named, AreBelow}
-use Rattle.thumb_instr.specs.Window.{is_in_window}
+use Rattle.thumb_instr.specs.Window.{named, AreBelow, is_in_window}
 use Rattle.thumb_instr.proofs.Registers.{same_number}
-use Rattle.thumb_model.specs.Sides.{AreOver}
+use Rattle.thumb_model.specs.Effect.{AreOver}
 use Rattle.bit_blast.specs.declared.slots.Slot.{Slot}
 use Rattle.bit_blast.specs.declared.slots.Slot.TheVariants.{Plain, Hole}
 use Rattle.bit_blast.specs.Slots.{Byte, filled, slot, slots, instance, IsSlotOver, AreSlotsOver}

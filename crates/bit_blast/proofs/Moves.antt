@@ -19,7 +19,7 @@ use Rattle.cnf_gates.specs.declared.bit.Bit.TheVariants.{Constant}
 use Rattle.cnf_gates.specs.Meaning.{bit_value}
 use Rattle.cnf_gates.specs.Growth.{BitBelow, AllBelow}
 use Rattle.bit_blast.specs.Words.{bit_of, copies, filled, constant, fill, moved, moved_out, extended, byte_bits, turned}
-use Rattle.bit_blast.specs.Values.{number_of}
+use Rattle.bit_blast.specs.Exactness.{number_of}
 use Rattle.bit_blast.proofs.Numbers.{number_of-append, number_of-take, number_of-drop, number_of-copies, number_of-zeros, number_of-number_bits, number_at, number_lt, length-copies, length-number_bits, AllBelow-append, AllBelow-copies, AllBelow-take, AllBelow-drop, AllBelow-number_bits, bit_below}
 
 -- ---- whole words of one bit, and numbers

@@ -12,7 +12,7 @@ use Rattle.cnf_gates.proofs.Values.{bit_value-not_of}
 use Rattle.cnf_gates.proofs.Giving.{BitBelow-not_of}
 use Rattle.thumb_model.specs.Effect.{complement}
 use Rattle.bit_blast.specs.Words.{bit_of, copies, number_bits, inverted}
-use Rattle.bit_blast.specs.Values.{number_of}
+use Rattle.bit_blast.specs.Exactness.{number_of}
 
 -- ---- numbers of bits
 

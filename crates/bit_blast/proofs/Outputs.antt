@@ -14,8 +14,7 @@ use Rattle.thumb_instr.specs.declared.operation.ByteOperation.{ByteOperation}
 use Rattle.thumb_instr.specs.declared.operation.ByteOperation.TheVariants as byte
 use Rattle.thumb_instr.specs.Window.{is_in_window}
 use Rattle.thumb_model.proofs.Window.{low_written}
-use Rattle.thumb_model.specs.Items.{Values, assigned, n_flag, z_flag, c_flag, v_flag}
-use Rattle.thumb_model.specs.Effect.{result_flags, sum_flags, result_outputs, shift_outputs, complement, three_sum, product, right_shift, extension_of, reversal_of, two_outputs, byte_outputs, outputs}
+use Rattle.thumb_model.specs.Effect.{Values, assigned, n_flag, z_flag, c_flag, v_flag, result_flags, sum_flags, result_outputs, shift_outputs, complement, three_sum, product, right_shift, extension_of, reversal_of, two_outputs, byte_outputs, outputs}
 use Rattle.bit_blast.specs.Slots.{target_of}
 
 -- the value of a target and the flags

@@ -14,7 +14,7 @@ use Rattle.cnf_gates.proofs.Giving.{all_later}
 use Rattle.bit_blast.specs.declared.circuits.Connective.TheVariants.{And}
 use Rattle.bit_blast.specs.Words.{filled, moved}
 use Rattle.bit_blast.specs.Circuits.{each_of, add_of, product_from}
-use Rattle.bit_blast.specs.Values.{number_of}
+use Rattle.bit_blast.specs.Exactness.{number_of}
 use Rattle.bit_blast.proofs.Steps.{Goes-none, Goes-then, WordGives}
 use Rattle.bit_blast.proofs.Numbers.{number_lt}
 use Rattle.bit_blast.proofs.Each.{each_gives}

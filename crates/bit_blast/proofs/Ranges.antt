@@ -13,7 +13,7 @@ use Rattle.cnf_gates.proofs.Tables.{or_false, and_true, and_false}
 use Rattle.thumb_instr.specs.Items.{has}
 use Rattle.bit_blast.specs.Words.{bit_of}
 use Rattle.bit_blast.specs.Differences.{at_least_from}
-use Rattle.bit_blast.specs.Values.{number_of}
+use Rattle.bit_blast.specs.Exactness.{number_of}
 use Rattle.bit_blast.proofs.Numbers.{number_at, bit_below, AllBelow-append}
 use Rattle.bit_blast.proofs.Holes.{by_test}
 use Rattle.bit_blast.proofs.Telling.{any-append}

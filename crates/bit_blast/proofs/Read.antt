@@ -7,10 +7,9 @@ use Rattle.cnf_gates.specs.declared.bit.Bit.{Bit}
 use Rattle.cnf_gates.specs.declared.bit.Bit.TheVariants.{Signed}
 use Rattle.window_exec.specs.declared.state.WState.{WState}
 use Rattle.window_exec.specs.State.{values_of}
-use Rattle.bit_blast.specs.Exactness.{SameOver}
+use Rattle.bit_blast.specs.Exactness.{SameOver, number_of, start_values}
 use Rattle.bit_blast.specs.Forming.{word}
 use Rattle.bit_blast.specs.Differences.{variables_from, words_from, input_word, start_bits}
-use Rattle.bit_blast.specs.Values.{number_of, start_values}
 use Rattle.bit_blast.proofs.Numbers.{number_of-append, number_of-lt, from_bool-lt}
 use Rattle.bit_blast.proofs.Ends.{variables_from-more, length-words_from, length-variables_from}
 use Rattle.bit_blast.proofs.Start.{word-words_from, variable_value}

@@ -5,18 +5,17 @@ use Rattle.std.proofs.lemmas.Nat.{pow_pos, shr-shr}
 use Rattle.std.proofs.lemmas.Nat.Bits.{bit_at-lt}
 use Rattle.std.proofs.lemmas.Bool.{cond-true, cond-false, ne_eqb, eq-eqb, lt-ltb, le-ltb, cases_eq}
 use Rattle.std.specs.Int.{from_bool, bit_at}
-use Rattle.clause_model.specs.Literals.{variable_of}
+use Rattle.clause_model.specs.Clauses.{variable_of}
 use Rattle.clause_model.proofs.LiteralLaws.{literal_value-positive}
 use Rattle.cnf_gates.specs.declared.bit.Bit.{Bit}
 use Rattle.cnf_gates.specs.declared.bit.Bit.TheVariants.{Constant, Signed}
 use Rattle.cnf_gates.specs.Meaning.{bit_value}
 use Rattle.cnf_gates.specs.Growth.{BitBelow, AllBelow, Ready}
 use Rattle.cnf_gates.proofs.Giving.{Ready-inputs}
-use Rattle.thumb_model.specs.Items.{Values, AreWords, n_flag, z_flag, c_flag, v_flag}
+use Rattle.thumb_model.specs.Effect.{Values, AreWords, n_flag, z_flag, c_flag, v_flag}
 use Rattle.bit_blast.specs.Forming.{Bits, word}
 use Rattle.bit_blast.specs.Differences.{variables_from, words_from, input_word, start_bits, start_built}
-use Rattle.bit_blast.specs.Values.{number_of, values_at, start_values}
-use Rattle.bit_blast.specs.Exactness.{SameOver}
+use Rattle.bit_blast.specs.Exactness.{number_of, values_at, start_values, SameOver}
 use Rattle.bit_blast.proofs.Ends.{length-variables_from}
 use Rattle.bit_blast.proofs.Numbers.{low_places, number_lt, from_bool-lt}
 use Rattle.bit_blast.proofs.Formed.{AllWords, AreOf, register_value}

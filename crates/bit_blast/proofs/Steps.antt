@@ -5,7 +5,7 @@ use Rattle.cnf_gates.specs.Gates.{Built}
 use Rattle.cnf_gates.specs.Meaning.{bit_value, GatesHold}
 use Rattle.cnf_gates.specs.Growth.{BitBelow, AllBelow, Keeps, Grows, Gives}
 use Rattle.cnf_gates.proofs.Giving.{Keeps-then, Grows-none, Grows-then, Grows-within}
-use Rattle.bit_blast.specs.Values.{number_of}
+use Rattle.bit_blast.specs.Exactness.{number_of}
 use Rattle.bit_blast.proofs.Extends.{Extends, Extends-none, Extends-then}
 use Rattle.std.proofs.Common.{length}
 

@@ -12,7 +12,7 @@ use Rattle.cnf_gates.specs.Meaning.{bit_value, GatesHold}
 use Rattle.cnf_gates.specs.Growth.{BitBelow, AllBelow, Ready}
 use Rattle.cnf_gates.proofs.Giving.{and_gives, or_gives, xor_gives, later, all_later}
 use Rattle.bit_blast.specs.Circuits.{Places, Total, place_of, places_of, add_of}
-use Rattle.bit_blast.specs.Values.{number_of}
+use Rattle.bit_blast.specs.Exactness.{number_of}
 use Rattle.bit_blast.proofs.Extends.{and_extends, or_extends, xor_extends}
 use Rattle.bit_blast.proofs.Steps.{Goes, Goes-none, Goes-gives, Goes-map, Goes-then}
 use Rattle.bit_blast.proofs.Numbers.{from_bool-lt, number_lt, low_places}

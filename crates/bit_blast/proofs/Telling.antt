@@ -11,13 +11,13 @@ use Rattle.cnf_gates.specs.Growth.{BitBelow, AllBelow, Ready}
 use Rattle.cnf_gates.proofs.Giving.{xor_gives, later, all_later}
 use Rattle.cnf_gates.proofs.Tables.{or_assoc, or_false}
 use Rattle.thumb_instr.specs.Items.{has, n_flag, z_flag, c_flag, v_flag}
-use Rattle.thumb_model.specs.Items.{Values}
+use Rattle.thumb_model.specs.Effect.{Values}
 use Rattle.window_exec.proofs.Differences.{either}
 use Rattle.bit_blast.specs.declared.circuits.Connective.TheVariants.{Xor}
 use Rattle.bit_blast.specs.Circuits.{each_of, before_word}
 use Rattle.bit_blast.specs.Forming.{Bits, word}
 use Rattle.bit_blast.specs.Differences.{register_differences, flag_difference, differences}
-use Rattle.bit_blast.specs.Values.{number_of, values_at}
+use Rattle.bit_blast.specs.Exactness.{number_of, values_at}
 use Rattle.bit_blast.proofs.Extends.{xor_extends}
 use Rattle.bit_blast.proofs.Steps.{Goes, Goes-none, Goes-gives, Goes-map, Goes-then, Goes-within}
 use Rattle.bit_blast.proofs.Numbers.{AllBelow-append}

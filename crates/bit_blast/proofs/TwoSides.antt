@@ -10,16 +10,13 @@ use Rattle.cnf_gates.proofs.Chosen.{all_true-or_clause_of}
 use Rattle.cnf_gates.proofs.Order.{extended, extended-below, GatesHold-extended}
 use Rattle.thumb_instr.specs.declared.instr.Instr.{Instr}
 use Rattle.thumb_instr.specs.Items.{has}
-use Rattle.thumb_model.specs.Items.{Values}
-use Rattle.thumb_model.specs.Effect.{after_all}
-use Rattle.thumb_model.specs.Sides.{AreOver}
-use Rattle.window_exec.specs.Telling.{Tells}
+use Rattle.thumb_model.specs.Effect.{Values, after_all, AreOver}
+use Rattle.window_exec.specs.State.{Tells}
 use Rattle.bit_blast.specs.declared.slots.Slot.{Slot}
 use Rattle.bit_blast.specs.Slots.{Byte, filled, AreSlotsOver}
 use Rattle.bit_blast.specs.Forming.{Bits, formed_all}
 use Rattle.bit_blast.specs.Differences.{start_bits, differences, sides_from, formula_from}
-use Rattle.bit_blast.specs.Values.{number_of, values_at, start_values}
-use Rattle.bit_blast.specs.Exactness.{IsMask, IsMaskOver, SameOver}
+use Rattle.bit_blast.specs.Exactness.{number_of, values_at, start_values, IsMask, IsMaskOver, SameOver}
 use Rattle.bit_blast.proofs.Ends.{length-words_from}
 use Rattle.bit_blast.proofs.Extends.{Extends, Extends-then}
 use Rattle.bit_blast.proofs.Holes.{filled_over}

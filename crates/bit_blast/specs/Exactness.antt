@@ -1,16 +1,40 @@
--- What a formula's models say of the two sides.
-use Rattle.std.specs.Prelude.{◌≡◌, ◌<◌, ◌≤◌, ℕ, Bool, true, List, [], ◌∷◌, ◌++◌, ◌⊎◌, ℤ}
+-- What assignments say of states, and that models are the states that tell.
+use Rattle.std.specs.Prelude.{ℕ, ◌+◌, ◌*◌, ◌==◌, nat_lt, Bool, List, [], ◌∷◌, if◌then◌else◌, ◌≡◌, ◌<◌, ◌≤◌, true, ◌++◌, ◌⊎◌, ℤ}
+use Rattle.std.specs.Int.{from_bool}
+use Rattle.cnf_gates.specs.declared.bit.Bit.{Bit}
+use Rattle.cnf_gates.specs.Meaning.{bit_value, all_true}
+use Rattle.thumb_model.specs.Effect.{Values, n_flag, z_flag, c_flag, v_flag, AreWords, after_all}
+use Rattle.bit_blast.specs.Forming.{Bits, word}
+use Rattle.bit_blast.specs.Differences.{start_bits, symbol_bits}
 use Rattle.thumb_instr.specs.declared.instr.Instr.{Instr}
 use Rattle.thumb_instr.specs.Items.{has, is_in_masks}
-use Rattle.thumb_model.specs.Items.{Values, AreWords}
-use Rattle.thumb_model.specs.Effect.{after_all}
-use Rattle.window_exec.specs.Telling.{Tells}
+use Rattle.window_exec.specs.State.{Tells}
 use Rattle.cnf_gates.specs.Cnf.{Cnf}
-use Rattle.cnf_gates.specs.Meaning.{all_true}
 use Rattle.bit_blast.specs.declared.slots.Symbol.{Symbol}
 use Rattle.bit_blast.specs.Slots.{Byte, IsValue, instance}
-use Rattle.bit_blast.specs.Differences.{symbol_bits}
-use Rattle.bit_blast.specs.Values.{number_of, start_values}
+
+-- What words and bits of registers and flags are under truth values for the variables.
+
+-- the number of a word's bits, the lowest first
+abbrev pub number_of : (ℕ → Bool) → List Bit → ℕ
+number_of m [] = 0
+number_of m (x ∷ xs) = from_bool (bit_value m x) + 2 * number_of m xs
+
+-- what each item holds
+abbrev pub values_at : (ℕ → Bool) → Bits → Values
+values_at m s = λ x.
+    if x == n_flag then from_bool (bit_value m s.n)
+    else if x == z_flag then from_bool (bit_value m s.z)
+    else if x == c_flag then from_bool (bit_value m s.c)
+    else if x == v_flag then from_bool (bit_value m s.v)
+    else if nat_lt x 15 then number_of m (word s.r x)
+    else 0
+
+-- the state that truth values give: registers from k on are 0
+abbrev pub start_values : (ℕ → Bool) → ℕ → Values
+start_values m k = values_at m (start_bits k)
+
+-- What a formula's models say of the two sides.
 
 -- a mask's items are r0 to r3 and the flags
 abbrev pub IsMask : ℕ → Type 0

@@ -1,7 +1,6 @@
-pub mod Words
-pub mod Slots
 pub mod Circuits
-pub mod Forming
 pub mod Differences
-pub mod Values
 pub mod Exactness
+pub mod Forming
+pub mod Slots
+pub mod Words

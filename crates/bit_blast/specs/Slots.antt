@@ -4,8 +4,7 @@ use Rattle.thumb_instr.specs.declared.instr.Instr.{Instr}
 use Rattle.thumb_instr.specs.declared.instr.Instr.TheVariants as instr
 use Rattle.thumb_instr.specs.declared.within.Within.{Within}
 use Rattle.thumb_instr.specs.Parts.{parts_of}
-use Rattle.thumb_instr.specs.Window.{is_in_window}
-use Rattle.thumb_instr.specs.Renaming.{named, AreBelow}
+use Rattle.thumb_instr.specs.Window.{is_in_window, named, AreBelow}
 use Rattle.bit_blast.specs.declared.slots.Slot.{Slot}
 use Rattle.bit_blast.specs.declared.slots.Slot.TheVariants.{Plain, Hole}
 use Rattle.bit_blast.specs.declared.slots.Symbol.{Symbol}

@@ -1,7 +1,6 @@
 //! The state of a window as gates see it: what an instruction is formed from, and what a whole sequence leaves.
 ghost use Rattle.std.specs.Prelude.{◌≡◌, ◌<◌, ◌≤◌, ◌+◌, IfOk, length, true};
-ghost use Rattle.thumb_instr.specs.Window.{is_in_window};
-ghost use Rattle.thumb_instr.specs.Renaming.{named, AreBelow};
+ghost use Rattle.thumb_instr.specs.Window.{is_in_window, named, AreBelow};
 ghost use Rattle.bit_blast.specs.Slots.{IsSlotOver, AreSlotsOver};
 ghost use Rattle.bit_blast.specs.Forming.{Bits, word, outcome_of, slot_outcome, written, formed, formed_all};
 ghost use Rattle.bit_blast.specs.Differences.{input_word, low_inputs, start_bits, start_built};

@@ -2,17 +2,14 @@
 
 ghost use Rattle.std.specs.Prelude.{◌≡◌, ◌≤◌, ◌<◌, ℕ, Bool, true, List, length, map};
 ghost use Rattle.thumb_instr.specs.declared.instr.Instr.{Instr};
-ghost use Rattle.thumb_instr.specs.Window.{is_in_window};
-ghost use Rattle.thumb_instr.specs.Renaming.{named};
-ghost use Rattle.thumb_model.specs.Items.{Values};
-ghost use Rattle.thumb_model.specs.Sides.{AreOver};
-ghost use Rattle.window_exec.specs.Telling.{Tells};
+ghost use Rattle.thumb_instr.specs.Window.{is_in_window, named};
+ghost use Rattle.thumb_model.specs.Effect.{Values, AreOver};
+ghost use Rattle.window_exec.specs.State.{Tells};
 ghost use Rattle.cnf_gates.specs.Meaning.{all_true};
 ghost use Rattle.bit_blast.specs.declared.slots.Symbol.{Symbol};
 ghost use Rattle.bit_blast.specs.Slots.{Byte, instance};
 ghost use Rattle.bit_blast.specs.Differences.{sides_formula, family_formula};
-ghost use Rattle.bit_blast.specs.Values.{start_values};
-ghost use Rattle.bit_blast.specs.Exactness.{IsMask, IsMaskOver, SameOver, EndsInEmpty, value_at};
+ghost use Rattle.bit_blast.specs.Exactness.{start_values, IsMask, IsMaskOver, SameOver, EndsInEmpty, value_at};
 
 /// The formula of two sequences of at most five instructions has fewer than 200,000 variables, so no limit is met.
 pub fn ten_instructions_need_few_variables()

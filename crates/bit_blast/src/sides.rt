@@ -1,7 +1,7 @@
 //! The formula of a pair of sides: both formed from the same inputs, and one clause that some item of the mask differs. Sides with holes have the bits of
 //! a symbol's value among the inputs, and clauses that it lies in its range.
 ghost use Rattle.std.specs.Prelude.{◌≡◌, ◌↔◌, ◌+◌, ◌*◌, IfOk, OnOk, length, take};
-ghost use Rattle.thumb_model.specs.Sides.{AreOver};
+ghost use Rattle.thumb_model.specs.Effect.{AreOver};
 ghost use Rattle.bit_blast.specs.declared.circuits.Connective.TheVariants.{Xor};
 ghost use Rattle.bit_blast.specs.Circuits.{each_of, before_word};
 ghost use Rattle.bit_blast.specs.Slots.{AreSlotsOver};

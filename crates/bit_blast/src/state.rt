@@ -5,8 +5,7 @@ ghost use Rattle.std.specs.Int.{bit_at, from_bool};
 ghost use Rattle.cnf_gates.specs.Meaning.{assigned};
 ghost use Rattle.window_exec.specs.State.{values_of};
 ghost use Rattle.bit_blast.specs.Differences.{variables_from};
-ghost use Rattle.bit_blast.specs.Values.{number_of, start_values};
-ghost use Rattle.bit_blast.specs.Exactness.{SameOver, value_at};
+ghost use Rattle.bit_blast.specs.Exactness.{number_of, start_values, SameOver, value_at};
 
 use cnf_gates::Model;
 use window_exec::WState;

@@ -6,7 +6,7 @@ use Rattle.std.proofs.lemmas.List.{take_all}
 use Rattle.thumb_instr.specs.declared.instr.Instr.{Instr}
 use Rattle.thumb_instr.specs.Window.{is_in_window}
 use Rattle.thumb_model.specs.Listing.{Place, plain, Label, Line, places_of, labels_from, code_of, is_op_place}
-use Rattle.thumb_model.specs.ReplacedLines.{are_joined_from}
+use Rattle.thumb_model.specs.Replaced.{are_joined_from}
 use Rattle.thumb_model.proofs.Lists.{get_drop, get_take}
 use Rattle.listing_parser.specs.Parsing.{own_line}
 use Rattle.liveness.specs.Live.{Sets, IsLive}

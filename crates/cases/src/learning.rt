@@ -1,7 +1,7 @@
 //! The learner, over a window that is given.
 ghost use Rattle.std.specs.Prelude.{◌≢◌, ◌↔◌, IsTrue};
 ghost use Rattle.rule_table.specs.Views.{table_of};
-ghost use Rattle.rule_table.specs.Valid.{IsTable};
+ghost use Rattle.rule_table.specs.Table.{IsTable};
 
 use crate::rule_part::Given;
 use crate::tables::read;

@@ -1,7 +1,6 @@
 //! Cases of steps: `step HALFWORD R0 R1 R2 R3 NZCV`.
 ghost use Rattle.std.specs.Prelude.{◌≡◌, true, map, IsTrue, IfSome};
-ghost use Rattle.thumb_instr.specs.Window.{is_in_window};
-ghost use Rattle.thumb_instr.specs.Renaming.{named, AreBelow};
+ghost use Rattle.thumb_instr.specs.Window.{is_in_window, named, AreBelow};
 
 use crate::printing::Answer;
 use crate::reading::Arguments;

@@ -1,7 +1,7 @@
 //! Tables: their text, and their audit.
 ghost use Rattle.std.specs.Prelude.{IfSome};
 ghost use Rattle.rule_table.specs.Views.{table_of};
-ghost use Rattle.rule_table.specs.Valid.{IsTable};
+ghost use Rattle.rule_table.specs.Table.{IsTable};
 
 use crate::rule_part::Given;
 use crate::texts::{changed, push_unescaped, tell};

@@ -3,8 +3,7 @@ use Rattle.std.proofs.Common.{◌≡◌, ◌≢◌, ℕ, ◌+◌, ◌<◌, ◌�
 use Rattle.std.specs.Prelude.{All, Any, Contains, slice_get}
 use Rattle.std.proofs.lemmas.List.{map_push, take_at, get_or_push}
 use Rattle.std.proofs.lemmas.List.Elements.{All-push, All-weaker, All-contains_itself, Contains-push, Contains-push_cases, Contains-append_left}
-use Rattle.clause_model.specs.Literals.{negated}
-use Rattle.clause_model.specs.Clauses.{IsFalse, IsUnset, IsUnit, AllFalse, IsConsistent}
+use Rattle.clause_model.specs.Clauses.{negated, IsFalse, IsUnset, IsUnit, AllFalse, IsConsistent}
 use Rattle.clause_arena.specs.Contents.{Clause, Content, HasLiteral, IsWhole, Watches, literals_of, references_of}
 use Rattle.unit_propagation.specs.Watching.{IsWatched, IsReason, IsAdded, IsLater}
 use Rattle.unit_propagation.proofs.Steps.{reason_later, Contains-part}

@@ -3,8 +3,7 @@ use Rattle.std.proofs.Common.{◌≡◌, ℕ, ◌+◌, ◌<◌, List, [], ◌∷
 use Rattle.std.specs.Prelude.{All, Any, Contains, replicate}
 use Rattle.std.proofs.lemmas.List.{take_more}
 use Rattle.std.proofs.lemmas.List.Elements.{All-nil, All-push, All-append, All-contains, All-weaker, All-contains_itself, Contains-push, Contains-append_left}
-use Rattle.clause_model.specs.Literals.{negated}
-use Rattle.clause_model.specs.Clauses.{IsFalse, IsUnset, AllFalse}
+use Rattle.clause_model.specs.Clauses.{negated, IsFalse, IsUnset, AllFalse}
 use Rattle.clause_model.proofs.LiteralLaws.{negated-negated}
 use Rattle.clause_model.proofs.Scans.{Contains-take}
 use Rattle.cdcl_core.specs.Assumed.{CanFalsify, IsAssumed}

@@ -4,9 +4,7 @@ use Rattle.std.specs.Prelude.{All, AllPairs, Any, Contains, slice_get}
 use Rattle.std.proofs.lemmas.Bool.{cases_eq, cases_lt}
 use Rattle.std.proofs.lemmas.List.{take_more, get_or_default, take_all}
 use Rattle.std.proofs.lemmas.List.Elements.{All-nil, All-cons, All-head, All-tail, All-push, All-contains, All-weaker, All-contains_itself, Contains-get_or, Contains-append_left, Contains-append_right, Contains-push}
-use Rattle.clause_model.specs.Literals.{negated}
-use Rattle.clause_model.specs.Clauses.{IsFalse, AllFalse, IsUnit, IsOpen, IsConsistent}
-use Rattle.clause_model.specs.Asserting.{IsClosed}
+use Rattle.clause_model.specs.Clauses.{negated, IsFalse, AllFalse, IsUnit, IsOpen, IsConsistent, IsClosed}
 use Rattle.clause_model.proofs.LiteralLaws.{negated-negated}
 use Rattle.clause_model.proofs.Runs.{Consistent-open}
 use Rattle.clause_model.proofs.Scans.{Contains-take}

@@ -6,9 +6,7 @@ use Rattle.std.proofs.lemmas.Bool.Decides.{nat_tests}
 use Rattle.std.proofs.lemmas.List.{get_or_push, get_or_append_left}
 use Rattle.std.proofs.lemmas.Option.{slice_get_within, slice_get-get_or, get_or_from_slice_get}
 use Rattle.std.proofs.lemmas.List.Elements.{All-nil, All-push, All-contains, All-weaker, Contains-push, Contains-append_left}
-use Rattle.clause_model.specs.Clauses.{IsConsistent, IsOpen}
-use Rattle.clause_model.specs.Asserting.{IsClosed, Frees, IsFreed, IsAsserting}
-use Rattle.clause_model.specs.Propagation.{numbered}
+use Rattle.clause_model.specs.Clauses.{IsConsistent, IsOpen, IsClosed, Frees, IsFreed, IsAsserting, numbered}
 use Rattle.lrat_check.specs.declared.line.Addition.{Addition}
 use Rattle.cdcl_core.specs.Held.{AreNumbered, Covers}
 use Rattle.cdcl_core.specs.Solved.{TidyPropagation, Adds}

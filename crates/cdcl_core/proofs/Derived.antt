@@ -5,8 +5,7 @@ use Rattle.std.proofs.lemmas.Bool.{cases_eq, cases_lt}
 use Rattle.std.proofs.lemmas.List.{length-take, take_at, take-append-drop, get_or_default, get_or-append-add}
 use Rattle.std.proofs.lemmas.Option.{slice_get_within}
 use Rattle.std.proofs.lemmas.List.Elements.{All-map, All-contains, All-weaker, All-contains_itself, Contains-append_right}
-use Rattle.clause_model.specs.Literals.{negated}
-use Rattle.clause_model.specs.Clauses.{IsFalse, IsConsistent}
+use Rattle.clause_model.specs.Clauses.{negated, IsFalse, IsConsistent}
 use Rattle.clause_model.proofs.Asserted.{AllFalse-grown}
 use Rattle.clause_model.proofs.LiteralLaws.{negated-negated}
 use Rattle.clause_model.proofs.Sound.{Contains-negated}

@@ -3,8 +3,7 @@ use Rattle.std.proofs.Common.{◌≡◌, ℕ, ◌≤◌, List, [], ◌++◌, len
 use Rattle.std.specs.Prelude.{All, Any, Contains, replicate}
 use Rattle.std.proofs.lemmas.List.{take_at, take_all, take-take}
 use Rattle.std.proofs.lemmas.List.Elements.{All-nil, All-append, All-contains, All-weaker, Contains-append_right}
-use Rattle.clause_model.specs.Literals.{negated}
-use Rattle.clause_model.specs.Clauses.{IsFalse, AllFalse}
+use Rattle.clause_model.specs.Clauses.{negated, IsFalse, AllFalse}
 use Rattle.clause_model.proofs.Asserted.{AllFalse-grown}
 use Rattle.clause_model.proofs.LiteralLaws.{negated-negated}
 use Rattle.clause_arena.specs.Contents.{Clause, Content, HasLiteral}

@@ -6,9 +6,7 @@ use Rattle.std.proofs.lemmas.Bool.Decides.{nat_tests}
 use Rattle.std.proofs.lemmas.List.{length-take, length-replicate, get_or-take, get_or-append-add, take-append-le, take-take, take_at, take_all, length-map, get_or-map}
 use Rattle.std.proofs.lemmas.List.Elements.{All-head, All-tail, All-map, All-contains}
 use Rattle.std.proofs.lemmas.Option.{slice_get_within}
-use Rattle.clause_model.specs.Literals.{negated}
-use Rattle.clause_model.specs.Clauses.{IsOpen, IsUnit}
-use Rattle.clause_model.specs.Asserting.{IsClosed}
+use Rattle.clause_model.specs.Clauses.{negated, IsOpen, IsUnit, IsClosed}
 use Rattle.clause_arena.specs.Contents.{Clause, Content, HasClause, HasLiteral, IsWhole, literals_of, literals_in, clause_among, dropped_in, references_of}
 use Rattle.unit_propagation.specs.Watching.{IsWatched, IsReason, IsLater, Rule}
 use Rattle.unit_propagation.proofs.Steps.{reason_later, Contains-part, Contains-cases}

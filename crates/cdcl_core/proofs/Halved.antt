@@ -3,9 +3,7 @@ use Rattle.std.proofs.Common.{◌≡◌, ℕ, ◌-◌, ◌<◌, ◌≤◌, List,
 use Rattle.std.specs.Prelude.{All, Contains}
 use Rattle.std.proofs.lemmas.List.{take_all, take-append-drop, length-drop}
 use Rattle.std.proofs.lemmas.List.Elements.{All-nil, All-append, All-contains, All-weaker}
-use Rattle.clause_model.specs.Literals.{negated}
-use Rattle.clause_model.specs.Clauses.{IsFalse, AllFalse, IsConsistent}
-use Rattle.clause_model.specs.Asserting.{IsClosed}
+use Rattle.clause_model.specs.Clauses.{negated, IsFalse, AllFalse, IsConsistent, IsClosed}
 use Rattle.clause_model.proofs.Asserted.{AllFalse-grown}
 use Rattle.clause_model.proofs.LiteralLaws.{negated-negated}
 use Rattle.clause_arena.specs.Contents.{Clause, Content, HasLiteral, IsWhole}

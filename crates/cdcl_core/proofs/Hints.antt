@@ -6,8 +6,7 @@ use Rattle.std.proofs.lemmas.Bool.Decides.{nat_tests}
 use Rattle.std.proofs.lemmas.List.{take_more, get_or_default, length-map, get_or-map}
 use Rattle.std.proofs.lemmas.Option.{slice_get_within, get_or_from_slice_get}
 use Rattle.std.proofs.lemmas.List.Elements.{All-push, All-cons, All-nil, All-contains, All-weaker, All-map, All-contains_itself, Contains-append_left, Contains-append_right, Contains-push, Contains-get_or}
-use Rattle.clause_model.specs.Literals.{negated, HasDistinctVariables}
-use Rattle.clause_model.specs.Clauses.{IsFalse, IsUnit, IsConsistent}
+use Rattle.clause_model.specs.Clauses.{negated, HasDistinctVariables, IsFalse, IsUnit, IsConsistent}
 use Rattle.clause_model.proofs.LiteralLaws.{variables_differ, variable_of-negated}
 use Rattle.clause_model.proofs.Scans.{Contains-take}
 use Rattle.clause_arena.specs.Contents.{Clause, Content, IsWhole, literals_of, literals_in, references_of}

@@ -3,9 +3,7 @@ use Rattle.std.proofs.Common.{◌≡◌, ℕ, ◌<◌, ◌⊎◌, List, [], ◌�
 use Rattle.std.specs.Prelude.{All, Contains}
 use Rattle.std.proofs.lemmas.List.{length-take, get_or-take}
 use Rattle.std.proofs.lemmas.List.Elements.{All-cons, All-contains, All-weaker, All-contains_itself, Contains-get_or}
-use Rattle.clause_model.specs.Literals.{negated}
-use Rattle.clause_model.specs.Clauses.{IsFalse, IsConsistent}
-use Rattle.clause_model.specs.Asserting.{Frees, IsFreed, IsAsserting}
+use Rattle.clause_model.specs.Clauses.{negated, IsFalse, IsConsistent, Frees, IsFreed, IsAsserting}
 use Rattle.clause_model.proofs.Scans.{Contains-take}
 use Rattle.clause_arena.specs.Contents.{Content, HasLiteral}
 use Rattle.cdcl_core.specs.Implied.{clauses_of, Level, level_of, IsGround, IsRefutable}

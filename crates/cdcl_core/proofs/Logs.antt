@@ -4,7 +4,7 @@ use Rattle.std.specs.Prelude.{All, Any, Contains}
 use Rattle.std.proofs.lemmas.Bool.{cases_lt}
 use Rattle.std.proofs.lemmas.List.{length-map, map_push, take-append-le, take_at, get_or_push, get_or_append_left}
 use Rattle.std.proofs.Math.Nat.{mul-le-mul_left, mul-le-mul_right}
-use Rattle.clause_model.specs.Asserting.{IsAsserting}
+use Rattle.clause_model.specs.Clauses.{IsAsserting}
 use Rattle.clause_arena.specs.Contents.{Clause}
 use Rattle.lrat_check.specs.declared.line.Line.{Line}
 use Rattle.lrat_check.specs.declared.line.Line.TheVariants.{Addition as Adding}

@@ -3,8 +3,7 @@ use Rattle.std.proofs.Common.{◌≡◌, ℕ, ◌≤◌, ◌⊎◌, List, [], �
 use Rattle.std.specs.Prelude.{All, Contains}
 use Rattle.std.proofs.lemmas.List.{take_at, get_or_default}
 use Rattle.std.proofs.lemmas.List.Elements.{All-nil, All-contains, All-weaker, All-append, All-contains_itself, Contains-append_left, Contains-append_right}
-use Rattle.clause_model.specs.Clauses.{IsFalse, AllFalse}
-use Rattle.clause_model.specs.Asserting.{IsFreed}
+use Rattle.clause_model.specs.Clauses.{IsFalse, AllFalse, IsFreed}
 use Rattle.clause_arena.specs.Contents.{Content}
 use Rattle.cdcl_core.specs.Implied.{Level, IsGround, IsSettled, IsRefutable}
 use Rattle.cdcl_core.specs.Assumed.{CanFalsify}

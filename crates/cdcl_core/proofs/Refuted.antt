@@ -4,9 +4,7 @@ use Rattle.std.specs.Prelude.{All, Contains, slice_get}
 use Rattle.std.proofs.lemmas.List.{take_all}
 use Rattle.std.proofs.lemmas.List.Elements.{All-push, All-nil, All-contains}
 use Rattle.std.proofs.lemmas.Option.{slice_get-get_or}
-use Rattle.clause_model.specs.Literals.{negated}
-use Rattle.clause_model.specs.Clauses.{IsFalse, AllFalse, IsConsistent}
-use Rattle.clause_model.specs.Asserting.{IsClosed}
+use Rattle.clause_model.specs.Clauses.{negated, IsFalse, AllFalse, IsConsistent, IsClosed}
 use Rattle.clause_model.proofs.Asserted.{AllFalse-grown, unit_true}
 use Rattle.clause_model.proofs.LiteralLaws.{negated-negated}
 use Rattle.clause_model.proofs.Runs.{Consistent-open}

@@ -5,9 +5,7 @@ use Rattle.std.proofs.lemmas.Bool.{cases_eq}
 use Rattle.std.proofs.lemmas.Bool.Decides.{nat_tests}
 use Rattle.std.proofs.lemmas.List.{length-map, get_or-map, take_all, take_at, take-take}
 use Rattle.std.proofs.lemmas.List.Elements.{All-nil, All-cons, All-map, All-push, All-weaker, All-contains, All-contains_itself, Contains-push, Contains-append_left, Contains-append_right, Contains-get_or}
-use Rattle.clause_model.specs.Literals.{negated, variable_of}
-use Rattle.clause_model.specs.Clauses.{IsFalse, IsUnset, IsOpen, IsConsistent}
-use Rattle.clause_model.specs.Asserting.{IsClosed}
+use Rattle.clause_model.specs.Clauses.{negated, variable_of, IsFalse, IsUnset, IsOpen, IsConsistent, IsClosed}
 use Rattle.clause_model.proofs.LiteralLaws.{negated-negated, variables_differ}
 use Rattle.clause_model.proofs.Marks.{Consistent-push, Distinct-push}
 use Rattle.clause_arena.specs.Contents.{Clause, Content, HasClause, HasLiteral, IsWhole, literals_of, literals_in, references_of}

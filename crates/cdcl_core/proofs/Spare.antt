@@ -6,8 +6,7 @@ use Rattle.std.proofs.lemmas.Bool.Decides.{nat_tests}
 use Rattle.std.proofs.lemmas.List.{map_push, get_or_push, get_or_append_left, get_or_default, take-take}
 use Rattle.std.proofs.lemmas.List.Elements.{All-contains, Contains-push_cases, Contains-append_left}
 use Rattle.std.proofs.lemmas.Option.{slice_get_within}
-use Rattle.clause_model.specs.Literals.{negated}
-use Rattle.clause_model.specs.Clauses.{IsFalse, IsUnit, IsConsistent}
+use Rattle.clause_model.specs.Clauses.{negated, IsFalse, IsUnit, IsConsistent}
 use Rattle.clause_arena.specs.Contents.{Clause, Content, HasClause, IsWhole, literals_of, literals_in, clause_among, dropped_in, is_dropped_of, references_of, dropped, with_dropped}
 use Rattle.unit_propagation.specs.Watching.{IsWatched, IsReason, IsAdded, IsLater}
 use Rattle.unit_propagation.proofs.Steps.{Contains-part, Contains-cases}

@@ -8,8 +8,7 @@ use Rattle.std.proofs.lemmas.Bool.Decides.{nat_tests}
 use Rattle.std.proofs.lemmas.List.{take_more, map_push, length-take, length-replicate, length-map, get_or-map, get_or_push, get_or_append_left}
 use Rattle.std.proofs.lemmas.List.Elements.{All-nil, All-cons, All-head, All-tail, All-push, All-weaker, All-contains}
 use Rattle.std.proofs.lemmas.Option.{get_or_from_slice_get, slice_get_within}
-use Rattle.clause_model.specs.Literals.{negated, code_of, codes_of, literal_value}
-use Rattle.clause_model.specs.Clauses.{IsConsistent}
+use Rattle.clause_model.specs.Clauses.{negated, code_of, codes_of, literal_value, IsConsistent}
 use Rattle.clause_arena.specs.Contents.{Content, HasLiteral}
 use Rattle.cnf_gates.specs.Cnf.{Cnf, IsLiteral}
 use Rattle.cnf_gates.specs.Meaning.{number_value, clause_value, all_true, assigned}

@@ -1,8 +1,6 @@
 -- What a conflict teaches.
 use Rattle.std.specs.Prelude.{ℕ, ◌≡◌, ◌≢◌, ◌<◌, ◌≤◌, ◌⊎◌, List, ◌∷◌, All, Contains, Option, Some, None, slice_get, length, take}
-use Rattle.clause_model.specs.Literals.{negated}
-use Rattle.clause_model.specs.Clauses.{IsFalse, IsUnset, IsConsistent, AllFalse}
-use Rattle.clause_model.specs.Asserting.{IsClosed}
+use Rattle.clause_model.specs.Clauses.{negated, IsFalse, IsUnset, IsConsistent, AllFalse, IsClosed}
 use Rattle.clause_arena.specs.Contents.{Content}
 use Rattle.unit_propagation.specs.Watching.{IsReason}
 use Rattle.cdcl_core.specs.Implied.{clauses_of, IsConflict, IsRefutable}

@@ -1,7 +1,6 @@
 -- Literals that are made false.
 use Rattle.std.specs.Prelude.{ℕ, ◌≡◌, ◌<◌, List, ◌++◌, Bool, true, false, All, Contains, Option, None, length, replicate, take}
-use Rattle.clause_model.specs.Literals.{negated}
-use Rattle.clause_model.specs.Clauses.{IsConsistent, AllFalse}
+use Rattle.clause_model.specs.Clauses.{negated, IsConsistent, AllFalse}
 use Rattle.clause_arena.specs.Contents.{Content}
 use Rattle.unit_propagation.specs.Watching.{IsLater, Rule}
 use Rattle.cdcl_core.specs.Implied.{clauses_of, IsRefutable, IsJustified, Level, IsGround}

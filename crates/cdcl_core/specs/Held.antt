@@ -1,6 +1,6 @@
 -- Clauses of which the arena holds those that aren't dropped.
 use Rattle.std.specs.Prelude.{ℕ, ◌≡◌, ◌<◌, ◌⊎◌, List, [], All, Any, Contains, Option, Some, get_or, length}
-use Rattle.clause_model.specs.Propagation.{numbered}
+use Rattle.clause_model.specs.Clauses.{numbered}
 
 -- each clause that is held is live under its number
 abbrev pub AreNumbered : (ℕ → Option (List ℕ)) → List (List ℕ) → List ℕ → Type 0

@@ -1,8 +1,6 @@
 -- What follows from the clauses of an arena by propagation.
 use Rattle.std.specs.Prelude.{ℕ, ◌≡◌, ◌≤◌, ◌⊎◌, true, List, [], All, Any, Contains, Option, Some, None, slice_get, get_or, length, take, map}
-use Rattle.clause_model.specs.Literals.{negated}
-use Rattle.clause_model.specs.Clauses.{IsConsistent, AllFalse}
-use Rattle.clause_model.specs.Asserting.{IsClosed}
+use Rattle.clause_model.specs.Clauses.{negated, IsConsistent, AllFalse, IsClosed}
 use Rattle.clause_arena.specs.Contents.{Clause, Content, HasClause, HasLiteral, literals_of, is_dropped_of, references_of}
 use Rattle.unit_propagation.specs.Watching.{IsAttached, IsKnown, IsWatched, IsReason, Rule}
 

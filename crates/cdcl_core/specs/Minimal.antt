@@ -1,6 +1,6 @@
 -- Literals that a clause can't spare.
 use Rattle.std.specs.Prelude.{ℕ, List, ◌++◌, All}
-use Rattle.clause_model.specs.Asserting.{IsFreed}
+use Rattle.clause_model.specs.Clauses.{IsFreed}
 use Rattle.cdcl_core.specs.Implied.{IsRefutable}
 
 -- with the others these literals are refutable, and without any one of these they are not

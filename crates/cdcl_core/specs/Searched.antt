@@ -1,8 +1,6 @@
 -- What a search begins with, and how it ends.
 use Rattle.std.specs.Prelude.{ℕ, ◌≡◌, ◌≤◌, ◌+◌, ◌*◌, List, [], All, Any, Contains, Option, Some, None, length}
-use Rattle.clause_model.specs.Literals.{codes_of}
-use Rattle.clause_model.specs.Clauses.{IsConsistent}
-use Rattle.clause_model.specs.Asserting.{IsAsserting}
+use Rattle.clause_model.specs.Clauses.{codes_of, IsConsistent, IsAsserting}
 use Rattle.cnf_gates.specs.Cnf.{Cnf}
 use Rattle.clause_arena.specs.Contents.{Content, HasLiteral, references_of}
 use Rattle.unit_propagation.specs.Watching.{IsAttached, IsKnown}

@@ -1,9 +1,6 @@
 -- What the verdicts say.
 use Rattle.std.specs.Prelude.{ℕ, pos, ◌≡◌, ◌<◌, ◌≤◌, ◌+◌, ◌*◌, ◌⊎◌, Bool, List, [], ◌∷◌, ◌++◌, All, Any, Contains, Option, Some, map, length, take, get_or}
-use Rattle.clause_model.specs.Literals.{codes_of, negated}
-use Rattle.clause_model.specs.Clauses.{AllFalse, IsUnit}
-use Rattle.clause_model.specs.Propagation.{numbered}
-use Rattle.clause_model.specs.Asserting.{IsAsserting}
+use Rattle.clause_model.specs.Clauses.{codes_of, negated, AllFalse, IsUnit, numbered, IsAsserting}
 use Rattle.cnf_gates.specs.Cnf.{Cnf}
 use Rattle.cnf_gates.specs.Meaning.{IsModel}
 use Rattle.lrat_check.specs.declared.line.Addition.{Addition}

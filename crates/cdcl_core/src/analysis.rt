@@ -1,8 +1,7 @@
 //! What a conflict teaches: the clause of the first unique implication point.
 
 ghost use Rattle.std.specs.Prelude.{◌≡◌, ◌<◌, ◌⊎◌, OnOk, IfOk, All, Any, Contains, IsTrue, ◌↔◌, ◌-◌};
-ghost use Rattle.clause_model.specs.Literals.{negated};
-ghost use Rattle.clause_model.specs.Clauses.{AllFalse};
+ghost use Rattle.clause_model.specs.Clauses.{negated, AllFalse};
 ghost use Rattle.cdcl_core.specs.Implied.{clauses_of};
 ghost use Rattle.cdcl_core.specs.Analysed.{AtConflict, LearnsFrom, Sees};
 

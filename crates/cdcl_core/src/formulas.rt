@@ -1,7 +1,7 @@
 //! Formulas as the clauses of an arena.
 
 ghost use Rattle.std.specs.Prelude.{◌≡◌, ◌≢◌, ℕ, ◌<◌, ◌≤◌, ◌*◌, OnOk, All, Any, true, false, [], map, length};
-ghost use Rattle.clause_model.specs.Literals.{code_of, codes_of};
+ghost use Rattle.clause_model.specs.Clauses.{code_of, codes_of};
 ghost use Rattle.cnf_gates.specs.Cnf.{IsLiteral};
 ghost use Rattle.cdcl_core.specs.Held.{Covers};
 ghost use Rattle.cdcl_core.specs.Searched.{HasBase};

@@ -4,7 +4,7 @@
 //! literal whose contrary stands in a clause of a hint.
 
 ghost use Rattle.std.specs.Prelude.{◌≡◌, ℕ, ◌+◌, ◌<◌, IfOk, AllPairs, List, length, map, Contains, Option, Some, slice_get, get_or, pos};
-ghost use Rattle.clause_model.specs.Literals.{negated};
+ghost use Rattle.clause_model.specs.Clauses.{negated};
 ghost use Rattle.cdcl_core.specs.Implied.{clauses_of};
 ghost use Rattle.cdcl_core.specs.Held.{AreNumbered};
 ghost use Rattle.cdcl_core.specs.Hinted.{IsDerivable};

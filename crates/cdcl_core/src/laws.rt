@@ -1,7 +1,7 @@
 //! What follows from the definitions, as the contract of a function that does nothing.
 
 ghost use Rattle.std.specs.Prelude.{ℕ, List, Option};
-ghost use Rattle.clause_model.specs.Propagation.{ReverseUnitPropagation};
+ghost use Rattle.clause_model.specs.Clauses.{ReverseUnitPropagation};
 ghost use Rattle.cdcl_core.specs.Solved.{TidyPropagation};
 
 /// Hints with none to spare are accepted by reverse unit propagation.

@@ -1,7 +1,7 @@
 //! The clause that a conflict teaches, without a literal to spare, and the line that certifies it.
 
 ghost use Rattle.std.specs.Prelude.{◌≡◌, ℕ, ◌≤◌, OnOk, IfOk, All, List, length, map, Option, pos};
-ghost use Rattle.clause_model.specs.Asserting.{IsAsserting};
+ghost use Rattle.clause_model.specs.Clauses.{IsAsserting};
 ghost use Rattle.clause_arena.specs.Contents.{references_of, HasLiteral};
 ghost use Rattle.cdcl_core.specs.Implied.{clauses_of, IsGround, level_of};
 ghost use Rattle.cdcl_core.specs.Analysed.{AtConflict};

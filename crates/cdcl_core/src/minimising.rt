@@ -10,8 +10,7 @@
 //! whole half is left out at once.
 
 ghost use Rattle.std.specs.Prelude.{◌≡◌, ℕ, ◌⊎◌, ◌++◌, OnOk, IfOk, All, List, length, take, Contains};
-ghost use Rattle.clause_model.specs.Clauses.{AllFalse};
-ghost use Rattle.clause_model.specs.Asserting.{IsFreed};
+ghost use Rattle.clause_model.specs.Clauses.{AllFalse, IsFreed};
 ghost use Rattle.clause_arena.specs.Contents.{HasLiteral};
 ghost use Rattle.unit_propagation.specs.Watching.{Rule, IsLater};
 ghost use Rattle.cdcl_core.specs.Implied.{clauses_of, IsRefutable, IsGround, IsJustified, Level, level_of};

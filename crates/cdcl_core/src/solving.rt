@@ -1,7 +1,7 @@
 //! The solver.
 
 ghost use Rattle.std.specs.Prelude.{◌≡◌, ◌≢◌, ℕ, ◌+◌, ◌*◌, ◌<◌, ◌≤◌, [], IfOk, All, IsTrue, ◌↔◌, length, Contains};
-ghost use Rattle.clause_model.specs.Literals.{codes_of};
+ghost use Rattle.clause_model.specs.Clauses.{codes_of};
 ghost use Rattle.cnf_gates.specs.Cnf.{IsLiteral};
 ghost use Rattle.cnf_gates.specs.Meaning.{assigned};
 ghost use Rattle.cdcl_core.specs.Searched.{IsLoaded};

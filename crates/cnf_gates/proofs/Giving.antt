@@ -2,7 +2,7 @@
 use Rattle.std.proofs.Common.{◌≡◌, ℕ, suc, ◌+◌, ◌<◌, ◌≤◌, List, [], ◌∷◌, ◌++◌, Option, Some, None, Bool, true, false, not, ◌&&◌, ◌||◌, cond, eqb, ltb, refl, sym, ap, ◌∙◌, arith, ⊎_elim}
 use Rattle.std.proofs.lemmas.Bool.{and_from, lt-ltb, eqb-true, cond-true, cond-false, cases_Bool}
 use Rattle.std.specs.Map.{lookup}
-use Rattle.clause_model.specs.Literals.{negated, variable_of, is_negative, literal_value}
+use Rattle.clause_model.specs.Clauses.{negated, variable_of, is_negative, literal_value}
 use Rattle.clause_model.proofs.LiteralLaws.{literal_value-positive, literal_value-negated, literal_value-is_negative, literal_value-not_negative}
 use Rattle.cnf_gates.specs.declared.bit.Bit.{Bit}
 use Rattle.cnf_gates.specs.declared.bit.Bit.TheVariants.{Constant, Signed}

@@ -2,7 +2,7 @@
 use Rattle.std.proofs.Common.{◌≡◌, ℕ, zero, suc, ◌+◌, ◌%◌, ◌/◌, ◌<◌, ◌≤◌, List, [], ◌∷◌, ◌++◌, Bool, true, false, cond, nat_eq, length, map, slice_index_or, ℤ, pos, negsuc, All, arith, drop, get_or, drop-cons, ap, sym, subst, ◌∙◌}
 use Rattle.std.proofs.lemmas.Int.{ints}
 use Rattle.cnf_gates.specs.Cnf.{IsLiteralOf, AreLiteralsOf, AreClausesOf}
-use Rattle.clause_model.specs.Literals.{negated, variable_of, number_of}
+use Rattle.clause_model.specs.Clauses.{negated, variable_of, number_of}
 use Rattle.clause_model.proofs.LiteralLaws.{variable_of-negated}
 
 -- the number of a literal

@@ -1,5 +1,9 @@
+-- Formulas, and their DIMACS text.
+use Rattle.std.specs.Prelude.{◌≢◌, ℕ, ℤ, pos, ◌+ℤ◌, ◌≤ℤ◌, List, [], ◌∷◌, ◌++◌, length, codes}
+use Rattle.std.specs.Fmt.{decimal, signed_decimal}
+use Rattle.std.specs.List.{flat_map}
+
 -- Formulas in conjunctive normal form.
-use Rattle.std.specs.Prelude.{◌≢◌, ℕ, ℤ, pos, ◌+ℤ◌, ◌≤ℤ◌, List, [], ◌∷◌}
 
 -- a formula: how many variables there are, and the clauses in order, each a list of literals
 pub record Cnf : Type 0 where
@@ -29,3 +33,21 @@ AreClausesOf n (c ∷ cs) = AreLiteralsOf n c × AreClausesOf n cs
 
 abbrev pub AreClauses : List (List ℤ) → Type 0
 AreClauses cs = AreClausesOf 200000 cs
+
+-- The DIMACS text of a formula.
+
+-- a literal and the blank behind it
+abbrev pub literal_text : ℤ → List ℕ
+literal_text z = signed_decimal z ++ 32 ∷ []
+
+-- a clause's line: its literals, and 0
+abbrev pub clause_line : List ℤ → List ℕ
+clause_line literals = flat_map literal_text literals ++ 48 ∷ 10 ∷ []
+
+-- the first line, with the counts of variables and clauses
+abbrev pub header_line : ℕ → ℕ → List ℕ
+header_line variables clauses = codes "p cnf " ++ decimal variables ++ 32 ∷ decimal clauses ++ 10 ∷ []
+
+-- the whole text
+abbrev pub dimacs : Cnf → List ℕ
+dimacs f = header_line f.variables (length f.clauses) ++ flat_map clause_line f.clauses

@@ -2,7 +2,7 @@
 use Rattle.std.specs.Prelude.{◌≡◌, ℕ, suc, ◌+◌, ◌*◌, Bool, true, false, not, ◌&&◌, ◌==◌, nat_lt, if◌then◌else◌, ℤ, List, [], ◌∷◌, ◌++◌, map, filter, Option, Some, None}
 use mathlib.Core.Bool.{beq, ◌||◌}
 use Rattle.std.specs.Map.{lookup}
-use Rattle.clause_model.specs.Literals.{negated, variable_of, is_negative, number_of}
+use Rattle.clause_model.specs.Clauses.{negated, variable_of, is_negative, number_of}
 use Rattle.cnf_gates.specs.Cnf.{Cnf}
 use Rattle.cnf_gates.specs.declared.bit.Bit.{Bit}
 use Rattle.cnf_gates.specs.declared.bit.Bit.TheVariants.{Constant, Signed}

@@ -1,7 +1,7 @@
 -- What stays and what is known as a builder goes on.
 use Rattle.std.specs.Prelude.{◌≡◌, ℕ, suc, ◌+◌, ◌<◌, ◌≤◌, Bool, true, ◌&&◌, nat_lt, List, [], ◌∷◌, Some}
 use Rattle.std.specs.Map.{lookup}
-use Rattle.clause_model.specs.Literals.{variable_of}
+use Rattle.clause_model.specs.Clauses.{variable_of}
 use Rattle.cnf_gates.specs.declared.bit.Bit.{Bit}
 use Rattle.cnf_gates.specs.declared.bit.Bit.TheVariants.{Constant, Signed}
 use Rattle.cnf_gates.specs.declared.bit.Gate.{Gate}

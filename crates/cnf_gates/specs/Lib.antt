@@ -1,5 +1,4 @@
 pub mod Cnf
-pub mod Dimacs
 pub mod Gates
 pub mod Growth
 pub mod Meaning

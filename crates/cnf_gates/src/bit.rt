@@ -77,7 +77,7 @@ pub enum Gate {
 
 impl Signal {
     ghost use Rattle.std.specs.Prelude.{◌*◌};
-    ghost use Rattle.clause_model.specs.Literals.{negated, variable_of, is_negative, number_of};
+    ghost use Rattle.clause_model.specs.Clauses.{negated, variable_of, is_negative, number_of};
     ghost use Rattle.cnf_gates.specs.Cnf.{IsLiteral};
 
     /// The variable, not negated.

@@ -1,5 +1,5 @@
 ghost use Rattle.std.specs.Prelude.{◌≡◌, ◌++◌, IfOk, OnOk, string_bytes};
-ghost use Rattle.cnf_gates.specs.Dimacs.{dimacs, header_line, clause_line};
+ghost use Rattle.cnf_gates.specs.Cnf.{dimacs, header_line, clause_line};
 
 use crate::errors::Memory;
 use crate::formula::Formula;

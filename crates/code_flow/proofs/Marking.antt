@@ -5,7 +5,7 @@ use Rattle.std.proofs.lemmas.Bool.{cases_eq}
 use Rattle.listing_parser.specs.declared.line.Line.{Line as Lines}
 use Rattle.listing_parser.specs.Views.{line_view}
 use Rattle.thumb_instr.proofs.Listed.{one_of_append}
-use Rattle.thumb_model.specs.Items.{one_of}
+use Rattle.thumb_model.specs.Effect.{one_of}
 use Rattle.thumb_model.specs.Listing.{Name, Value, Place, Word, Statement, Nothing, Runs, Words, Aligns, Sets, Label, Line, Code, is_op_place, is_call_instr, labels_at, labels_from, places_in, places_of, label_places, return_places}
 use Rattle.code_flow.specs.Points.{is_true, marked, some_name, is_call_statement, HasPoints}
 

@@ -1,6 +1,6 @@
 //! The places of code points: those of code labels, and the places behind calls.
 ghost use Rattle.std.specs.Prelude.{◌≡◌, ℕ, ◌+◌, ◌<◌, ◌==◌, ◌&&◌, ◌||◌, length, map, slice_get, IfOk};
-ghost use Rattle.thumb_model.specs.Items.{one_of};
+ghost use Rattle.thumb_model.specs.Effect.{one_of};
 ghost use Rattle.thumb_model.specs.Listing.{code_of, is_op_place, label_places, labels_from, places_of, return_places};
 ghost use Rattle.listing_parser.specs.Views.{line_view, statement_view};
 ghost use Rattle.code_flow.specs.Points.{HasPoints, is_call_statement, marked, some_name};

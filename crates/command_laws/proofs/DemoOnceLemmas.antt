@@ -8,7 +8,7 @@ use Rattle.rule_table.specs.Table.{Table}
 use Rattle.table_audit.specs.Soundness.{IsSound}
 use Rattle.table_audit.proofs.Sound.{accepted_sound}
 use Rattle.window_rewrite.specs.Rewriting.{setting}
-use Rattle.thumb_assembler.specs.Following.{IsAssembled}
+use Rattle.thumb_assembler.specs.Runs.{IsAssembled}
 use Rattle.audit_cli.specs.Printed.{demo_line, learnt_line, report_of, image_line}
 use Rattle.audit_cli.specs.Tables.{opens_of}
 use Rattle.audit_cli.specs.Rewrite.{instruction_count}

@@ -3,26 +3,24 @@ use Rattle.std.proofs.Common.{◌≡◌, ◌∙◌, ◌≤◌, ◌⊎◌, inl, i
 use Rattle.std.specs.Prelude.{IsSome}
 use Rattle.thumb_model.specs.Listing.{Line, code_of, place_of}
 use Rattle.thumb_model.specs.Layout.{Layable}
-use Rattle.thumb_model.specs.Sides.{Equal}
+use Rattle.thumb_model.specs.Effect.{Equal}
 use Rattle.bit_blast.specs.Slots.{instance}
 use Rattle.listing_parser.specs.Parsing.{IsListing}
 use Rattle.listing_parser.proofs.MadeLemmas.{one_listing}
 use Rattle.seq_enum.proofs.CostReading as cost
 use Rattle.rule_table.specs.Table.{Rule, Family, Table}
 use Rattle.rule_table.proofs.Progress.{one_table}
-use Rattle.table_audit.specs.Sides.{SidesFit}
+use Rattle.table_audit.specs.Shorter.{SidesFit}
 use Rattle.table_audit.specs.Soundness.{items_in}
-use Rattle.table_learn.specs.Settings.{Settings}
+use Rattle.table_learn.specs.Learnt.{Settings, text_length}
 use Rattle.table_audit.specs.Acceptance.{width_of}
-use Rattle.table_learn.specs.Learnt.{text_length}
 use Rattle.window_rewrite.specs.Rewriting.{setting}
-use Rattle.thumb_assembler.specs.Refusals.{first_flaw}
+use Rattle.thumb_assembler.specs.Bytes.{first_flaw}
 use Rattle.command_line.specs.CommandLine.{Request, rewrite, audit, learn, export, trace, demo, upgrade, trim, tidy, generalise}
 use Rattle.command_runs.specs.Plans.{Outcome, Refuses, Does}
-use Rattle.audit_cli.specs.Printed.{refusal_line, entries_line, families_line}
+use Rattle.audit_cli.specs.Printed.{refusal_line, entries_line, families_line, IsAudited}
 use Rattle.audit_cli.specs.Rewrite.{Destination, Counts, Leaves, alone, pair, no_image, WantsNone, LinesRewrite, Rewrites, Comes}
 use Rattle.audit_cli.specs.Rewrite as rewriting
-use Rattle.audit_cli.specs.Steps.{IsAudited}
 use Rattle.audit_cli.specs.Tables.{Extract}
 use Rattle.table_audit.specs.Families.{entry_at, entry_of, family_at, IsRaisable}
 use Rattle.audit_cli.specs.Tables as tables

@@ -4,12 +4,12 @@ use Rattle.std.specs.Prelude.{ℤ, pos, negsuc, nat_lt, unwrap_or}
 use Rattle.std.proofs.lemmas.Bool.{cases_Bool, eqb-true}
 use Rattle.thumb_instr.specs.declared.instr.Instr.{Instr}
 use Rattle.thumb_instr.specs.declared.instr.Instr.TheVariants as instr
-use Rattle.thumb_instr.specs.Distance.{bytes_of}
+use Rattle.thumb_instr.specs.Items.{bytes_of}
 use Rattle.thumb_instr.proofs.Registers.{same_number, same_distance}
 use Rattle.thumb_table.specs.Table.{width, row_of, code_of}
 use Rattle.thumb_model.specs.Listing.{Name, Mention, Statement, Nothing, Runs, Words, Aligns, Sets, Line}
 use Rattle.thumb_model.specs.Layout.{instr_size, size_at, set_address}
-use Rattle.thumb_model.specs.Laid.{laid}
+use Rattle.thumb_model.specs.Naming.{laid}
 use Rattle.thumb_assembler.specs.Bytes.{Aims, mention_lies, half_bytes, IsInstrBytes, Laid, IsEncoded, IsStatementBytes, AreLineBytes, IsSetBy, AreImage}
 use Rattle.thumb_assembler.proofs.Codes.{eight_bits}
 

@@ -1,7 +1,6 @@
 -- The laid naming fits the lines that are left, and so the given ones where it tells their code points apart.
 use Rattle.thumb_model.specs.Listing.{code_of}
-use Rattle.thumb_model.specs.Naming.{Fits}
-use Rattle.thumb_model.specs.Laid.{laid}
+use Rattle.thumb_model.specs.Naming.{Fits, laid}
 use Rattle.rule_model.proofs.Given.{left_namings_fit}
 use Rattle.listing_laws.proofs.Assembled.{assembled_listings_fit}
 use Rattle.window_rewrite.specs.Rewriting.{setting}

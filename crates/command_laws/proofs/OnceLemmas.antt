@@ -10,8 +10,8 @@ use Rattle.rule_model.proofs.Unique.{is_determined}
 use Rattle.listing_parser.specs.Parsing.{IsListing, text_of_lines}
 use Rattle.listing_parser.proofs.MadeLemmas.{one_listing}
 use Rattle.listing_parser.proofs.VerdictLemmas.{one_verdict}
-use Rattle.label_layout.specs.Faults.{first_fault}
-use Rattle.seq_enum.specs.CostTexts.{IsCostText}
+use Rattle.label_layout.specs.Refusals.{first_fault}
+use Rattle.seq_enum.specs.Costs.{IsCostText}
 use Rattle.seq_enum.proofs.CostReading.{one_meaning}
 use Rattle.seq_enum.proofs.CostReading as cost
 use Rattle.rule_table.specs.Table.{Rule, Family, Table}
@@ -20,16 +20,14 @@ use Rattle.rule_table.proofs.Progress.{one_table, refused_once, not_both}
 use Rattle.table_audit.specs.declared.errors.AuditError.{AuditError}
 use Rattle.table_audit.specs.declared.errors.AuditError.TheVariants as audit
 use Rattle.table_audit.specs.Acceptance.{TableVerdict, width_of}
-use Rattle.table_audit.specs.Sides.{SidesFit}
+use Rattle.table_audit.specs.Shorter.{SidesFit}
 use Rattle.table_audit.specs.Families.{entry_at, entry_of, family_at, raised_formula, IsRaisable}
 use Rattle.table_audit.proofs.Determined.{table_same}
-use Rattle.table_learn.specs.Settings.{Settings, Window}
-use Rattle.table_learn.specs.Learnt.{Learnt}
+use Rattle.table_learn.specs.Learnt.{Settings, Window, Learnt}
 use Rattle.window_rewrite.specs.Rewriting.{setting}
-use Rattle.thumb_assembler.specs.Refusals.{first_flaw}
+use Rattle.thumb_assembler.specs.Bytes.{first_flaw}
 use Rattle.command_runs.specs.Plans.{Outcome, Refuses, Does}
-use Rattle.audit_cli.specs.Printed.{refusal_line, unlaid_refusal, report_of, image_line, entries_line}
-use Rattle.audit_cli.specs.Steps.{IsUnlisted, unlisted, IsUnaudited, no_table, other_state, too_wide, bad_entry, bad_family, IsUnread, unread, IsUnlaid, unlaid, HasNoImage, no_address, inside, IsAudited}
+use Rattle.audit_cli.specs.Printed.{refusal_line, unlaid_refusal, report_of, image_line, entries_line, IsUnlisted, unlisted, IsUnaudited, no_table, other_state, too_wide, bad_entry, bad_family, IsUnread, unread, IsUnlaid, unlaid, HasNoImage, no_address, inside, IsAudited}
 use Rattle.audit_cli.specs.Rewrite.{Destination, Counts, Leaves, alone, pair, no_image, IsRewriting, instruction_count}
 use Rattle.audit_cli.specs.Rewrite as rewriting
 use Rattle.audit_cli.specs.Tables.{Extract, extracted}

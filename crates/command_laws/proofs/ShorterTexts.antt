@@ -4,10 +4,8 @@ use Rattle.std.specs.Prelude.{All, AllPairs, Contains, decimal}
 use Rattle.std.specs.Fmt.{signed_decimal}
 use Rattle.std.proofs.lemmas.List.Concat.{flat_map-append}
 use Rattle.std.proofs.lemmas.List.Elements.{All-nil, All-cons, All-head, All-tail}
-use Rattle.lrat_check.specs.Content.{Content, addition, deletion}
-use Rattle.lrat_check.specs.Text.{text_of, middle_of, id_of, spaced, literal_text, end_word}
+use Rattle.lrat_check.specs.Text.{Content, addition, deletion, text_of, middle_of, id_of, spaced, literal_text, end_word, IsShortened, IsTrimmed, IsUsed}
 use Rattle.lrat_check.specs.Runs.{IsRefutation}
-use Rattle.lrat_check.specs.Trimmed.{IsShortened, IsTrimmed, IsUsed}
 use Rattle.lrat_check.proofs.Members.{head_or_tail, none_in}
 use Rattle.lrat_check.proofs.Placed.{Ascends, ascends, ascends_to}
 use Rattle.lrat_check.proofs.Texts.{join-push}

@@ -2,8 +2,7 @@
 use Rattle.std.proofs.Common.{◌≡◌, ◌∙◌, ℕ, List, length, sym, ap, subst}
 use Rattle.thumb_model.specs.Listing.{Line}
 use Rattle.listing_parser.proofs.MadeLemmas.{one_listing}
-use Rattle.flow_tidy.specs.Tidied.{Change}
-use Rattle.flow_tidy.specs.Tidying.{setting}
+use Rattle.flow_tidy.specs.Tidying.{Change, setting}
 use Rattle.flow_tidy.proofs.Unique.{is_determined}
 use Rattle.command_runs.specs.Plans.{Outcome}
 use Rattle.audit_cli.specs.Tidy.{IsTidying, LinesTidy, unlaid, tidied, Tidies, unread, read, TidyComesTo, tidied_outcome}

@@ -6,22 +6,19 @@ use Rattle.std.proofs.lemmas.List.Concat.{flat_map-append}
 use Rattle.std.proofs.lemmas.Option.{same_Some}
 use Rattle.std.proofs.lemmas.List.Elements.{All-nil, All-cons, All-head, All-tail, All-take, All-contains}
 use Rattle.thumb_instr.specs.declared.instr.Instr.{Instr}
-use Rattle.clause_model.specs.Literals.{codes_of}
-use Rattle.lrat_check.specs.Content.{Content, addition, deletion}
+use Rattle.clause_model.specs.Clauses.{codes_of}
+use Rattle.lrat_check.specs.Text.{Content, addition, deletion, text_of as text_of_line, id_of, IsLine, IsTrimmed, IsShortened, IsUsed}
 use Rattle.lrat_check.specs.Runs.{IsRefutation}
 use Rattle.lrat_check.specs.Numbers.{IsHint}
-use Rattle.lrat_check.specs.Text.{text_of as text_of_line, id_of, IsLine}
-use Rattle.lrat_check.specs.Trimmed.{IsTrimmed, IsShortened, IsUsed}
 use Rattle.lrat_check.proofs.Parts.{trimmed_once, trimmed_refutes, trimmed_again}
 use Rattle.rule_table.specs.Header.{Header}
-use Rattle.rule_table.specs.Table.{Opened, Rule, Family, Table}
+use Rattle.rule_table.specs.Table.{Opened, Rule, Family, Table, IsRule, IsFamily, IsTable}
 use Rattle.rule_table.specs.Text.{Item, State, Entry, Left, Right, Mask, Proof, Logged, Open, End, line_of, text_of_items, open_items, rule_items, family_items, header_items, items_of}
 use Rattle.rule_table.specs.Text as item
-use Rattle.rule_table.specs.Valid.{IsRule, IsFamily, IsTable}
-use Rattle.proof_logs.specs.Verdicts.{InTurn}
+use Rattle.proof_logs.specs.Proofs.{InTurn}
 use Rattle.table_audit.specs.declared.errors.EntryFault.TheVariants as fault
 use Rattle.table_audit.specs.declared.errors.AuditError.TheVariants as audit
-use Rattle.table_audit.specs.Sides.{SidesFit, formula_of}
+use Rattle.table_audit.specs.Shorter.{SidesFit, formula_of}
 use Rattle.table_audit.specs.declared.errors.FamilyKind.TheVariants as kind
 use Rattle.table_audit.specs.Acceptance.{IsUntold, IsRightlyOpen, OpenTest, EntryVerdict, RaisedVerdict, FamilyVerdict, IsAccepted}
 use Rattle.table_audit.specs.Families.{entry_at, entry_of, raised_formula, IsRaisable}

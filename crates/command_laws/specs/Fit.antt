@@ -6,15 +6,14 @@ use Rattle.thumb_model.specs.Layout.{Layable}
 use Rattle.listing_parser.specs.Parsing.{IsListing}
 use Rattle.rule_table.specs.Table.{Rule, Family, Table}
 use Rattle.rule_table.specs.Refused.{IsText as IsTableText}
-use Rattle.lrat_check.specs.Content.{Content}
+use Rattle.lrat_check.specs.Text.{Content}
 use Rattle.table_audit.specs.Acceptance.{IsAccepted}
-use Rattle.table_audit.specs.Sides.{SidesFit}
+use Rattle.table_audit.specs.Shorter.{SidesFit}
 use Rattle.table_audit.specs.Soundness.{items_in}
-use Rattle.table_learn.specs.Settings.{Settings}
-use Rattle.table_learn.specs.Learnt.{text_length, text_limit}
+use Rattle.table_learn.specs.Learnt.{Settings, text_length, text_limit}
 use Rattle.table_audit.specs.Acceptance.{width_of}
-use Rattle.seq_enum.specs.CostTexts.{IsCostText}
-use Rattle.thumb_assembler.specs.Refusals.{first_flaw}
+use Rattle.seq_enum.specs.Costs.{IsCostText}
+use Rattle.thumb_assembler.specs.Bytes.{first_flaw}
 use Rattle.command_line.specs.CommandLine.{Request, rewrite, audit, learn, export, trace, demo, upgrade, trim, tidy, generalise, AskFor}
 use Rattle.outer_store.specs.Outside.{Event, Seen, Sunk}
 use Rattle.command_runs.specs.declared.status.Status.{Status}

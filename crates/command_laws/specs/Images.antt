@@ -1,10 +1,10 @@
 -- The run of the image that `rewrite` keeps, with nothing asked of a naming but what the given listing needs.
 use Rattle.std.specs.Prelude.{ℕ, List}
 use Rattle.thumb_model.specs.Listing.{Name, Line, code_of}
-use Rattle.thumb_model.specs.Laid.{laid}
+use Rattle.thumb_model.specs.Naming.{laid}
 use Rattle.rule_model.specs.Laws.{TellsApart}
 use Rattle.rule_table.specs.Table.{Table}
-use Rattle.thumb_assembler.specs.Following.{IsAssembled, Follows}
+use Rattle.thumb_assembler.specs.Runs.{IsAssembled, Follows}
 use Rattle.listing_laws.specs.Assembled.{IsOutside}
 use Rattle.command_runs.specs.Plans.{Outcome}
 use Rattle.audit_cli.specs.Rewrite.{Destination, IsRewriting}

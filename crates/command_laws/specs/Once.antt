@@ -3,13 +3,13 @@ use Rattle.std.specs.Prelude.{◌≡◌, ◌≤◌, ◌⊎◌, ℕ, List, [], �
 use Rattle.thumb_model.specs.Listing.{Line}
 use Rattle.listing_parser.specs.Parsing.{IsListing}
 use Rattle.rule_table.specs.Table.{Rule, Family, Table}
-use Rattle.seq_enum.specs.CostTexts.{IsCostText}
+use Rattle.seq_enum.specs.Costs.{IsCostText}
 use Rattle.table_audit.specs.Acceptance.{width_of}
 use Rattle.command_line.specs.CommandLine.{Request, rewrite, audit, learn, export, trace, demo, upgrade, trim, tidy, generalise}
 use Rattle.command_runs.specs.Plans.{Outcome}
 use Rattle.audit_cli.specs.Learn.{Lesson, LinesLearn, LearnComesTo, LearnByCostsComesTo, priced}
 use Rattle.audit_cli.specs.Demo.{IsDemo}
-use Rattle.audit_cli.specs.Steps.{IsAudited}
+use Rattle.audit_cli.specs.Printed.{IsAudited}
 use Rattle.audit_cli.specs.Generalise.{IsRaisableFor, Generalises, GeneraliseComesTo}
 use Rattle.audit_cli.specs.Peep.{plan_of}
 

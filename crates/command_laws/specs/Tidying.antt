@@ -5,8 +5,7 @@ use Rattle.thumb_model.specs.Listing.{Line, code_of, places_of}
 use Rattle.thumb_model.specs.Layout.{Layable}
 use Rattle.thumb_model.specs.Same.{Same}
 use Rattle.listing_parser.specs.Parsing.{IsListing, text_of_lines}
-use Rattle.flow_tidy.specs.Tidied.{Change, AreTidied, AllPossible, NonePossible}
-use Rattle.flow_tidy.specs.Tidying.{setting}
+use Rattle.flow_tidy.specs.Tidying.{Change, AreTidied, AllPossible, NonePossible, setting}
 use Rattle.command_line.specs.CommandLine.{tidy, AskFor}
 use Rattle.outer_store.specs.Outside.{Putting, Seen, Sunk, Gave}
 use Rattle.command_runs.specs.declared.status.Status.TheVariants as status

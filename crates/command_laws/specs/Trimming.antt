@@ -1,7 +1,6 @@
 -- A table and what `trim` keeps of it: the audit accepts both, rewriting by them is one, and the kept text is no longer.
 use Rattle.std.specs.Prelude.{◌≡◌, ◌≤◌, ℕ}
-use Rattle.rule_table.specs.Table.{Table}
-use Rattle.rule_table.specs.Valid.{IsTable}
+use Rattle.rule_table.specs.Table.{Table, IsTable}
 use Rattle.table_audit.specs.Acceptance.{IsAccepted}
 use Rattle.table_learn.specs.Learnt.{text_length}
 use Rattle.window_rewrite.specs.Rewriting.{setting}

@@ -1,9 +1,8 @@
 -- A table and its upgrade: the audit says the same of both, and rewriting by them is one.
 use Rattle.std.specs.Prelude.{◌≡◌, ◌≤◌, ◌↔◌, ℕ, List, Option}
-use Rattle.rule_table.specs.Table.{Table}
+use Rattle.rule_table.specs.Table.{Table, IsTable}
 use Rattle.rule_table.specs.Refused.{IsText}
 use Rattle.rule_table.specs.Text.{text_of}
-use Rattle.rule_table.specs.Valid.{IsTable}
 use Rattle.table_audit.specs.declared.errors.AuditError.{AuditError}
 use Rattle.table_audit.specs.Acceptance.{TableVerdict}
 use Rattle.window_rewrite.specs.Rewriting.{setting}

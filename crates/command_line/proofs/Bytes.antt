@@ -4,7 +4,7 @@ use Rattle.std.specs.List.{before_first, after_first, position_or_len}
 use Rattle.std.specs.Str.{bytes_eq}
 use Rattle.std.proofs.lemmas.Slice.Eq.{bytes_eq-Decides}
 use Rattle.clap.specs.Lexer.{has_byte, long_of, long_of_rest, name_and_value, short_of}
-use Rattle.command_line.specs.CommandLine.{Text, is_dashed}
+use Rattle.command_line.specs.Words.{Text, is_dashed}
 use Rattle.command_line.proofs.Reading.{joined, apart, plain, word_by, word_of}
 use Rattle.command_line.proofs.BoolLemmas.{either}
 

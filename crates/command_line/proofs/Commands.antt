@@ -4,7 +4,7 @@ use Rattle.std.specs.List.{list_all}
 use Rattle.clap.specs.Words.{fault_of, subcommand_of}
 use Rattle.clap.specs.Kinds.{Kinds}
 use Rattle.command_line.specs.App.{peep_app}
-use Rattle.command_line.specs.CommandLine.{Given, IsCommand, Text, is_one_of, value_of}
+use Rattle.command_line.specs.Words.{Given, IsCommand, Text, is_one_of, value_of}
 use Rattle.command_line.proofs.Law.{clean, rows}
 use Rattle.command_line.proofs.Lookup.{command_rows, level_reads}
 use Rattle.command_line.proofs.Views.{AreTexts, each_is}

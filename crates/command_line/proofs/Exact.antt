@@ -2,7 +2,7 @@
 use Rattle.std.proofs.Common.{◌≡◌, ◌∙◌, inl, inr, ◌+◌, ◌≤◌, ◌&&◌, ◌==◌, ℕ, zero, suc, Bool, true, false, not, List, [], ◌∷◌, length, map, Option, Some, None, refl, sym, ap, arith, true≢false, eq-eqb, eqb-true}
 use Rattle.std.specs.Prelude.{slice_get}
 use Rattle.std.specs.List.{list_all}
-use Rattle.command_line.specs.CommandLine.{Text, Given, IsCommand, are_distinct, is_one_of, value_of}
+use Rattle.command_line.specs.Words.{Text, Given, IsCommand, are_distinct, is_one_of, value_of}
 use Rattle.command_line.proofs.Reading.{free, uses, once_after}
 use Rattle.command_line.proofs.Law.{Each, verdict_by}
 use Rattle.command_line.proofs.Lookup.{at_from, lacks}

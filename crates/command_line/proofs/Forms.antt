@@ -4,7 +4,8 @@ use Rattle.std.specs.Prelude.{option_and_then}
 use Rattle.std.specs.List.{list_all}
 use Rattle.clap.specs.Words.{Row, fault_of, first_of, subcommand_of}
 use Rattle.command_line.specs.App.{asked, asked_by, form_of, peep_app, words_for}
-use Rattle.command_line.specs.CommandLine.{AskFor, Form, rewrites, audits, learns, exports, traces, demos, upgrades, trims, tidies, generalises, Given, IsCommand, Request, rewrite, learn, tidy, Text, all_given, base_of, settings_of, settings_by, version_by, number_from, pool_of, is_one_of, name_of, options_of, request_by, value_of}
+use Rattle.command_line.specs.Words.{Given, IsCommand, Text, is_one_of, value_of}
+use Rattle.command_line.specs.CommandLine.{AskFor, Form, rewrites, audits, learns, exports, traces, demos, upgrades, trims, tidies, generalises, Request, rewrite, learn, tidy, all_given, base_of, settings_of, settings_by, version_by, number_from, pool_of, name_of, options_of, request_by}
 use Rattle.rule_table.specs.Header.{Header}
 use Rattle.command_line.proofs.Items.{is_name}
 use Rattle.command_line.proofs.Law.{rows}

@@ -4,7 +4,7 @@ use Rattle.std.specs.Prelude.{slice_get}
 use Rattle.std.specs.List.{flat_map, list_all}
 use Rattle.std.specs.Str.{bytes_eq}
 use Rattle.clap.specs.Lexer.{has_byte}
-use Rattle.command_line.specs.CommandLine.{Text, Given, Item, word, joined, apart, spelled, is_allowed, is_dashed, is_one_of, ending}
+use Rattle.command_line.specs.Words.{Text, Given, Item, word, joined, apart, spelled, is_allowed, is_dashed, is_one_of, ending}
 use Rattle.command_line.proofs.Reading.{Mode, free, opened, tail, plain, word_of, use_word, uses, more, to_positional, at_end}
 use Rattle.command_line.proofs.Law.{is_dashes, is_joined, is_apart, is_unknown, is_short, is_plain, Each}
 use Rattle.command_line.proofs.Bytes.{same_text, joined_text, joined_word, apart_word, plain_word, joined_is, apart_is, dashes_is, plain_is}

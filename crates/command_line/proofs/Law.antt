@@ -11,7 +11,7 @@ use Rattle.clap.specs.Faults.{walk_fault, turn_fault, settle_fault, defaults_fau
 use Rattle.clap.specs.Kinds.{Kinds, or_else}
 use Rattle.clap.specs.declared.error.kind.ErrorKind.TheVariants as kind
 use Rattle.clap.specs.declared.parser.matches.ValueSource.TheVariants.{CommandLine}
-use Rattle.command_line.specs.CommandLine.{Text, Given, is_named}
+use Rattle.command_line.specs.Words.{Text, Given, is_named}
 use Rattle.command_line.proofs.Reading.{Mode, free, opened, tail, Word, dashes, joined, apart, plain, stray, uses, use_word, word_of, at_end, more, to_positional, once_after}
 use Rattle.command_line.proofs.Level.{word_rule, option_rule, leaf, or_else_nil, or_else_assoc, held, between, fresh}
 

@@ -13,7 +13,7 @@ use Rattle.clap.specs.Faults.{level_fault, defaults_fault, check_fault}
 use Rattle.clap.specs.Kinds.{or_else}
 use Rattle.clap.specs.declared.error.kind.ErrorKind.TheVariants as kind
 use Rattle.std.specs.Prelude.{fold}
-use Rattle.command_line.specs.CommandLine.{Text, Given, is_named, is_one_of}
+use Rattle.command_line.specs.Words.{Text, Given, is_named, is_one_of}
 use Rattle.command_line.proofs.Reading.{once_after, uses, free}
 use Rattle.command_line.proofs.Level.{word_rule, option_rule, leaf, between}
 use Rattle.command_line.proofs.Law.{Acts, word_acts, option_acts, rows, clean, Each, reads, reads_rows, verdict_by, outcome}

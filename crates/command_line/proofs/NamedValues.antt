@@ -5,7 +5,7 @@ use Rattle.std.specs.List.{flat_map, list_all, list_any}
 use Rattle.std.specs.Str.{bytes_eq}
 use Rattle.std.proofs.lemmas.List.Folds.{list_any-append}
 use Rattle.clap.specs.Words.{first_of}
-use Rattle.command_line.specs.CommandLine.{Text, Given, Item, word, joined, apart, are_distinct, is_allowed, is_dashed, is_named, is_one_of, options_in, value_of, words_in}
+use Rattle.command_line.specs.Words.{Text, Given, Item, word, joined, apart, are_distinct, is_allowed, is_dashed, is_named, is_one_of, options_in, value_of, words_in}
 use Rattle.command_line.proofs.Reading.{more, once_after}
 use Rattle.command_line.proofs.Law.{rows}
 use Rattle.command_line.proofs.Lookup.{lacks}

@@ -3,11 +3,11 @@ use Rattle.std.proofs.Common.{Bor, ◌≡◌, ◌∙◌, ◌↔◌, ◌⊎◌, i
 use Rattle.std.specs.Prelude.{All, IfSome, IsSome, option_and_then, nat_le, nat_lt}
 use Rattle.std.specs.List.{list_all}
 use Rattle.std.proofs.lemmas.List.Elements.{All-cons, All-head, All-tail}
-use Rattle.seq_enum.specs.Lists.{ascends_from}
-use Rattle.seq_enum.specs.Pools.{is_pool, inside}
+use Rattle.seq_enum.specs.Alphabet.{ascends_from, is_pool, inside}
 use Rattle.seq_enum.proofs.Bounds.{bounds}
 use Rattle.ascii_scan.specs.Numeral.{decimal}
-use Rattle.command_line.specs.CommandLine.{Text, all_given, between_commas, pool_of}
+use Rattle.command_line.specs.Words.{Text}
+use Rattle.command_line.specs.CommandLine.{all_given, between_commas, pool_of}
 use Rattle.command_line.proofs.BoolLemmas.{either, both}
 
 -- ---- bytes ----

@@ -2,7 +2,7 @@
 use Rattle.std.specs.Prelude.{ℕ, ◌+◌, ◌++◌, ◌&&◌, Bool, true, not, List, [], ◌∷◌, Option, Some, None, if◌then◌else◌, option_map, option_and_then}
 use Rattle.std.specs.Str.{bytes_eq}
 use Rattle.clap.specs.Lexer.{long_of, short_of}
-use Rattle.command_line.specs.CommandLine.{Text, Given, is_named}
+use Rattle.command_line.specs.Words.{Text, Given, is_named}
 
 -- what a word is: `--`, `--name=value`, `--name`, a word that is no option, or none of these
 pub data Word : Type 0 where

@@ -3,7 +3,8 @@ use Rattle.std.proofs.Common.{◌≡◌, ◌∙◌, inl, inr, true, false, List,
 use Rattle.std.specs.Str.{bytes_eq}
 use Rattle.clap.specs.Words.{fault_of}
 use Rattle.command_line.specs.App.{forms, peep_app}
-use Rattle.command_line.specs.CommandLine.{AskFor, Form, Given, IsCommand, Request, Text, name_of, options_of, request_by, value_of}
+use Rattle.command_line.specs.Words.{Given, IsCommand, Text, value_of}
+use Rattle.command_line.specs.CommandLine.{AskFor, Form, Request, name_of, options_of, request_by}
 use Rattle.command_line.proofs.Law.{clean}
 use Rattle.command_line.proofs.Views.{AreTexts, word_is}
 use Rattle.command_line.proofs.Bytes.{same_text}

@@ -9,7 +9,8 @@ use Rattle.clap.specs.declared.parser.matches.ArgMatches.TheViews.{out-ArgMatche
 use Rattle.clap.specs.declared.parser.matches.Found.{Found}
 use Rattle.clap.proofs.WalkLemmas.{first_value-rows}
 use Rattle.command_line.specs.App.{asked, asked_by, peep_app}
-use Rattle.command_line.specs.CommandLine.{AskFor, AskOnce, Form, Request, Text, name_of}
+use Rattle.command_line.specs.Words.{Text}
+use Rattle.command_line.specs.CommandLine.{AskFor, AskOnce, Form, Request, name_of}
 use Rattle.command_line.specs.Request.{request_of}
 use Rattle.command_line.specs.declared.command.Command.{Command}
 use Rattle.command_line.proofs.Views.{AreTexts}

@@ -5,7 +5,7 @@ use Rattle.std.specs.Char.{encode_utf8}
 use Rattle.std.specs.Str.{IsUtf8, bytes_eq, chars, encode_utf8_all}
 use Rattle.std.proofs.lemmas.Str.{encodes-chars}
 use Rattle.clap.specs.Lexer.{long_of, name_and_value}
-use Rattle.command_line.specs.CommandLine.{Text}
+use Rattle.command_line.specs.Words.{Text}
 use Rattle.command_line.proofs.Law.{Is, is_dashes, is_joined, is_apart, is_unknown, is_short, is_plain, Each}
 use Rattle.command_line.proofs.BoolLemmas.{either}
 

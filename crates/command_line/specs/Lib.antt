@@ -1,3 +1,4 @@
+pub mod App
 pub mod CommandLine
 pub mod Request
-pub mod App
+pub mod Words

@@ -6,7 +6,7 @@ ghost use Rattle.command_line.specs.App.{asked_by, asked};
 ghost use Rattle.command_line.specs.CommandLine.{rewrites, audits, learns, exports, traces, demos, upgrades, trims, tidies, generalises, base_of, between_commas, byte_of, is_base, number_from, pool_of, steps_of, windows_of};
 ghost use Rattle.command_line.specs.Request.{request_of};
 ghost use Rattle.ascii_scan.specs.Numeral.{decimal};
-ghost use Rattle.seq_enum.specs.Pools.{is_pool};
+ghost use Rattle.seq_enum.specs.Alphabet.{is_pool};
 
 use super::command::{Base, Command};
 use arrayvec::ArrayVec;

@@ -6,7 +6,7 @@ use Rattle.std.proofs.lemmas.Option.{same_Some}
 use Rattle.thumb_instr.specs.declared.instr.Instr.{Instr}
 use Rattle.kept_places.specs.Marks.{rank}
 use Rattle.thumb_model.specs.Listing.{Name, Statement, Nothing, Runs, Words, Aligns, Sets, Line, Word, places_in, places_of, is_op_place}
-use Rattle.thumb_model.specs.ReplacedLines.{is_op, labels_kept, replaced_lines}
+use Rattle.thumb_model.specs.Replaced.{is_op, labels_kept, replaced_lines}
 use Rattle.std.proofs.lemmas.List.{length-replicate}
 use Rattle.thumb_model.proofs.Lists.{length_drop, length_map}
 use Rattle.listing_parser.specs.Parsing.{own_line}

@@ -3,7 +3,7 @@ use Rattle.std.proofs.Common.{◌≡◌, ℕ, zero, suc, ◌+◌, ◌-◌, ◌<�
 use Rattle.std.specs.Prelude.{slice_get, nat_le}
 use Rattle.std.proofs.lemmas.Bool.{le-leb}
 use Rattle.thumb_model.specs.Listing.{Name, Value, Statement, Runs, Words, Line, Place, Op, Word, Label, places_in, places_of, labels_at, labels_from, is_op_place}
-use Rattle.thumb_model.specs.ReplacedLines.{is_op}
+use Rattle.thumb_model.specs.Replaced.{is_op}
 use Rattle.thumb_model.specs.Cuts.{AreOps}
 use Rattle.thumb_model.proofs.Lists.{get_drop}
 use Rattle.thumb_model.proofs.LinesReplaced.{AllOutside, all_back, no_names, outside_of}

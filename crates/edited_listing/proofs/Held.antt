@@ -5,7 +5,7 @@ use Rattle.std.proofs.lemmas.List.{length-replicate}
 use Rattle.thumb_instr.specs.declared.instr.Instr.{Instr}
 use Rattle.kept_places.specs.Marks.{is_gone, rank}
 use Rattle.thumb_model.specs.Listing.{Place, Line, Label, places_of, labels_from, is_op_place}
-use Rattle.thumb_model.specs.ReplacedLines.{replaced_lines}
+use Rattle.thumb_model.specs.Replaced.{replaced_lines}
 use Rattle.listing_parser.specs.Parsing.{own_line}
 use Rattle.listing_parser.specs.Targets.{DefineOnce}
 use Rattle.listing_parser.proofs.ReplaceLemmas.{still_once}

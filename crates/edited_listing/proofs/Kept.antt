@@ -7,7 +7,7 @@ use Rattle.thumb_instr.specs.declared.instr.Instr.{Instr}
 use Rattle.kept_places.specs.Marks.{rank}
 use Rattle.kept_places.proofs.Ranks.{rank_zero, ranks_grow}
 use Rattle.thumb_model.specs.Listing.{Place, Op, Word, Line, Label, places_of, labels_from, is_op_place}
-use Rattle.thumb_model.specs.ReplacedLines.{replaced_lines}
+use Rattle.thumb_model.specs.Replaced.{replaced_lines}
 use Rattle.thumb_model.proofs.Lists.{length_map}
 use Rattle.edited_listing.specs.declared.standing.Standing.{Standing}
 use Rattle.edited_listing.specs.declared.standing.Standing.TheVariants as standing

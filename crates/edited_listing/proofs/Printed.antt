@@ -4,7 +4,7 @@ use Rattle.std.specs.Prelude.{slice_get, nat_le}
 use Rattle.std.proofs.lemmas.Bool.{cases_Bool, eq-eqb, eqb-true, eqb-false, leb-true}
 use Rattle.thumb_instr.specs.declared.instr.Instr.{Instr}
 use Rattle.thumb_model.specs.Listing.{Name, Value, Statement, Nothing, Runs, Words, Aligns, Sets, Line, Word, places_in, places_of}
-use Rattle.thumb_model.specs.ReplacedLines.{is_op, without, labels_kept, new_line, replaced_lines}
+use Rattle.thumb_model.specs.Replaced.{is_op, without, labels_kept, new_line, replaced_lines}
 use Rattle.thumb_model.proofs.Cuts.{without_none}
 use Rattle.thumb_model.proofs.Lists.{get_back}
 use Rattle.edited_listing.specs.Items.{Item, AsGiven, New, has_given, AreSorted, spliced}

@@ -7,7 +7,7 @@ use Rattle.std.proofs.lemmas.Option.{same_Some}
 use Rattle.thumb_instr.specs.declared.instr.Instr.{Instr}
 use Rattle.thumb_model.specs.Listing.{Line, places_in, places_of}
 use Rattle.thumb_model.proofs.Lists.{length_drop}
-use Rattle.thumb_model.specs.ReplacedLines.{is_op, labels_kept, new_line}
+use Rattle.thumb_model.specs.Replaced.{is_op, labels_kept, new_line}
 use Rattle.listing_parser.specs.Parsing.{own_line}
 use Rattle.kept_places.specs.Marks.{IsNode}
 use Rattle.edited_listing.specs.declared.standing.Standing.{Standing}

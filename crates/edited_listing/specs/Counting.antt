@@ -1,7 +1,7 @@
 -- How many lines there are when instructions give way: a line with labels leaves one for them.
 use Rattle.std.specs.Prelude.{ℕ, ◌-◌, ◌==◌, ◌&&◌, Bool, true, false, cond, List, [], ◌∷◌, ◌++◌, length, replicate, if◌then◌else◌}
 use Rattle.thumb_model.specs.Listing.{Name, Statement, Nothing, Runs, Words, Aligns, Sets, Line, places_in}
-use Rattle.thumb_model.specs.ReplacedLines.{is_op}
+use Rattle.thumb_model.specs.Replaced.{is_op}
 use Rattle.edited_listing.specs.Items.{Item, AsGiven, New}
 
 -- one for true

@@ -2,7 +2,7 @@
 use Rattle.std.specs.Prelude.{◌≡◌, ℕ, zero, suc, ◌+◌, ◌-◌, ◌==◌, ◌&&◌, Bool, true, false, List, [], ◌∷◌, length, Option, Some, slice_get, nat_le, if◌then◌else◌}
 use Rattle.thumb_instr.specs.declared.instr.Instr.{Instr}
 use Rattle.thumb_model.specs.Listing.{Place, Word, Name, Line, places_in, places_of}
-use Rattle.thumb_model.specs.ReplacedLines.{is_op, replaced_lines}
+use Rattle.thumb_model.specs.Replaced.{is_op, replaced_lines}
 use Rattle.edited_listing.specs.Items.{Item, AreSorted, has_given, spliced}
 use Rattle.edited_listing.specs.Printing.{lines_from}
 

@@ -2,7 +2,7 @@
 use Rattle.std.specs.Prelude.{ℕ, suc, ◌+◌, ◌==◌, Bool, false, List, [], ◌∷◌, ◌++◌, length, drop, Option, Some, None, if◌then◌else◌}
 use Rattle.thumb_instr.specs.declared.instr.Instr.{Instr}
 use Rattle.thumb_model.specs.Listing.{Line, places_in}
-use Rattle.thumb_model.specs.ReplacedLines.{is_op, labels_kept, new_line}
+use Rattle.thumb_model.specs.Replaced.{is_op, labels_kept, new_line}
 use Rattle.edited_listing.specs.Items.{Item, AsGiven, New}
 
 -- whether the next item is place p as it was given

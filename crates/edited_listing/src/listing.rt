@@ -107,7 +107,7 @@ impl EditedListing {
     ghost use Rattle.std.specs.Prelude.{◌≡◌, ◌+◌, ◌<◌, ◌≤◌, ◌↔◌, ◌⊎◌, ℕ, suc, List, true, false, drop, length, slice_get, IfNone, IfOk, IfSome, Some};
     ghost use Rattle.kept_places.specs.Marks.{is_gone, rank};
     ghost use Rattle.thumb_model.specs.Listing.{Label, code_of, is_op_place, labels_from, places_of};
-    ghost use Rattle.thumb_model.specs.ReplacedLines.{replaced_lines};
+    ghost use Rattle.thumb_model.specs.Replaced.{replaced_lines};
     ghost use Rattle.listing_parser.specs.Parsing.{own_line};
     ghost use Rattle.padded_code.specs.Exchange.{exchanged, marks_after};
     ghost use Rattle.padded_code.specs.Padding.{kept};

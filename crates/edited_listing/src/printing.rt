@@ -1,7 +1,7 @@
 //! The lines of a changed listing, in one pass over the lines that were given: those as given are moved over as they are.
 ghost use Rattle.std.specs.Prelude.{◌≡◌, ◌+◌, ◌<◌, ◌≤◌, ◌^◌, ◌++◌, ◌∷◌, List, length, map, true, drop, IfOk, OnOk};
 ghost use Rattle.thumb_model.specs.Listing.{Line as ListingLine, places_in, places_of};
-ghost use Rattle.thumb_model.specs.ReplacedLines.{is_op};
+ghost use Rattle.thumb_model.specs.Replaced.{is_op};
 ghost use Rattle.listing_parser.specs.Parsing.{own_line};
 ghost use Rattle.listing_parser.specs.Views.{line_view};
 ghost use Rattle.edited_listing.specs.Changes.{marks_of, rest_items};

@@ -9,8 +9,7 @@ use Rattle.std.proofs.lemmas.Nat.{and_le_r}
 use Rattle.std.proofs.lemmas.Nat.Bits.{bit_at-lt, bit_at_and, same_from_bits_below}
 use Rattle.thumb_instr.specs.declared.instr.Instr.{Instr}
 use Rattle.thumb_instr.specs.Items.{has}
-use Rattle.thumb_model.specs.Items.{Values, n_flag, z_flag, c_flag, v_flag}
-use Rattle.thumb_model.specs.Effect.{after_all}
+use Rattle.thumb_model.specs.Effect.{Values, n_flag, z_flag, c_flag, v_flag, after_all}
 use Rattle.thumb_model.proofs.Held.{AreHeld, bool_small}
 use Rattle.thumb_model.proofs.Window.{held_after}
 use Rattle.window_exec.specs.declared.state.WState.{WState}

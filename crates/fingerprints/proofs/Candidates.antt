@@ -8,9 +8,8 @@ use Rattle.std.proofs.lemmas.Bool.Decides.{eqb_tells}
 use Rattle.std.proofs.lemmas.List.Concat.{flat_map-append}
 use Rattle.std.proofs.lemmas.Option.{slice_get-map, slice_get_within, get_or_from_slice_get, slice_get-get_or, same_Some}
 use Rattle.thumb_instr.specs.declared.instr.Instr.{Instr}
-use Rattle.thumb_model.specs.Items.{Values}
-use Rattle.seq_enum.specs.Lists.{numbers_from}
-use Rattle.seq_enum.specs.Alphabet.{words, sequences_of}
+use Rattle.thumb_model.specs.Effect.{Values}
+use Rattle.seq_enum.specs.Alphabet.{numbers_from, words, sequences_of}
 use Rattle.seq_enum.proofs.Numbered.{length-numbers, numbers_at, get_front, get_back, flat_map_at}
 use Rattle.seq_enum.proofs.Words.{word_length}
 use Rattle.fingerprints.specs.Print.{print_after}

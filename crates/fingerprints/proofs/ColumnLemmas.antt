@@ -4,9 +4,7 @@ use Rattle.std.proofs.lemmas.List.{drop_all}
 use Rattle.std.proofs.lemmas.Simd.{map-map}
 use Rattle.std.proofs.Math.Seq.{drop-cons}
 use Rattle.thumb_instr.specs.declared.instr.Instr.{Instr}
-use Rattle.thumb_model.specs.Effect.{after, after_all}
-use Rattle.thumb_model.specs.Sides.{AreOver}
-use Rattle.thumb_model.specs.Items.{Values}
+use Rattle.thumb_model.specs.Effect.{after, after_all, AreOver, Values}
 use Rattle.window_exec.specs.declared.state.WState.{WState}
 use Rattle.window_exec.specs.State.{values_of}
 use Rattle.fingerprints.specs.declared.lanes.Lanes.{Lanes}

@@ -6,15 +6,13 @@ use Rattle.std.proofs.lemmas.Option.{slice_get-map, same_Some}
 use Rattle.thumb_instr.specs.declared.within.Within.{Within}
 use Rattle.thumb_instr.specs.declared.instr.Instr.{Instr}
 use Rattle.thumb_instr.specs.declared.instr.Instr.TheVariants as instr
-use Rattle.thumb_instr.specs.Renaming.{named, AreBelow}
-use Rattle.thumb_instr.specs.Window.{is_in_window, normal_of}
-use Rattle.seq_enum.specs.Lists.{grid2, grid3, held_in}
-use Rattle.seq_enum.specs.Alphabet.{registers, others, wide, rows, members, alphabet}
+use Rattle.thumb_instr.specs.Window.{named, AreBelow, is_in_window, normal_of}
+use Rattle.seq_enum.specs.Alphabet.{grid2, grid3, held_in, registers, others, wide, rows, members, alphabet}
 use Rattle.thumb_instr.specs.declared.kind.Kind.{Kind}
 use Rattle.thumb_instr.specs.declared.kind.Kind.TheVariants as kind
 use Rattle.seq_enum.proofs.Numbered.{flat_map_at, flat_map_from}
 use Rattle.seq_enum.proofs.Fields.{register_low}
-use Rattle.thumb_model.specs.Sides.{AreOver}
+use Rattle.thumb_model.specs.Effect.{AreOver}
 use Rattle.thumb_model.proofs.Small.{below_more}
 
 -- what a letter of the registers below k is

@@ -7,13 +7,10 @@ use Rattle.std.proofs.lemmas.List.Sums.{fold-append}
 use Rattle.std.proofs.lemmas.Simd.{map-map}
 use Rattle.std.proofs.Math.Seq.{drop-cons}
 use Rattle.thumb_instr.specs.declared.instr.Instr.{Instr}
-use Rattle.thumb_model.specs.Items.{Values}
-use Rattle.thumb_model.specs.Effect.{after, after_all}
+use Rattle.thumb_model.specs.Effect.{Values, after, after_all, AreOver}
 use Rattle.window_exec.specs.declared.state.WState.{WState}
 use Rattle.window_exec.specs.State.{values_of}
-use Rattle.thumb_model.specs.Sides.{AreOver}
-use Rattle.seq_enum.specs.Lists.{numbers_from}
-use Rattle.seq_enum.specs.Alphabet.{words}
+use Rattle.seq_enum.specs.Alphabet.{numbers_from, words}
 use Rattle.fingerprints.specs.declared.columns.Column.{Column}
 use Rattle.fingerprints.specs.Print.{with_words, print_from, print_after}
 use Rattle.fingerprints.specs.declared.lanes.Lanes.{Lanes}

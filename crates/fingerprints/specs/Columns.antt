@@ -1,6 +1,6 @@
 -- The states of columns.
 use Rattle.std.specs.Prelude.{ℕ, zero, suc, ◌+◌, List, [], ◌∷◌, ◌++◌}
-use Rattle.thumb_model.specs.Items.{Values}
+use Rattle.thumb_model.specs.Effect.{Values}
 use Rattle.fingerprints.specs.declared.lanes.Lanes.{Lanes}
 use Rattle.fingerprints.specs.declared.columns.Column.{Column}
 use Rattle.fingerprints.specs.Lanes.{values_at}

@@ -2,8 +2,7 @@
 use Rattle.std.specs.Prelude.{◌≡◌, ℕ, ◌<◌, ◌^◌, List, [], ◌∷◌, All, length, slice_get, Some}
 use Rattle.thumb_instr.specs.declared.instr.Instr.{Instr}
 use Rattle.window_exec.specs.declared.state.WState.{WState}
-use Rattle.window_exec.specs.State.{values_of}
-use Rattle.window_exec.specs.Telling.{Tells}
+use Rattle.window_exec.specs.State.{values_of, Tells}
 use Rattle.fingerprints.specs.Seeded.{seeded_states}
 
 -- a state has four registers, which hold words

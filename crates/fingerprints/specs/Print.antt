@@ -3,8 +3,7 @@ use Rattle.std.specs.Prelude.{ℕ, ◌+◌, ◌*◌, ◌%◌, ◌^◌, List, [],
 use Rattle.std.specs.Int.{w64, rotate_left, from_bool}
 use Rattle.thumb_instr.specs.declared.instr.Instr.{Instr}
 use Rattle.thumb_instr.specs.Items.{has}
-use Rattle.thumb_model.specs.Items.{Values, n_flag, z_flag, c_flag, v_flag}
-use Rattle.thumb_model.specs.Effect.{after_all}
+use Rattle.thumb_model.specs.Effect.{Values, n_flag, z_flag, c_flag, v_flag, after_all}
 
 abbrev pub mixed : ℕ → ℕ → ℕ
 mixed h w = bit_xor (rotate_left w64 h 5) w * 0x9E3779B97F4A7C15 % 2 ^ 64

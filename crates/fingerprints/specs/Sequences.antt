@@ -2,9 +2,8 @@
 use Rattle.std.specs.Prelude.{ℕ, ◌+◌, List, map}
 use Rattle.std.specs.List.{flat_map}
 use Rattle.thumb_instr.specs.declared.instr.Instr.{Instr}
-use Rattle.thumb_model.specs.Items.{Values}
-use Rattle.seq_enum.specs.Lists.{numbers_from}
-use Rattle.seq_enum.specs.Alphabet.{words}
+use Rattle.thumb_model.specs.Effect.{Values}
+use Rattle.seq_enum.specs.Alphabet.{numbers_from, words}
 use Rattle.fingerprints.specs.Print.{print_after}
 
 -- the sequences of at most so many instructions of an alphabet, by number

@@ -1,10 +1,8 @@
 //! States in columns, up to eight side by side in each.
 
 ghost use Rattle.std.specs.Prelude.{◌≡◌, ℕ, ◌<◌, ◌≤◌, Some, slice_get, map, length, IfOk, true};
-ghost use Rattle.thumb_instr.specs.Window.{is_in_window};
-ghost use Rattle.thumb_model.specs.Effect.{after, after_all};
-ghost use Rattle.thumb_instr.specs.Renaming.{named, AreBelow};
-ghost use Rattle.thumb_model.specs.Sides.{AreOver};
+ghost use Rattle.thumb_instr.specs.Window.{is_in_window, named, AreBelow};
+ghost use Rattle.thumb_model.specs.Effect.{after, after_all, AreOver};
 ghost use Rattle.window_exec.specs.State.{values_of};
 
 use crate::lanes::Lanes;
@@ -24,9 +22,9 @@ pub(crate) struct Column {
 impl Column {
     ghost use Rattle.std.specs.Prelude.{◌≡◌, ◌≤◌, map, length, true};
     ghost use Rattle.thumb_instr.specs.Window.{is_in_window};
-    ghost use Rattle.thumb_instr.specs.Renaming.{named, AreBelow};
+    ghost use Rattle.thumb_instr.specs.Window.{named, AreBelow};
     ghost use Rattle.thumb_model.specs.Effect.{after, after_all};
-    ghost use Rattle.thumb_model.specs.Sides.{AreOver};
+    ghost use Rattle.thumb_model.specs.Effect.{AreOver};
     ghost use Rattle.window_exec.specs.State.{values_of};
     ghost use Rattle.fingerprints.specs.Columns.{states_of};
 

@@ -2,7 +2,7 @@
 
 ghost use Rattle.std.specs.Prelude.{◌≡◌, ℕ, ◌≤◌, ◌↔◌, List, Some, All, Contains, slice_get, length, map};
 ghost use Rattle.thumb_instr.specs.declared.instr.Instr.{Instr};
-ghost use Rattle.thumb_model.specs.Items.{Values};
+ghost use Rattle.thumb_model.specs.Effect.{Values};
 ghost use Rattle.seq_enum.specs.Alphabet.{sequences_of};
 ghost use Rattle.window_exec.specs.declared.state.WState.{WState};
 ghost use Rattle.window_exec.specs.State.{values_of};

@@ -3,10 +3,8 @@
 //! sequence takes one step of each column.
 
 ghost use Rattle.std.specs.Prelude.{◌≡◌, true, ◌≤◌, ◌+◌, ◌++◌, ◌∷◌, [], map, IfOk, OnOk};
-ghost use Rattle.thumb_instr.specs.Window.{is_in_window};
-ghost use Rattle.thumb_instr.specs.Renaming.{named, AreBelow};
-ghost use Rattle.thumb_model.specs.Effect.{after};
-ghost use Rattle.thumb_model.specs.Sides.{AreOver};
+ghost use Rattle.thumb_instr.specs.Window.{is_in_window, named, AreBelow};
+ghost use Rattle.thumb_model.specs.Effect.{after, AreOver};
 ghost use Rattle.fingerprints.specs.Print.{print_from};
 ghost use Rattle.fingerprints.specs.Columns.{states_in};
 ghost use Rattle.fingerprints.specs.Sequences.{prints_of, prints_within};

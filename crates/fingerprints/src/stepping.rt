@@ -1,7 +1,6 @@
 //! The same instructions as for one state, over eight: what each computes is said once, in `window_exec`.
 ghost use Rattle.std.specs.Prelude.{◌≡◌, ℕ, ◌<◌, true};
-ghost use Rattle.thumb_instr.specs.Window.{is_in_window};
-ghost use Rattle.thumb_instr.specs.Renaming.{named, AreBelow};
+ghost use Rattle.thumb_instr.specs.Window.{is_in_window, named, AreBelow};
 ghost use Rattle.thumb_model.specs.Effect.{after};
 ghost use Rattle.fingerprints.specs.Lanes.{values_at};
 

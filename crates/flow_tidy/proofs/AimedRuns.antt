@@ -6,7 +6,7 @@ use Rattle.std.proofs.lemmas.Option.{same_Some}
 use Rattle.thumb_instr.specs.declared.instr.Instr.{Instr}
 use Rattle.thumb_instr.specs.declared.instr.Instr.TheVariants as instr
 use Rattle.thumb_instr.specs.Shape.{condition_uses}
-use Rattle.thumb_model.specs.Items.{Values}
+use Rattle.thumb_model.specs.Effect.{Values}
 use Rattle.thumb_model.specs.Listing.{Name, Mention, Place, Op, Word, Line, Code, code_of, place_of, IsPoint}
 use Rattle.thumb_model.specs.Naming.{Naming, points}
 use Rattle.thumb_model.specs.States.{World, Around, Target, Event, At, Here, Ended, State, On, puts}
@@ -17,9 +17,8 @@ use Rattle.thumb_model.specs.Same.{Alike, begun, here_or_ended}
 use Rattle.thumb_model.proofs.Simulation.{Advance, sooner, reached}
 use Rattle.thumb_model.proofs.Follow.{Keeps, state}
 use Rattle.code_flow.specs.Reached.{Reached, point, along}
-use Rattle.flow_tidy.specs.Chains.{is_always, Hops, HopsBy}
-use Rattle.listing_parser.specs.Retargeting.{aimed_lines}
-use Rattle.flow_tidy.specs.Tidied.{Setting, is_branch, GoesToEnd}
+use Rattle.flow_tidy.specs.Tidying.{is_always, Hops, HopsBy, Setting, is_branch, GoesToEnd}
+use Rattle.listing_parser.specs.Targets.{aimed_lines}
 use Rattle.flow_tidy.proofs.Ways.{label_is_point}
 use Rattle.flow_tidy.proofs.Removed.{append_nothing, same_events}
 use Rattle.flow_tidy.proofs.Aimed.{to_label, aimed_code, get_aimed, get_other, name_stays, aim_stays, points_stay, point_forth, point_back, count_stays, literal_stays, literals_stay, fits_stays, code_aimed}

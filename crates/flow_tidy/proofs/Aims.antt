@@ -5,11 +5,11 @@ use Rattle.std.proofs.lemmas.Option.{same_Some}
 use Rattle.thumb_instr.specs.declared.instr.Instr.{Instr}
 use Rattle.thumb_model.specs.Listing.{Name, Mention, Statement, Nothing, Runs, Words, Aligns, Sets, Line, Op, places_in, places_of}
 use Rattle.thumb_model.specs.Layout.{Fault, size_at, end_of, is_among, label_address, set_in, set_address, cleared, or_else, lies_in, aim_fault, fault_at, or_first, faults_from, Layable}
-use Rattle.thumb_model.specs.ReplacedLines.{is_op, labels_kept}
+use Rattle.thumb_model.specs.Replaced.{is_op, labels_kept}
 use Rattle.thumb_model.proofs.Lists.{get_back}
 use Rattle.label_layout.specs.Addresses.{addresses_in, addresses_from, Addresses, AreAddresses}
 use Rattle.label_layout.proofs.Sums.{places_counted_in}
-use Rattle.listing_parser.specs.Retargeting.{aimed, aimed_line, aimed_lines}
+use Rattle.listing_parser.specs.Targets.{aimed, aimed_line, aimed_lines}
 use Rattle.flow_tidy.proofs.Aimed.{past_words}
 
 -- ---- first faults ----

@@ -4,8 +4,7 @@ use Rattle.std.proofs.lemmas.Option.{same_Some}
 use Rattle.thumb_instr.specs.declared.instr.Instr.{Instr}
 use Rattle.thumb_model.specs.Listing.{Place, Op, Word}
 use Rattle.listing_draft.specs.Drafted.{instr_in, name_in}
-use Rattle.flow_tidy.specs.Chains.{is_always}
-use Rattle.flow_tidy.specs.Tidied.{is_branch}
+use Rattle.flow_tidy.specs.Tidying.{is_always, is_branch}
 use Rattle.flow_tidy.specs.Made.{label_of_always, label_of_branch}
 
 pub label_branch : (o : Option Place) (i : Instr) → instr_in o ≡ Some i → is_branch i ≡ true → label_of_branch o ≡ name_in o

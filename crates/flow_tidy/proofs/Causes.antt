@@ -9,8 +9,7 @@ use Rattle.thumb_model.specs.Listing.{Name, Mention, Place, Op, Code, place_of}
 use Rattle.thumb_model.specs.Steps.{aim_of}
 use Rattle.thumb_model.specs.Replaced.{moved, replaced}
 use Rattle.code_flow.specs.Reached.{point}
-use Rattle.flow_tidy.specs.Chains.{is_always, Hops, HopsBy, IsEnd}
-use Rattle.flow_tidy.specs.Tidied.{Cause, ToNext, ToEnd, Idle, is_branch, GoesToNext, GoesToEnd, IsIdle, HasCause}
+use Rattle.flow_tidy.specs.Tidying.{is_always, Hops, HopsBy, IsEnd, Cause, ToNext, ToEnd, Idle, is_branch, GoesToNext, GoesToEnd, IsIdle, HasCause}
 use Rattle.flow_tidy.specs.Due.{IsCaused, is_branch_always, is_branch_if, lets_on}
 use Rattle.flow_tidy.proofs.Ways.{aim_is_point}
 use Rattle.flow_tidy.proofs.Going.{MayGo, fetch, aim_moved, reached_forth}

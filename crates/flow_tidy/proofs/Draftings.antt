@@ -2,16 +2,15 @@
 use Rattle.std.proofs.Common.{◌≡◌, ◌∙◌, ◌<◌, ℕ, zero, suc, Bool, true, false, List, [], ◌∷◌, length, replicate, Some, ap, refl, subst, sym, arith}
 use Rattle.std.specs.Prelude.{slice_set}
 use Rattle.thumb_model.specs.Listing.{code_of, places_of, Code, Line, Name}
-use Rattle.thumb_model.specs.ReplacedLines.{replaced_lines}
+use Rattle.thumb_model.specs.Replaced.{replaced_lines}
 use Rattle.code_flow.specs.Marks.{AreMarks}
 use Rattle.kept_places.specs.Marks.{is_gone, rank}
 use Rattle.listing_parser.specs.Parsing.{line_mentioning, own_line}
-use Rattle.listing_parser.specs.Retargeting.{aimed_lines}
+use Rattle.listing_parser.specs.Targets.{aimed_lines}
 use Rattle.listing_draft.specs.Drafted.{lines_now, unchanged, Drafted}
 use Rattle.listing_draft.proofs.Drafts.{set_length}
 use Rattle.flow_tidy.specs.Made.{change}
-use Rattle.flow_tidy.specs.Tidied.{ToEnd, GoesToEnd, GoesToNext, IsIdle, IsPossible}
-use Rattle.flow_tidy.specs.Tidying.{setting}
+use Rattle.flow_tidy.specs.Tidying.{ToEnd, GoesToEnd, GoesToNext, IsIdle, IsPossible, setting}
 use Rattle.flow_tidy.specs.Due.{AreDue, IsCaused}
 use Rattle.flow_tidy.specs.Quick.{left, ChangesSoonest, IsQuick}
 use Rattle.flow_tidy.proofs.Aimed.{aimed_code, code_aimed}

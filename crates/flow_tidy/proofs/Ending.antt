@@ -12,8 +12,7 @@ use Rattle.listing_draft.proofs.Drafts.{set_length}
 use Rattle.flow_tidy.specs.declared.chain_ends.Found.{Found}
 use Rattle.flow_tidy.specs.declared.chain_ends.Known.{Known}
 use Rattle.flow_tidy.specs.declared.chain_ends.Known.TheVariants.{Nothing, Walked, Last}
-use Rattle.flow_tidy.specs.Chains.{is_always, Hops, HopsBy}
-use Rattle.flow_tidy.specs.Tidied.{is_branch}
+use Rattle.flow_tidy.specs.Tidying.{is_always, Hops, HopsBy, is_branch}
 use Rattle.flow_tidy.specs.Due.{HasEnd}
 use Rattle.flow_tidy.specs.Made.{label_of_always, label_of_branch}
 use Rattle.flow_tidy.specs.Quick.{EndsAt}

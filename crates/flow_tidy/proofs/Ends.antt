@@ -7,9 +7,8 @@ use Rattle.std.proofs.lemmas.Option.{same_Some, slice_get_within}
 use Rattle.thumb_instr.specs.declared.instr.Instr.{Instr}
 use Rattle.thumb_model.specs.Listing.{Name, Mention, Place, Op, Word, Line, Code, code_of, places_of, place_of}
 use Rattle.thumb_model.proofs.Lists.{take_all, length_drop}
-use Rattle.flow_tidy.specs.Chains.{is_always, Hops, HopsBy}
-use Rattle.listing_parser.specs.Retargeting.{aimed_lines}
-use Rattle.flow_tidy.specs.Tidied.{Setting, Cause, ToNext, ToEnd, Idle, Change, is_branch, GoesToEnd, HasCause, lines_without, lines_by, lines_after, AreTidied}
+use Rattle.flow_tidy.specs.Tidying.{is_always, Hops, HopsBy, Setting, Cause, ToNext, ToEnd, Idle, Change, is_branch, GoesToEnd, HasCause, lines_without, lines_by, lines_after, AreTidied}
+use Rattle.listing_parser.specs.Targets.{aimed_lines}
 use Rattle.flow_tidy.proofs.Removed.{code_without}
 use Rattle.flow_tidy.proofs.Aimed.{to_label, aimed_places, aimed_code, get_aimed, get_other, name_stays, code_aimed}
 use Rattle.flow_tidy.proofs.AimedRuns.{last_is_code}

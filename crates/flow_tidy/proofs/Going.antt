@@ -5,7 +5,7 @@ use Rattle.std.specs.Option.{option_map}
 use Rattle.std.proofs.lemmas.Bool.{cases_lt, cases_eq}
 use Rattle.std.proofs.lemmas.Option.{same_Some, slice_get_within}
 use Rattle.thumb_instr.specs.declared.instr.Instr.{Instr}
-use Rattle.thumb_model.specs.Items.{one_of}
+use Rattle.thumb_model.specs.Effect.{one_of}
 use Rattle.thumb_model.specs.Listing.{Mention, Place, Op, Word, Label, Code, is_op_place, is_code, is_call, is_call_instr, label_places, return_places, IsPoint}
 use Rattle.thumb_model.specs.Steps.{aim_of}
 use Rattle.thumb_model.specs.Flow.{Way, Leads, Onward, ToPlace, AnyPoint, Out, ways_of, ways_on, ways, Follows}

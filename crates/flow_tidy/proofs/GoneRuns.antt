@@ -4,7 +4,7 @@ use Rattle.std.specs.Prelude.{slice_get}
 use Rattle.std.specs.Option.{option_map}
 use Rattle.std.proofs.lemmas.Bool.{cases_eq}
 use Rattle.thumb_instr.specs.declared.instr.Instr.{Instr}
-use Rattle.thumb_model.specs.Items.{Values, assigned}
+use Rattle.thumb_model.specs.Effect.{Values, assigned}
 use Rattle.thumb_model.specs.Listing.{Name, Mention, Place, Op, Word, Code, place_of}
 use Rattle.thumb_model.specs.Naming.{Naming, is_odd, is_in_range, points}
 use Rattle.thumb_model.specs.States.{World, Answer, Around, Event, Landing, Leaves, Strays, Next, On, Stay, To, Over, At, Here, Ended, State}

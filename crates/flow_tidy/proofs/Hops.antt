@@ -7,7 +7,7 @@ use Rattle.std.proofs.lemmas.Bool.Decides.{nat_tests}
 use Rattle.std.proofs.lemmas.Map.Steps.{length-le_from_distinct_below}
 use Rattle.std.proofs.lemmas.Option.{slice_get_within}
 use Rattle.thumb_model.specs.Listing.{Name, Place, Op, Word, Code, place_of}
-use Rattle.flow_tidy.specs.Chains.{is_always, Hops, HopsBy}
+use Rattle.flow_tidy.specs.Tidying.{is_always, Hops, HopsBy}
 use Rattle.flow_tidy.specs.Made.{hop_of, if_code, label_of_always, IsEndOf}
 use Rattle.flow_tidy.proofs.Unique.{hop_same}
 

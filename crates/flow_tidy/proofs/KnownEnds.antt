@@ -6,11 +6,10 @@ use Rattle.std.proofs.lemmas.Option.{same_Some}
 use Rattle.thumb_model.specs.Listing.{Name, Mention, Place, Op, Word, Code, code_of, place_of}
 use Rattle.kept_places.specs.Marks.{is_gone, rank}
 use Rattle.listing_parser.specs.Parsing.{line_mentioning}
-use Rattle.listing_parser.specs.Retargeting.{aimed_lines}
+use Rattle.listing_parser.specs.Targets.{aimed_lines}
 use Rattle.listing_draft.specs.Drafted.{lines_now, name_in, Drafted}
 use Rattle.flow_tidy.specs.declared.chain_ends.Known.{Known}
-use Rattle.flow_tidy.specs.Chains.{is_always}
-use Rattle.flow_tidy.specs.Tidied.{GoesToEnd}
+use Rattle.flow_tidy.specs.Tidying.{is_always, GoesToEnd}
 use Rattle.flow_tidy.specs.Made.{label_of_always}
 use Rattle.flow_tidy.specs.ChainEnds.{hop_at, AreEnds, HasLast, IsLast, IsLastHop, LastBy, LastOf}
 use Rattle.flow_tidy.proofs.Aimed.{aimed_code, code_aimed, get_aimed, get_other, name_stays}

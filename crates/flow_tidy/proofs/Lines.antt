@@ -6,12 +6,11 @@ use Rattle.std.proofs.lemmas.Bool.{cases_eq}
 use Rattle.std.proofs.lemmas.List.{length-map}
 use Rattle.std.proofs.lemmas.Option.{same_Some, slice_get-map, slice_get_read, slice_get_within}
 use Rattle.thumb_model.specs.Listing.{Line, places_in}
-use Rattle.thumb_model.specs.ReplacedLines.{is_op, are_joined, are_joined_from, replaced_lines}
+use Rattle.thumb_model.specs.Replaced.{is_op, are_joined, are_joined_from, replaced_lines}
 use Rattle.listing_parser.specs.declared.line.Line.{Line as Lines}
 use Rattle.listing_parser.specs.Parsing.{line_mentioning, own_line}
 use Rattle.listing_parser.specs.Views.{line_view}
-use Rattle.flow_tidy.specs.Tidied.{line_length, lines_without}
-use Rattle.flow_tidy.specs.Tidying.{setting}
+use Rattle.flow_tidy.specs.Tidying.{line_length, lines_without, setting}
 use Rattle.flow_tidy.specs.Made.{is_no_newline, AreShort}
 
 -- as many bytes as there are before the first newline

@@ -6,7 +6,7 @@ use Rattle.thumb_instr.specs.declared.instr.Instr.TheVariants as instr
 use Rattle.thumb_instr.specs.declared.operation.Condition.TheVariants as condition
 use Rattle.thumb_model.specs.Listing.{Name}
 use Rattle.listing_parser.specs.Parsing.{line_mentioning}
-use Rattle.flow_tidy.specs.Tidied.{is_branch}
+use Rattle.flow_tidy.specs.Tidying.{is_branch}
 
 -- a mnemonic of at most three bytes, a blank and the name
 told : (m : List ℕ) (name : Name) → length m ≤ 3 → length (9 ∷ ((m ++ 32 ∷ (name ++ [])) ++ 10 ∷ [])) ≤ length name + 6

@@ -6,23 +6,21 @@ use Rattle.std.proofs.lemmas.Bool.{cases_Bool, cases_eq, cases_lt}
 use Rattle.std.proofs.lemmas.Option.{slice_get_within}
 use Rattle.thumb_model.specs.Listing.{Name, Line, Code, code_of, is_op_place, places_of}
 use Rattle.thumb_model.specs.Layout.{Layable}
-use Rattle.thumb_model.specs.Replaced.{replaced}
-use Rattle.thumb_model.specs.ReplacedLines.{replaced_lines}
+use Rattle.thumb_model.specs.Replaced.{replaced, replaced_lines}
 use Rattle.code_flow.specs.Marks.{AreMarks}
 use Rattle.kept_places.specs.Marks.{is_gone, rank, IsNode}
 use Rattle.kept_places.proofs.Ranks.{marked_other, marked_set, rank_gone, rank_kept, rank_set_before, ranks_grow}
 use Rattle.listing_parser.specs.Grammar.{longest_line, most_lines}
 use Rattle.listing_parser.specs.Parsing.{line_mentioning, own_line}
-use Rattle.listing_parser.specs.Retargeting.{aimed_lines}
+use Rattle.listing_parser.specs.Targets.{aimed_lines}
 use Rattle.listing_draft.proofs.Drafts.{node_rank, set_length}
 use Rattle.steady_layout.specs.Steady.{IsSteady}
 use Rattle.steady_layout.proofs.Cuts.{cut_op}
 use Rattle.steady_layout.proofs.Laws.{cut_stays, steady_is_layable}
-use Rattle.flow_tidy.specs.Tidied.{Cause, ToNext, ToEnd, Idle, GoesToNext, GoesToEnd, IsIdle, HasCause, IsPossible, NonePossible, lines_by, rank as turn}
+use Rattle.flow_tidy.specs.Tidying.{Cause, ToNext, ToEnd, Idle, GoesToNext, GoesToEnd, IsIdle, HasCause, IsPossible, NonePossible, lines_by, rank as turn, setting}
 use Rattle.flow_tidy.specs.Due.{before_is_due, lets_on, AreDue, HasEnd, IsCaused, IsLeast, IsNextAt}
 use Rattle.flow_tidy.specs.Made.{change}
 use Rattle.flow_tidy.specs.Quick.{left, ChangesSoonest, HaveRoom, IsSure, NoneAt}
-use Rattle.flow_tidy.specs.Tidying.{setting}
 use Rattle.flow_tidy.proofs.Lefts.{left_all, left_as_many, left_at, left_free, left_gone, left_set, left_unset}
 use Rattle.flow_tidy.proofs.Lines.{without_one}
 use Rattle.flow_tidy.proofs.Removed.{code_without}

@@ -7,7 +7,7 @@ use Rattle.std.proofs.lemmas.Option.{same_Some}
 use Rattle.thumb_instr.specs.declared.instr.Instr.{Instr}
 use Rattle.thumb_instr.specs.declared.instr.Instr.TheVariants as instr
 use Rattle.thumb_instr.specs.Shape.{condition_uses}
-use Rattle.thumb_model.specs.Items.{one_of}
+use Rattle.thumb_model.specs.Effect.{one_of}
 use Rattle.thumb_model.specs.Listing.{Name, Mention, Place, Op, Word, Label, Line, Code, code_of, places_of, labels_from, is_code, is_op_place, is_call_instr, place_among, label_places, return_places, IsPoint}
 use Rattle.thumb_model.specs.Naming.{Naming}
 use Rattle.thumb_model.specs.States.{World, Target, Inside, Event, Here, puts, On}
@@ -22,7 +22,7 @@ use Rattle.thumb_model.proofs.LinesReplaced.{code_replaced}
 use Rattle.thumb_model.proofs.LinesReplaced.{outside_of}
 use Rattle.thumb_model.proofs.Follow.{Keeps, state}
 use Rattle.code_flow.specs.Reached.{Reached, point}
-use Rattle.flow_tidy.specs.Tidied.{Setting, is_branch, GoesToNext, IsIdle, lines_without}
+use Rattle.flow_tidy.specs.Tidying.{Setting, is_branch, GoesToNext, IsIdle, lines_without}
 use Rattle.flow_tidy.proofs.Ways.{one_of_first, aim_is_point}
 use Rattle.flow_tidy.proofs.Going.{MayGo, reached_forth, reached_back}
 use Rattle.flow_tidy.proofs.GoneRuns.{DoesNothing, gone_keeps}

@@ -5,12 +5,12 @@ use Rattle.std.proofs.lemmas.Bool.{cases_Bool}
 use Rattle.std.proofs.lemmas.Option.{same_Some}
 use Rattle.thumb_instr.specs.declared.instr.Instr.{Instr}
 use Rattle.thumb_model.specs.Listing.{Name, Mention, Statement, Runs, Words, Line, Op, places_in, places_of}
-use Rattle.thumb_model.specs.ReplacedLines.{is_op, labels_kept, replaced_lines, without}
+use Rattle.thumb_model.specs.Replaced.{is_op, labels_kept, replaced_lines, without}
 use Rattle.listing_parser.specs.declared.line.Line.{Line as Lines}
 use Rattle.listing_parser.specs.Grammar.{front_of}
-use Rattle.listing_parser.specs.Retargeting.{aimed, aimed_line, aimed_lines, own_bytes}
+use Rattle.listing_parser.specs.Targets.{aimed, aimed_line, aimed_lines, own_bytes}
 use Rattle.listing_parser.specs.Views.{line_view, names_view}
-use Rattle.flow_tidy.specs.Tidied.{line_length}
+use Rattle.flow_tidy.specs.Tidying.{line_length}
 use Rattle.flow_tidy.specs.Made.{AreShort}
 use Rattle.flow_tidy.specs.Quick.{counts_for, room_taken, some_name, AllShort, HaveRoom}
 use Rattle.flow_tidy.proofs.Aimed.{past_words, to_label}

@@ -14,7 +14,7 @@ use Rattle.label_layout.specs.Addresses.{addresses_from}
 use Rattle.label_layout.proofs.Sums.{places_counted}
 use Rattle.listing_parser.specs.Grammar.{longest_line, most_lines}
 use Rattle.listing_parser.specs.Parsing.{line_mentioning}
-use Rattle.listing_parser.specs.Retargeting.{aimed_lines}
+use Rattle.listing_parser.specs.Targets.{aimed_lines}
 use Rattle.listing_draft.specs.Drafted.{aim_at, instr_in, lines_now, name_in, now_of, stands, unchanged, Drafted}
 use Rattle.listing_draft.specs.Held.{IsDraft}
 use Rattle.listing_draft.proofs.Drafts.{aimed_draft, all_same, drafted, instr_at, still_draft}
@@ -26,8 +26,7 @@ use Rattle.flow_tidy.specs.Ground.{IsGround}
 use Rattle.flow_tidy.specs.Halves.{halves, wide_of, IsBeyond}
 use Rattle.flow_tidy.specs.Made.{change}
 use Rattle.flow_tidy.specs.Quick.{whole, EndsAt, HaveRoom, IsSafe, IsSure, MayAim}
-use Rattle.flow_tidy.specs.Tidied.{is_branch, ToEnd, IsPossible}
-use Rattle.flow_tidy.specs.Tidying.{setting}
+use Rattle.flow_tidy.specs.Tidying.{is_branch, ToEnd, IsPossible, setting}
 use Rattle.flow_tidy.proofs.Aims.{aims_within}
 use Rattle.flow_tidy.proofs.Draftings.{IsLeft}
 use Rattle.flow_tidy.proofs.Halves.{are_apart, label_lies, never_reached, same_wide}

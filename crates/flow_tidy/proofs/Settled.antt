@@ -13,7 +13,7 @@ use Rattle.thumb_model.proofs.Lists.{get_back, get_drop, get_front, get_take, ta
 use Rattle.code_flow.specs.Marks.{AreMarks}
 use Rattle.code_flow.specs.Reached.{Reached}
 use Rattle.label_layout.specs.Addresses.{Addresses, AreAddresses}
-use Rattle.flow_tidy.specs.Tidied.{Setting, Cause, ToNext, ToEnd, Idle, GoesToNext, GoesToEnd, IsIdle, HasCause, lines_by}
+use Rattle.flow_tidy.specs.Tidying.{Setting, Cause, ToNext, ToEnd, Idle, GoesToNext, GoesToEnd, IsIdle, HasCause, lines_by}
 use Rattle.flow_tidy.specs.Due.{before_is_due, lets_on, AreDue, IsCaused, IsKnown, IsLeast, IsNextAt}
 use Rattle.flow_tidy.proofs.Aimed.{aimed_code, code_aimed}
 use Rattle.flow_tidy.proofs.AimedRuns.{reached_same}

@@ -5,7 +5,7 @@ use Rattle.std.proofs.lemmas.Bool.{cases_lt}
 use Rattle.thumb_instr.specs.declared.instr.Instr.{Instr}
 use Rattle.thumb_model.specs.Listing.{Mention, Op, Code, is_call_instr}
 use Rattle.code_flow.specs.Reached.{Reached}
-use Rattle.flow_tidy.specs.Tidied.{is_branch, Cause, ToNext, ToEnd, Idle, HasCause, IsIdle}
+use Rattle.flow_tidy.specs.Tidying.{is_branch, Cause, ToNext, ToEnd, Idle, HasCause, IsIdle}
 use Rattle.flow_tidy.specs.Due.{may_change, AreDue, IsCaused}
 use Rattle.flow_tidy.proofs.Settled.{caused_within}
 

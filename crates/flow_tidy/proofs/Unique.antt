@@ -5,8 +5,7 @@ use Rattle.std.proofs.lemmas.Option.{same_Some}
 use Rattle.thumb_instr.specs.declared.instr.Instr.{Instr}
 use Rattle.thumb_model.specs.Listing.{Name, Mention, Op, Line, Code, code_of}
 use Rattle.thumb_model.proofs.Lists.{cons_same}
-use Rattle.flow_tidy.specs.Chains.{Hops, HopsBy, IsEnd}
-use Rattle.flow_tidy.specs.Tidied.{Setting, Cause, ToNext, ToEnd, Idle, Change, lines_after, GoesToEnd, HasCause, rank, IsFirst, NonePossible, AreTidied, AllPossible}
+use Rattle.flow_tidy.specs.Tidying.{Hops, HopsBy, IsEnd, Setting, Cause, ToNext, ToEnd, Idle, Change, lines_after, GoesToEnd, HasCause, rank, IsFirst, NonePossible, AreTidied, AllPossible}
 
 -- ---- chains ----
 

@@ -8,7 +8,7 @@ use Rattle.thumb_instr.specs.Items.{has}
 use Rattle.thumb_instr.specs.Shape.{registers_in}
 use Rattle.thumb_instr.specs.declared.instr.Instr.{Instr}
 use Rattle.thumb_instr.specs.declared.instr.Instr.TheVariants as instr
-use Rattle.thumb_model.specs.Items.{one_of, sp}
+use Rattle.thumb_model.specs.Effect.{one_of, sp}
 use Rattle.thumb_model.specs.Listing.{Name, Mention, Place, Label, Code, is_code, place_among, place_of, label_places, return_places, IsPoint}
 use Rattle.thumb_model.specs.Naming.{Naming, points}
 use Rattle.thumb_model.specs.Steps.{aim_of}

@@ -6,12 +6,12 @@ use Rattle.std.proofs.lemmas.Option.{same_Some}
 use Rattle.thumb_instr.specs.declared.instr.Instr.{Instr}
 use Rattle.thumb_model.specs.Listing.{Name, Mention, Statement, Nothing, Runs, Words, Aligns, Sets, Line, Op, is_op_place, places_in, places_of}
 use Rattle.thumb_model.specs.Layout.{is_among, set_in, set_address, cleared}
-use Rattle.thumb_model.specs.ReplacedLines.{is_op, labels_kept, replaced_lines}
+use Rattle.thumb_model.specs.Replaced.{is_op, labels_kept, replaced_lines}
 use Rattle.thumb_model.proofs.Lists.{get_back}
 use Rattle.kept_places.specs.Marks.{is_gone, rank}
 use Rattle.kept_places.proofs.Ranks.{unmarked}
 use Rattle.listing_parser.specs.Parsing.{line_mentioning, own_line}
-use Rattle.listing_parser.specs.Retargeting.{aimed, aimed_line}
+use Rattle.listing_parser.specs.Targets.{aimed, aimed_line}
 use Rattle.listing_draft.specs.Drafted.{aim_at, line_now, lines_now, now_of, Drafted}
 use Rattle.listing_draft.specs.Held.{IsDraft}
 use Rattle.listing_draft.proofs.Ranks.{drop_set, op_behind, OpsGone}

@@ -16,8 +16,7 @@ use Rattle.thumb_model.specs.States.{registers_left}
 use Rattle.thumb_model.specs.Steps.{aim_of}
 use Rattle.thumb_model.specs.Flow.{Way, way, Onward, AnyPoint, Out, jump_way, ways, Follows}
 use Rattle.code_flow.specs.Reached.{Reached, point, along}
-use Rattle.flow_tidy.specs.Chains.{is_always, Hops, HopsBy, IsEnd}
-use Rattle.flow_tidy.specs.Tidied.{Cause, ToNext, ToEnd, Idle, is_branch, GoesToNext, GoesToEnd, IsIdle, HasCause, line_length, rank, IsFirst, AreTidied}
+use Rattle.flow_tidy.specs.Tidying.{is_always, Hops, HopsBy, IsEnd, Cause, ToNext, ToEnd, Idle, is_branch, GoesToNext, GoesToEnd, IsIdle, HasCause, line_length, rank, IsFirst, AreTidied}
 use Rattle.flow_tidy.specs.Worked.{roomy, labels, does, goes, change, a, c, e, f, crossing, crossed, next_branch, loop, idle_call, SmallListings}
 use Rattle.flow_tidy.proofs.Whole.{change_keeps}
 

@@ -4,8 +4,7 @@ use Rattle.thumb_model.specs.Layout.{Layable}
 use Rattle.thumb_model.specs.Listing.{Name, Place, Op, Word, Line, Code, code_of, is_call_instr}
 use Rattle.code_flow.specs.Marks.{AreMarks}
 use Rattle.label_layout.specs.Addresses.{Addresses, AreAddresses}
-use Rattle.flow_tidy.specs.Chains.{is_always}
-use Rattle.flow_tidy.specs.Tidied.{Setting, Cause, is_branch, lines_by, GoesToEnd, HasCause, IsFirst, NonePossible}
+use Rattle.flow_tidy.specs.Tidying.{is_always, Setting, Cause, is_branch, lines_by, GoesToEnd, HasCause, IsFirst, NonePossible}
 use Rattle.flow_tidy.specs.declared.found.Found.{Found}
 use Rattle.flow_tidy.specs.Made.{IsMovedTo}
 

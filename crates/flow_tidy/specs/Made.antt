@@ -4,8 +4,7 @@ use Rattle.thumb_model.specs.Listing.{Name, Place, Op, Word, Line, Code, place_o
 use Rattle.thumb_model.specs.Layout.{Layable}
 use Rattle.label_layout.specs.Addresses.{Addresses, AreAddresses}
 use Rattle.flow_tidy.specs.declared.found.Changed.{Changed}
-use Rattle.flow_tidy.specs.Chains.{is_always, IsEnd}
-use Rattle.flow_tidy.specs.Tidied.{Setting, Cause, Change, is_branch, line_length, lines_by, rank, IsPossible, AreTidied}
+use Rattle.flow_tidy.specs.Tidying.{is_always, IsEnd, Setting, Cause, Change, is_branch, line_length, lines_by, rank, IsPossible, AreTidied}
 
 -- ---- branches ----
 

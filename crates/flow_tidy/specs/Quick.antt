@@ -2,7 +2,7 @@
 use Rattle.std.specs.Prelude.{◌≡◌, ℕ, ◌+◌, ◌%◌, ◌<◌, ◌≤◌, ◌&&◌, Bool, true, false, List, [], ◌∷◌, length, Some, option_and_then, slice_get, if◌then◌else◌}
 use Rattle.thumb_instr.specs.declared.instr.Instr.{Instr}
 use Rattle.thumb_model.specs.Listing.{Name, Line, code_of, place_of, places_of}
-use Rattle.thumb_model.specs.ReplacedLines.{is_op}
+use Rattle.thumb_model.specs.Replaced.{is_op}
 use Rattle.code_flow.specs.Marks.{AreMarks}
 use Rattle.kept_places.specs.Marks.{is_gone, rank}
 use Rattle.listing_draft.specs.Drafted.{Drafted, instr_in, lines_now, name_in, now_of, stands}
@@ -15,8 +15,7 @@ use Rattle.flow_tidy.specs.declared.outcome.Outcome.{Outcome}
 use Rattle.flow_tidy.specs.declared.outcome.Outcome.TheVariants as outcome
 use Rattle.flow_tidy.specs.declared.outcome.Redirected.{Redirected}
 use Rattle.flow_tidy.specs.declared.outcome.Redirected.TheVariants as redirected
-use Rattle.flow_tidy.specs.Tidied.{line_length, lines_by, rank as turn, Cause, ToEnd, GoesToEnd, HasCause, IsPossible}
-use Rattle.flow_tidy.specs.Tidying.{setting}
+use Rattle.flow_tidy.specs.Tidying.{line_length, lines_by, rank as turn, Cause, ToEnd, GoesToEnd, HasCause, IsPossible, setting}
 use Rattle.flow_tidy.specs.Due.{AreDue, HasEnd}
 use Rattle.flow_tidy.specs.Halves.{wide_of}
 use Rattle.flow_tidy.specs.Made.{change, label_of_branch}

@@ -9,7 +9,7 @@ use Rattle.thumb_instr.specs.declared.operation.Condition.{Condition}
 use Rattle.thumb_instr.specs.declared.operation.ByteOperation.TheVariants as byte
 use Rattle.thumb_instr.specs.declared.operation.Hint.TheVariants as hint
 use Rattle.thumb_model.specs.Listing.{Name, Nothing, Runs, Line}
-use Rattle.flow_tidy.specs.Tidied.{Setting, Change, Cause, ToNext, ToEnd, Idle, AreTidied}
+use Rattle.flow_tidy.specs.Tidying.{Setting, Change, Cause, ToNext, ToEnd, Idle, AreTidied}
 
 -- from address 0, with room enough; bytes are left out
 abbrev pub roomy : Setting

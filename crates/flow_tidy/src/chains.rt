@@ -1,8 +1,7 @@
 //! Where branches go: the label of each, and the end of the chain of branches that begins at a label.
 ghost use Rattle.std.specs.Prelude.{◌≡◌, option_map, slice_get};
 ghost use Rattle.thumb_model.specs.Listing.{code_of, places_of};
-ghost use Rattle.flow_tidy.specs.Chains.{is_always};
-ghost use Rattle.flow_tidy.specs.Tidied.{is_branch};
+ghost use Rattle.flow_tidy.specs.Tidying.{is_always, is_branch};
 ghost use Rattle.flow_tidy.specs.Made.{hop_of, label_of_always, label_of_branch, IsEndOf};
 
 use listing_parser::{Listing, Place};

@@ -4,11 +4,10 @@ ghost use Rattle.thumb_model.specs.Layout.{Layable};
 ghost use Rattle.thumb_model.specs.Listing.{code_of, is_op_place, place_of, places_of};
 ghost use Rattle.label_layout.specs.Addresses.{AreAddresses};
 ghost use Rattle.listing_parser.specs.Parsing.{line_mentioning};
-ghost use Rattle.listing_parser.specs.Retargeting.{aimed_lines};
+ghost use Rattle.listing_parser.specs.Targets.{aimed_lines};
 ghost use Rattle.code_flow.specs.Marks.{AreMarks};
-ghost use Rattle.flow_tidy.specs.Tidied.{lines_without, GoesToNext, IsIdle};
+ghost use Rattle.flow_tidy.specs.Tidying.{lines_without, GoesToNext, IsIdle, setting};
 ghost use Rattle.flow_tidy.specs.Due.{HasEnd};
-ghost use Rattle.flow_tidy.specs.Tidying.{setting};
 ghost use Rattle.flow_tidy.specs.Made.{label_of_branch, IsAccepted, IsMade, IsMadeAt};
 
 use crate::chains::{chain_end, label_of_branch};

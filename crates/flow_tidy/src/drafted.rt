@@ -5,7 +5,7 @@ ghost use Rattle.thumb_model.specs.Listing.{code_of, place_of};
 ghost use Rattle.code_flow.specs.Marks.{AreMarks};
 ghost use Rattle.listing_draft.specs.Drafted.{lines_now, stands};
 ghost use Rattle.flow_tidy.specs.Due.{is_branch_always as branches_always, is_branch_if as branches_if, lets_on as code_lets_on};
-ghost use Rattle.flow_tidy.specs.Tidied.{GoesToNext, IsIdle};
+ghost use Rattle.flow_tidy.specs.Tidying.{GoesToNext, IsIdle};
 ghost use Rattle.flow_tidy.specs.Made.{label_of_always, label_of_branch};
 ghost use Rattle.flow_tidy.specs.Quick.{left, GoesTo};
 

@@ -4,8 +4,7 @@ ghost use Rattle.std.specs.List.{prefix_len};
 ghost use Rattle.listing_parser.specs.Grammar.{longest_line, most_lines};
 ghost use Rattle.listing_parser.specs.Parsing.{line_mentioning};
 ghost use Rattle.listing_parser.specs.Views.{line_view};
-ghost use Rattle.flow_tidy.specs.Tidied.{line_length as length_of};
-ghost use Rattle.flow_tidy.specs.Tidying.{setting};
+ghost use Rattle.flow_tidy.specs.Tidying.{line_length as length_of, setting};
 ghost use Rattle.flow_tidy.specs.Made.{is_no_newline, AreShort, AreWithin, IsAccepted, IsWithin};
 ghost use Rattle.flow_tidy.specs.Quick.{counts_for, HaveRoom};
 

@@ -2,12 +2,11 @@
 //! made of what is left only in the end, where making one for each change takes as long as there are lines.
 ghost use Rattle.std.specs.Prelude.{◌≡◌, ◌⊎◌, ◌<◌, ◌^◌, [], true, false, IfOk, IfSome, OnOk, List, Bool, length, slice_set};
 ghost use Rattle.thumb_model.specs.Listing.{code_of, places_of, Name};
-ghost use Rattle.thumb_model.specs.ReplacedLines.{replaced_lines};
+ghost use Rattle.thumb_model.specs.Replaced.{replaced_lines};
 ghost use Rattle.listing_parser.specs.Parsing.{own_line};
 ghost use Rattle.kept_places.specs.Marks.{is_gone, rank};
 ghost use Rattle.listing_draft.specs.Drafted.{lines_now, name_in, stands};
-ghost use Rattle.flow_tidy.specs.Tidied.{ToEnd, GoesToNext, IsIdle, IsPossible};
-ghost use Rattle.flow_tidy.specs.Tidying.{setting};
+ghost use Rattle.flow_tidy.specs.Tidying.{ToEnd, GoesToNext, IsIdle, IsPossible, setting};
 ghost use Rattle.flow_tidy.specs.declared.chain_ends.Known.{Known};
 ghost use Rattle.flow_tidy.specs.Due.{AreDue, HasEnd};
 ghost use Rattle.flow_tidy.specs.ChainEnds.{AreEnds};

@@ -7,8 +7,7 @@ ghost use Rattle.code_flow.specs.Marks.{AreMarks};
 ghost use Rattle.label_layout.specs.Addresses.{AreAddresses};
 ghost use Rattle.flow_tidy.specs.Due.{is_branch_always as branches_always, is_branch_if as branches_if, lets_on as code_lets_on, AreDue, IsKnown, IsNextAt};
 ghost use Rattle.flow_tidy.specs.Made.{IsMovedTo};
-ghost use Rattle.flow_tidy.specs.Tidied.{GoesToNext, IsIdle};
-ghost use Rattle.flow_tidy.specs.Tidying.{setting};
+ghost use Rattle.flow_tidy.specs.Tidying.{GoesToNext, IsIdle, setting};
 
 use crate::chains::{is_always, is_branch};
 use crate::due::Due;

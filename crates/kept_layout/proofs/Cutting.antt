@@ -8,7 +8,7 @@ use Rattle.thumb_instr.specs.declared.instr.Instr.TheVariants as instr
 use Rattle.thumb_instr.specs.Window.{is_in_window}
 use Rattle.thumb_model.specs.Listing.{Name, Mention, Value, Statement, Nothing, Runs, Words, Aligns, Sets, Line, Word, places_in, places_of}
 use Rattle.thumb_model.specs.Layout.{cleared, instr_size, is_among, set_address}
-use Rattle.thumb_model.specs.ReplacedLines.{is_op, labels_kept, new_line, replaced_lines, without}
+use Rattle.thumb_model.specs.Replaced.{is_op, labels_kept, new_line, replaced_lines, without}
 use Rattle.thumb_model.proofs.Lists.{drop_back, length_map}
 use Rattle.window_runs.specs.declared.rows.Row.{Row}
 use Rattle.window_runs.specs.Rows.{is_unlabelled, letter_of, rows_of, rows_from, stays_joined}

@@ -4,7 +4,7 @@ use Rattle.std.proofs.lemmas.Bool.{and_parts, cases_Bool}
 use Rattle.thumb_instr.specs.declared.instr.Instr.{Instr}
 use Rattle.thumb_model.specs.Listing.{Name, Statement, Nothing, Runs, Words, Aligns, Sets, Line, places_in}
 use Rattle.thumb_model.specs.Layout.{set_address, set_in}
-use Rattle.thumb_model.specs.ReplacedLines.{is_op, labels_kept, new_line, replaced_lines, without}
+use Rattle.thumb_model.specs.Replaced.{is_op, labels_kept, new_line, replaced_lines, without}
 
 op_sets_none : (q : Name) (s : Statement) (rest : Option ℕ) → is_op s ≡ true → set_in q s rest ≡ rest
 op_sets_none q (Runs i m) rest e = refl

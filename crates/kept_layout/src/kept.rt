@@ -51,7 +51,7 @@ impl KeptLayout {
     ghost use Rattle.thumb_instr.specs.Window.{is_in_window};
     ghost use Rattle.thumb_model.specs.Layout.{Layable};
     ghost use Rattle.thumb_model.specs.Listing.{Line};
-    ghost use Rattle.thumb_model.specs.ReplacedLines.{replaced_lines};
+    ghost use Rattle.thumb_model.specs.Replaced.{replaced_lines};
     ghost use Rattle.listing_parser.specs.Parsing.{own_line};
     ghost use Rattle.window_runs.specs.Windows.{IsWindow};
     ghost use Rattle.kept_layout.specs.Kept.{Lays, IsNear, LeavesLayable, StandsAt};

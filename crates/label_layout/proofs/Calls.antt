@@ -6,7 +6,7 @@ use Rattle.std.proofs.lemmas.Bool.{cases_Bool, cases_lt}
 use Rattle.thumb_instr.specs.declared.instr.Instr.{Instr}
 use Rattle.thumb_model.specs.Listing.{Mention, Value, Statement, Nothing, Runs, Words, Aligns, Sets, Line, Place, Op, Word, places_in, places_of, is_call, is_call_instr, call_count}
 use Rattle.thumb_model.specs.Layout.{instr_size, size_at}
-use Rattle.thumb_model.specs.Laid.{return_address, ends_in_call}
+use Rattle.thumb_model.specs.Naming.{return_address, ends_in_call}
 use Rattle.thumb_model.proofs.Lists.{get_front, get_back}
 use Rattle.thumb_model.proofs.Moved.{count_append}
 use Rattle.thumb_model.proofs.Returns.{no_words}

@@ -1,12 +1,19 @@
--- When lines are refused.
-use Rattle.std.specs.Prelude.{◌≡◌, ℕ, List, Some}
+-- Which lines have no place, and the first of them.
+use Rattle.std.specs.Prelude.{ℕ, List, Option, ◌≡◌, Some}
 use Rattle.thumb_model.specs.Listing.{Line as ListingLine}
-use Rattle.thumb_model.specs.Layout.{Fault, Range, Align}
+use Rattle.thumb_model.specs.Layout.{Fault, lies_in, faults_from, Range, Align}
 use Rattle.label_layout.specs.declared.errors.Kind.{Kind}
 use Rattle.label_layout.specs.declared.errors.Kind.TheVariants as kind
 use Rattle.label_layout.specs.declared.errors.LayoutError.{LayoutError}
 use Rattle.label_layout.specs.declared.errors.LayoutError.TheVariants as error
-use Rattle.label_layout.specs.Faults.{first_fault}
+
+-- The first line that cannot be laid out.
+
+-- the first line with a fault, by its number from 1
+abbrev pub first_fault : ℕ → List ListingLine → Option (ℕ × Fault)
+first_fault base lines = faults_from (lies_in base lines) 1 base lines
+
+-- When lines are refused.
 
 -- the fault that is told
 abbrev pub fault_of : Kind → Fault

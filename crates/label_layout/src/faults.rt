@@ -3,8 +3,7 @@ ghost use Rattle.std.specs.Prelude.{◌≡◌, ◌≤◌, ◌<◌, ◌^◌, opti
 ghost use Rattle.thumb_model.specs.Layout.{less, branch_fault as branch_fault_at, literal_fault as literal_fault_at, aim_fault as aim_fault_at, fault_at, lies_in};
 ghost use Rattle.listing_parser.specs.Views.{statement_view};
 ghost use Rattle.label_layout.specs.Addresses.{AreAddresses};
-ghost use Rattle.label_layout.specs.Refusals.{fault_of, numbered};
-ghost use Rattle.label_layout.specs.Faults.{first_fault};
+ghost use Rattle.label_layout.specs.Refusals.{fault_of, numbered, first_fault};
 
 use crate::addresses::Layout;
 use crate::errors::Kind;

@@ -9,12 +9,11 @@ use Rattle.std.specs.declared.vec.Vec.{Vec}
 use Rattle.std.specs.declared.alloc.Global.{Global}
 use Rattle.thumb_model.specs.Listing.{Name, Line, Place, Op, Word, code_of, is_op_place, labels_from, place_of, places_in, places_of}
 use Rattle.thumb_model.specs.Steps.{label_place}
-use Rattle.thumb_model.specs.ReplacedLines.{is_op, replaced_lines}
+use Rattle.thumb_model.specs.Replaced.{is_op, replaced_lines}
 use Rattle.kept_places.specs.Marks.{is_gone, rank, IsNode, IsStart}
 use Rattle.kept_places.proofs.Ranks.{marked_other, rank_gone, rank_kept, rank_zero, unmarked}
 use Rattle.listing_parser.specs.Parsing.{line_mentioning, own_line}
-use Rattle.listing_parser.specs.Retargeting.{aimed_lines}
-use Rattle.listing_parser.specs.Targets.{DefineOnce}
+use Rattle.listing_parser.specs.Targets.{aimed_lines, DefineOnce}
 use Rattle.listing_parser.proofs.LabelLemmas.{code_place, label_at, one_label}
 use Rattle.listing_parser.proofs.ReplaceLemmas.{aimed_as_many, aimed_once, still_few, still_once}
 use Rattle.listing_parser.proofs.TwiceLemmas.{once_none}

@@ -3,7 +3,7 @@ use Rattle.std.proofs.Common.{◌≡◌, ◌∙◌, ℕ, zero, suc, ◌+◌, ◌
 use Rattle.std.specs.Prelude.{slice_get}
 use Rattle.std.proofs.lemmas.List.{length-append}
 use Rattle.thumb_model.specs.Listing.{Name, Statement, Nothing, Runs, Words, Aligns, Sets, Line, places_in, places_of}
-use Rattle.thumb_model.specs.ReplacedLines.{is_op}
+use Rattle.thumb_model.specs.Replaced.{is_op}
 use Rattle.kept_places.specs.Marks.{is_gone}
 use Rattle.listing_draft.specs.Drafted.{aim_at, line_now, now_of}
 use Rattle.listing_draft.proofs.Ranks.{aim_drop, gone_drop}

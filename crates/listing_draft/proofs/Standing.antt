@@ -3,7 +3,7 @@ use Rattle.std.proofs.Common.{◌≡◌, ◌∙◌, ℕ, zero, suc, ◌+◌, Boo
 use Rattle.std.specs.Prelude.{slice_get, slice_set}
 use Rattle.std.proofs.lemmas.Option.{same_Some}
 use Rattle.thumb_model.specs.Listing.{Name, Line, places_in, places_of}
-use Rattle.thumb_model.specs.ReplacedLines.{is_op}
+use Rattle.thumb_model.specs.Replaced.{is_op}
 use Rattle.kept_places.specs.Marks.{is_gone}
 use Rattle.listing_parser.specs.Views.{line_view}
 use Rattle.listing_parser.specs.declared.line.Line.{Line as Lines}

@@ -2,10 +2,10 @@
 use Rattle.std.specs.Prelude.{ℕ, zero, suc, Bool, true, false, List, [], ◌∷◌, ◌++◌, length, drop, replicate, Option, Some, None, slice_get, if◌then◌else◌}
 use Rattle.thumb_instr.specs.declared.instr.Instr.{Instr}
 use Rattle.thumb_model.specs.Listing.{Name, Mention, Place, Op, Word, Line, places_in, places_of}
-use Rattle.thumb_model.specs.ReplacedLines.{is_op, labels_kept}
+use Rattle.thumb_model.specs.Replaced.{is_op, labels_kept}
 use Rattle.kept_places.specs.Marks.{is_gone, rank}
 use Rattle.listing_parser.specs.Parsing.{line_mentioning}
-use Rattle.listing_parser.specs.Retargeting.{aimed_line}
+use Rattle.listing_parser.specs.Targets.{aimed_line}
 
 -- the lines that were given, which of their places are gone, and for each place the label that its branch goes to now, where that was changed
 pub record Drafted : Type 0 where

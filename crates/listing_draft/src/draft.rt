@@ -85,9 +85,9 @@ impl Draft {
     ghost use Rattle.kept_places.specs.Marks.{is_gone, rank, IsNode};
     ghost use Rattle.thumb_model.specs.Listing.{code_of, is_op_place, labels_from, place_of};
     ghost use Rattle.thumb_model.specs.Steps.{label_place};
-    ghost use Rattle.thumb_model.specs.ReplacedLines.{replaced_lines};
+    ghost use Rattle.thumb_model.specs.Replaced.{replaced_lines};
     ghost use Rattle.listing_parser.specs.Parsing.{line_mentioning, own_line};
-    ghost use Rattle.listing_parser.specs.Retargeting.{aimed_lines};
+    ghost use Rattle.listing_parser.specs.Targets.{aimed_lines};
     ghost use Rattle.listing_draft.specs.Drafted.{instr_in, lines_now, name_in, stands, unchanged};
     ghost use Rattle.listing_draft.specs.Held.{IsDraft};
 

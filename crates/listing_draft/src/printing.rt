@@ -1,7 +1,7 @@
 //! The lines of a draft. As long as each line stays one line they stay where they are, and the others are moved over as they are in one pass.
 ghost use Rattle.std.specs.Prelude.{◌≡◌, ◌≤◌, ◌+◌, ◌++◌, ◌∷◌, [], Some, true, false, length, map, take, drop, option_map, IfOk, OnOk};
 ghost use Rattle.thumb_model.specs.Listing.{places_of};
-ghost use Rattle.thumb_model.specs.ReplacedLines.{is_op, labels_kept};
+ghost use Rattle.thumb_model.specs.Replaced.{is_op, labels_kept};
 ghost use Rattle.listing_parser.specs.Views.{line_view};
 ghost use Rattle.listing_draft.specs.Drafted.{line_now, now_of};
 ghost use Rattle.listing_draft.specs.Held.{names_of};

@@ -7,13 +7,12 @@ use Rattle.std.proofs.lemmas.Bool.{cases_Bool, and_from, and_parts}
 use Rattle.std.proofs.lemmas.Slice.Eq.{bytes_eq-Decides}
 use Rattle.thumb_model.specs.Listing.{Name, Value, Number, OfName, Statement, Nothing, Runs, Words, Aligns, Sets, Line, Place, Word, places_in, places_of, labels_from, code_of, has_label, is_mentioned, value_mentions, place_mentions}
 use Rattle.thumb_model.specs.Layout.{end_of, label_address, lies_in, set_address, set_in}
-use Rattle.thumb_model.specs.Naming.{Fits, is_in_range}
-use Rattle.thumb_model.specs.Laid.{laid, last_is_call}
+use Rattle.thumb_model.specs.Naming.{Fits, is_in_range, laid, last_is_call}
 use Rattle.listing_parser.specs.Parsing.{text_of_lines}
 use Rattle.listing_parser.proofs.LabelLemmas.{or_false, or_true}
 use Rattle.thumb_assembler.specs.Fair.{is_fair, are_fair}
-use Rattle.thumb_assembler.specs.Following.{IsAssembled}
-use Rattle.thumb_assembler.specs.Refusals.{branch_lost, flaw_of, flaws_from, lies_inside, lies_nowhere, may_leave, value_lost, values_lost}
+use Rattle.thumb_assembler.specs.Runs.{IsAssembled}
+use Rattle.thumb_assembler.specs.Bytes.{branch_lost, flaw_of, flaws_from, lies_inside, lies_nowhere, may_leave, value_lost, values_lost}
 use Rattle.thumb_assembler.proofs.Cuts.{end_even, fair_front}
 use Rattle.thumb_assembler.proofs.Fairness.{listed_fair}
 use Rattle.thumb_assembler.proofs.Meeting.{images_follow}

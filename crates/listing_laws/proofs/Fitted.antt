@@ -10,9 +10,8 @@ use Rattle.thumb_instr.specs.declared.instr.Instr.{Instr}
 use Rattle.thumb_instr.specs.declared.instr.Instr.TheVariants as instr
 use Rattle.thumb_model.specs.Listing.{Name, Mention, Value, Statement, Nothing, Runs, Words, Aligns, Sets, Line, Place, Op, Word, Label, places_in, places_of, labels_at, labels_from, code_of, has_label, is_call, is_call_instr, is_code, is_op_place, place_among, place_of, call_count}
 use Rattle.thumb_model.specs.Layout.{instr_size, size_at, end_of, is_among, label_address}
-use Rattle.thumb_model.specs.Naming.{Naming, Fits, is_in_range, is_odd, points, points_of, returns_from}
+use Rattle.thumb_model.specs.Naming.{Naming, Fits, is_in_range, is_odd, points, points_of, returns_from, laid, word_by, ends_in_call, last_is_call, return_address}
 use Rattle.thumb_model.specs.Steps.{label_place}
-use Rattle.thumb_model.specs.Laid.{laid, word_by, ends_in_call, last_is_call, return_address}
 use Rattle.listing_parser.proofs.LabelLemmas.{label_at}
 use Rattle.thumb_assembler.proofs.Cuts.{end_append, places_append}
 use Rattle.listing_laws.specs.Fitting.{LiesApart, LaidNamingsFit}

@@ -2,10 +2,9 @@
 use Rattle.std.specs.Prelude.{◌≡◌, ℕ, ◌+◌, ◌^◌, ◌<◌, ◌≤◌, true, List, Some}
 use Rattle.thumb_model.specs.Listing.{Name, Line, code_of, places_of, is_mentioned}
 use Rattle.thumb_model.specs.Layout.{end_of, set_address}
-use Rattle.thumb_model.specs.Naming.{Fits}
-use Rattle.thumb_model.specs.Laid.{laid, last_is_call}
+use Rattle.thumb_model.specs.Naming.{Fits, laid, last_is_call}
 use Rattle.thumb_assembler.specs.Bytes.{IsSetBy}
-use Rattle.thumb_assembler.specs.Following.{IsAssembled, Follows}
+use Rattle.thumb_assembler.specs.Runs.{IsAssembled, Follows}
 
 -- what stands for external names is what the lines set for them, and a word. Behind a call at the end the code goes on for two bytes: there no name that is mentioned is set
 pub record IsOutside (base : ℕ) (set : Name → ℕ) (lines : List Line) : Type 0 where

@@ -2,9 +2,8 @@
 use Rattle.std.specs.Prelude.{◌≡◌, ℕ, ◌+◌, ◌%◌, ◌^◌, ◌<◌, true, false, List, ◌++◌, Some, slice_get}
 use Rattle.thumb_model.specs.Listing.{Name, Line, Label, code_of, places_of, labels_from, has_label, is_mentioned}
 use Rattle.thumb_model.specs.Layout.{end_of}
-use Rattle.thumb_model.specs.Naming.{Fits, is_in_range}
+use Rattle.thumb_model.specs.Naming.{Fits, is_in_range, laid}
 use Rattle.thumb_model.specs.Steps.{label_place}
-use Rattle.thumb_model.specs.Laid.{laid}
 
 -- lines that lie low, with one label a name, and external names whose words lie elsewhere
 pub record LiesApart (base : ℕ) (set : Name → ℕ) (lines : List Line) : Type 0 where

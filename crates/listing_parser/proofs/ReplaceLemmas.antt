@@ -7,13 +7,12 @@ use Rattle.std.proofs.Math.Seq.{drop-cons}
 use Rattle.thumb_instr.specs.declared.instr.Instr.{Instr}
 use Rattle.thumb_model.specs.Listing.{Name, Statement, Nothing, Runs, Words, Aligns, Sets, Line, Mention, Place, Op, Word, plain, places_in, places_of, is_op_place}
 use Rattle.thumb_model.specs.Layout.{is_among}
-use Rattle.thumb_model.specs.ReplacedLines.{is_op, without, labels_kept, new_line, replaced_lines}
+use Rattle.thumb_model.specs.Replaced.{is_op, without, labels_kept, new_line, replaced_lines}
 use Rattle.thumb_model.specs.Cuts.{AreOps}
 use Rattle.thumb_model.proofs.Lists.{get_drop, length_map, length_drop}
 use Rattle.thumb_model.proofs.Cuts.{without_none}
 use Rattle.thumb_model.proofs.LinesReplaced.{places_replaced}
-use Rattle.listing_parser.specs.Targets.{set_names, defined_in, DefineOnce}
-use Rattle.listing_parser.specs.Retargeting.{aimed, aimed_line, aimed_lines}
+use Rattle.listing_parser.specs.Targets.{set_names, defined_in, DefineOnce, aimed, aimed_line, aimed_lines}
 use Rattle.listing_parser.proofs.FirstTwice.{first_twice, is_again}
 use Rattle.listing_parser.proofs.LabelLemmas.{or_false, or_true, among_append}
 use Rattle.listing_parser.proofs.TwiceLemmas.{once_none, none_once}

@@ -11,7 +11,7 @@ use Rattle.thumb_instr.specs.declared.instr.Instr.{Instr}
 use Rattle.thumb_syntax.specs.Spelling.{text_of}
 use Rattle.thumb_model.specs.Listing.{Name, Line, places_in, places_of, is_op_place}
 use Rattle.thumb_model.specs.Layout.{is_among}
-use Rattle.thumb_model.specs.ReplacedLines.{is_op, without, labels_kept, new_line, replaced_lines}
+use Rattle.thumb_model.specs.Replaced.{is_op, without, labels_kept, new_line, replaced_lines}
 use Rattle.thumb_model.specs.Cuts.{AreOps}
 use Rattle.thumb_model.proofs.Lists.{get_drop}
 use Rattle.listing_parser.specs.Targets.{defined_in, set_names, DefineOnce, marked_by_name, is_next, marked_first, still_waits, functions, first_target}

@@ -7,7 +7,7 @@ use Rattle.thumb_instr.specs.declared.instr.Instr.TheVariants as instr
 use Rattle.thumb_model.specs.Listing.{Name, Mention, Value, Number, OfName, Statement, Nothing, Runs, Words, Aligns, Sets, Line, Place, Op, Word, places_in, places_of, labels_from, is_op_place, has_label}
 use Rattle.thumb_model.specs.Layout.{is_among}
 use Rattle.thumb_model.specs.Steps.{label_place}
-use Rattle.thumb_model.specs.ReplacedLines.{is_op, without, labels_kept, new_line, replaced_lines}
+use Rattle.thumb_model.specs.Replaced.{is_op, without, labels_kept, new_line, replaced_lines}
 use Rattle.thumb_model.specs.Cuts.{AreOps}
 use Rattle.thumb_model.proofs.LinesReplaced.{places_replaced}
 use Rattle.listing_parser.proofs.FirstTwice.{first_twice}

@@ -63,8 +63,8 @@ impl Listing {
     ghost use Rattle.thumb_model.specs.Listing.{code_of, place_of, places_of, labels_from, is_op_place, Label};
     ghost use Rattle.thumb_model.specs.Layout.{set_address};
     ghost use Rattle.thumb_model.specs.Steps.{label_place};
-    ghost use Rattle.thumb_model.specs.ReplacedLines.{are_joined_from, replaced_lines};
-    ghost use Rattle.listing_parser.specs.Retargeting.{aimed_lines};
+    ghost use Rattle.thumb_model.specs.Replaced.{are_joined_from, replaced_lines};
+    ghost use Rattle.listing_parser.specs.Targets.{aimed_lines};
     ghost use Rattle.listing_parser.specs.Parsing.{line_mentioning};
     ghost use Rattle.std.specs.List.{list_all};
     ghost use Rattle.listing_parser.specs.Replacing.{names_no_label};

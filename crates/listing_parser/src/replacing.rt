@@ -1,6 +1,6 @@
 //! Instructions in place of others, by lines.
 ghost use Rattle.std.specs.Prelude.{◌≡◌, ◌≤◌, ◌&&◌, ◌∷◌, ◌++◌, [], nat_lt, map, take, option_map, IfOk, OnOk};
-ghost use Rattle.thumb_model.specs.ReplacedLines.{is_op, labels_kept, new_line, replaced_lines, without};
+ghost use Rattle.thumb_model.specs.Replaced.{is_op, labels_kept, new_line, replaced_lines, without};
 ghost use Rattle.listing_parser.specs.Views.{line_view, mention_view, names_view, statement_view, value_view};
 ghost use Rattle.listing_parser.specs.ToldView.{mark_view};
 ghost use Rattle.listing_parser.specs.Parsing.{own_line};

@@ -3,7 +3,7 @@ ghost use Rattle.std.specs.Prelude.{◌≡◌, [], Some, map, IfOk};
 ghost use Rattle.thumb_model.specs.Listing.{Runs};
 ghost use Rattle.listing_parser.specs.Views.{line_view};
 ghost use Rattle.listing_parser.specs.Parsing.{line_mentioning};
-ghost use Rattle.listing_parser.specs.Retargeting.{aimed_lines};
+ghost use Rattle.listing_parser.specs.Targets.{aimed_lines};
 
 use crate::errors::Memory;
 use crate::line::{Line, Mark, Mention, Statement};

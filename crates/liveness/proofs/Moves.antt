@@ -9,7 +9,7 @@ use Rattle.thumb_instr.specs.declared.instr.Instr.TheVariants as instr
 use Rattle.thumb_instr.specs.Items.{has, sp}
 use Rattle.thumb_instr.specs.Shape.{uses_of, writes_of, registers_in}
 use Rattle.thumb_instr.specs.Window.{is_in_window}
-use Rattle.thumb_model.specs.Items.{one_of}
+use Rattle.thumb_model.specs.Effect.{one_of}
 use Rattle.thumb_model.specs.Listing.{Mention, Place, Op, Word, plain, Label, Code, is_op_place, is_code, is_call, is_call_instr, label_places, return_places, IsPoint}
 use Rattle.thumb_model.specs.Naming.{Naming, points_of, returns_from, points}
 use Rattle.thumb_model.specs.Steps.{aim_of}

@@ -6,8 +6,7 @@ use Rattle.thumb_instr.specs.Window.{is_in_window}
 use Rattle.thumb_instr.specs.declared.items.Items.{Items}
 use Rattle.thumb_instr.specs.Items.{has}
 use Rattle.thumb_model.specs.Listing.{plain, Code, Label, Line, code_of, is_code, labels_from, places_of}
-use Rattle.thumb_model.specs.Replaced.{move_label, replaced}
-use Rattle.thumb_model.specs.ReplacedLines.{replaced_lines}
+use Rattle.thumb_model.specs.Replaced.{move_label, replaced, replaced_lines}
 use Rattle.liveness.specs.declared.flowing.Flow.{Flow}
 use Rattle.liveness.specs.Kept.{AreFlowsFrom}
 use Rattle.liveness.specs.Live.{Sets, IsLive}

@@ -3,13 +3,11 @@ use Rattle.std.proofs.Common.{◌≡◌, ℕ, ℤ, List, [], ◌∷◌, refl, sy
 use Rattle.std.specs.Prelude.{OnOk, OnErr, unsigned_abs, nat_eq}
 use Rattle.std.proofs.lemmas.Bool.{false≢true, cases_eq}
 use Rattle.std.proofs.lemmas.Bool.Decides.{nat_tests}
-use Rattle.clause_model.specs.Clauses.{Satisfies}
-use Rattle.clause_model.specs.Propagation.{SatisfiesLive}
+use Rattle.clause_model.specs.Clauses.{Satisfies, SatisfiesLive}
 use Rattle.clause_model.proofs.Sound.{rup_sound}
 use Rattle.lrat_check.specs.declared.fault.LineFault.{LineFault}
-use Rattle.lrat_check.specs.Content.{Content, addition, deletion}
+use Rattle.lrat_check.specs.Text.{Content, addition, deletion, Deletes, without}
 use Rattle.lrat_check.specs.Live.{Adds}
-use Rattle.lrat_check.specs.Deleting.{Deletes, without}
 use Rattle.lrat_check.specs.Checking.{State, live_at, AddsClause, Accepts, HoldsAt}
 
 pub added_live : (v : ℕ → Bool) (earlier later : ℕ → Option (List ℕ)) (id : ℕ) (clause : List ℕ) → Adds earlier later id clause → Satisfies v clause → SatisfiesLive v earlier → SatisfiesLive v later

@@ -1,6 +1,6 @@
 -- Lines accepted one after another, and what they cost.
 use Rattle.std.proofs.Common.{ℕ, ◌+◌, List, [], ◌∷◌, ◌++◌, refl, subst}
-use Rattle.lrat_check.specs.Content.{Content}
+use Rattle.lrat_check.specs.Text.{Content}
 use Rattle.lrat_check.specs.Checking.{State, Accepts}
 use Rattle.lrat_check.specs.Costs.{cost_of}
 use Rattle.lrat_check.specs.Runs.{AcceptsAll, Costs}

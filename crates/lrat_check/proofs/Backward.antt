@@ -8,11 +8,9 @@ use Rattle.std.proofs.lemmas.List.Kept.{AllPairs-cons}
 use Rattle.std.proofs.lemmas.List.Sums.{sum_by-cons}
 use Rattle.step_ledger.specs.Counts.{RisesBy}
 use Rattle.step_ledger.proofs.Rises.{stays, goes_on}
-use Rattle.clause_model.specs.Propagation.{hint_lengths}
-use Rattle.lrat_check.specs.Content.{Content, addition, deletion}
-use Rattle.lrat_check.specs.Text.{id_of}
+use Rattle.clause_model.specs.Clauses.{hint_lengths}
+use Rattle.lrat_check.specs.Text.{Content, addition, deletion, id_of, meant, names_of, Suffice, IsShortened, AddsFirstEmpty, IsUsed, empty, named, IsUsedPart, HasEmpty, used_lengths}
 use Rattle.lrat_check.specs.Runs.{IsRefutation}
-use Rattle.lrat_check.specs.Trimmed.{meant, names_of, Suffice, IsShortened, AddsFirstEmpty, IsUsed, empty, named, IsUsedPart, HasEmpty, used_lengths}
 use Rattle.lrat_check.specs.Ending.{up_to_empty}
 use Rattle.lrat_check.specs.Shown.{IsBefore, MarksNamed}
 use Rattle.lrat_check.proofs.Members.{head_or_tail, head_in, tail_in, none_in}

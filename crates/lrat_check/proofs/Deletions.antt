@@ -8,7 +8,7 @@ use Rattle.std.proofs.lemmas.List.Elements.{Contains-push, Contains-push_cases, 
 use Rattle.std.specs.HashSet.{HashSet, contains, Updates}
 use Rattle.std.specs.declared.hash.FoldHasher.{FoldHasher}
 use Rattle.std.specs.declared.hash.BuildHasherDefault.{BuildHasherDefault}
-use Rattle.lrat_check.specs.Deleting.{without, Deletes, DeadAt, IsAfter}
+use Rattle.lrat_check.specs.Text.{without, Deletes, DeadAt, IsAfter}
 
 -- after the ids so far, `now` is live
 pub record Deleting (live : ℕ → Option (List ℕ)) (ids : List ℕ) (now : ℕ → Option (List ℕ)) (before rest : List ℕ) (i : ℕ) : Type 0 where

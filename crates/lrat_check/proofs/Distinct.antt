@@ -3,7 +3,7 @@ use Rattle.std.proofs.Common.{◌≡◌, ◌≢◌, ℕ, ◌+◌, ◌<◌, List,
 use Rattle.std.specs.Prelude.{All, Contains}
 use Rattle.std.proofs.lemmas.List.{take_more, length-take, length-map, get_or-map, get_or-take}
 use Rattle.std.proofs.lemmas.List.Quantifiers.{all_pairs_push}
-use Rattle.clause_model.specs.Literals.{variable_of, HasDistinctVariables}
+use Rattle.clause_model.specs.Clauses.{variable_of, HasDistinctVariables}
 
 module _ (literals : List ℕ) (i l : ℕ) (b : i < length literals) (is : l ≡ get_or literals i l) where
   pub variable_at : get_or (map variable_of literals) i 0 ≡ variable_of l

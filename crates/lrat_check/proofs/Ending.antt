@@ -3,9 +3,7 @@ use Rattle.std.proofs.Common.{◌≡◌, ℕ, ℤ, suc, ◌+◌, ◌-◌, ◌<�
 use Rattle.std.specs.Prelude.{AllPairs, Contains}
 use Rattle.std.proofs.lemmas.List.Elements.{Contains-get_or}
 use Rattle.std.proofs.lemmas.List.Kept.{AllPairs-cons}
-use Rattle.lrat_check.specs.Content.{Content, addition, deletion}
-use Rattle.lrat_check.specs.Text.{id_of}
-use Rattle.lrat_check.specs.Trimmed.{AddsFirstEmpty}
+use Rattle.lrat_check.specs.Text.{Content, addition, deletion, id_of, AddsFirstEmpty}
 use Rattle.lrat_check.specs.Ending.{up_to_empty}
 use Rattle.lrat_check.specs.Shown.{IsBefore}
 use Rattle.lrat_check.proofs.Members.{head_or_tail, head_in, tail_in, none_in}

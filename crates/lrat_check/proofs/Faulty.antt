@@ -2,15 +2,13 @@
 use Rattle.std.proofs.Common.{◌≡◌, ℕ, ℤ, ◌+◌, List, [], ◌∷◌, map, sym, ◌∙◌, ap, inl, inr, arith, Option, None, true, false, true≢false}
 use Rattle.std.specs.Prelude.{All, Any, IsSome, is_some, unsigned_abs}
 use Rattle.std.proofs.lemmas.List.Elements.{All-contains}
-use Rattle.clause_model.specs.Literals.{negated}
+use Rattle.clause_model.specs.Clauses.{negated}
 use Rattle.clause_model.proofs.Sound.{negations_consistent}
 use Rattle.clause_model.proofs.Runs.{refutes_or_stops, stops_once}
 use Rattle.lrat_check.specs.declared.fault.LineFault.{LineFault}
 use Rattle.lrat_check.specs.declared.fault.LineFault.TheVariants.{Dead}
 use Rattle.lrat_check.specs.Numbers.{is_negative}
-use Rattle.lrat_check.specs.Content.{Content, addition, deletion}
-use Rattle.lrat_check.specs.Text.{HasGoodParts}
-use Rattle.lrat_check.specs.Deleting.{without, Deletes, DeadAt}
+use Rattle.lrat_check.specs.Text.{Content, addition, deletion, HasGoodParts, without, Deletes, DeadAt}
 use Rattle.lrat_check.specs.Checking.{State, live_at, Accepts}
 use Rattle.lrat_check.specs.Faults.{fault_of, IsFaultOf}
 

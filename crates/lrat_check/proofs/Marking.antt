@@ -7,8 +7,7 @@ use Rattle.std.proofs.lemmas.List.Elements.{Contains-push, Contains-push_cases, 
 use Rattle.std.proofs.lemmas.List.Sorted.{searched}
 use Rattle.std.specs.Ordering.{nat_cmp}
 use Rattle.std.specs.List.Sorted.{IsBinarySearchResult}
-use Rattle.lrat_check.specs.Content.{Content, deletion}
-use Rattle.lrat_check.specs.Text.{id_of}
+use Rattle.lrat_check.specs.Text.{Content, deletion, id_of}
 use Rattle.lrat_check.specs.Shown.{IsBefore, MarksNamed}
 use Rattle.lrat_check.proofs.Members.{none_in}
 

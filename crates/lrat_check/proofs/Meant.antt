@@ -8,13 +8,11 @@ use Rattle.std.proofs.lemmas.Bool.Decides.{nat_tests}
 use Rattle.std.proofs.lemmas.List.{drop_more, get_or-map, length-map, nil_from_length}
 use Rattle.std.proofs.lemmas.List.Elements.{Contains-get_or}
 use Rattle.std.proofs.lemmas.Option.{slice_get_past}
-use Rattle.clause_model.specs.Propagation.{numbered}
+use Rattle.clause_model.specs.Clauses.{numbered}
 use Rattle.lrat_check.specs.declared.line.Line.{Line}
 use Rattle.lrat_check.specs.declared.line.Addition.{Addition}
-use Rattle.lrat_check.specs.Content.{Content, content_of, addition, deletion}
-use Rattle.lrat_check.specs.Text.{id_of}
+use Rattle.lrat_check.specs.Text.{Content, content_of, addition, deletion, id_of, meant}
 use Rattle.lrat_check.specs.Runs.{contents_of}
-use Rattle.lrat_check.specs.Trimmed.{meant}
 use Rattle.lrat_check.specs.Ending.{add_of, adds_of, clause_of, up_to_empty}
 use Rattle.lrat_check.proofs.Members.{rest_of_pairs, head_in, tail_in, head_or_tail, none_in}
 use Rattle.lrat_check.proofs.Placed.{Origin, Ascends, meant_origin, meant_numbered}

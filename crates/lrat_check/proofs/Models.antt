@@ -6,9 +6,7 @@ use Rattle.std.proofs.lemmas.Bool.Decides.{nat_tests}
 use Rattle.std.proofs.lemmas.List.Elements.{All-contains, All-cons, All-nil}
 use Rattle.std.proofs.lemmas.Option.{slice_get_within, get_or_from_slice_get}
 use Rattle.cnf_gates.specs.Meaning.{number_value, clause_value, all_true}
-use Rattle.clause_model.specs.Literals.{literal_value, code_of, codes_of}
-use Rattle.clause_model.specs.Clauses.{Satisfies}
-use Rattle.clause_model.specs.Propagation.{numbered, SatisfiesLive}
+use Rattle.clause_model.specs.Clauses.{literal_value, code_of, codes_of, Satisfies, numbered, SatisfiesLive}
 use Rattle.lrat_check.specs.Checking.{State, Starts, HoldsAt, Reached, begun, accepted}
 use Rattle.lrat_check.proofs.Accepted.{accepts_sound}
 

@@ -11,7 +11,7 @@ use Rattle.std.proofs.lemmas.Int.{to_z-of_z}
 use mir.Val.{to_z, of_z}
 use Rattle.std.proofs.lemmas.Str.{IsUtf8-from_ascii}
 use Rattle.std.proofs.lemmas.Fmt.{IsAscii-signed, parse-signed_decimal, signed_decimal_injective}
-use Rattle.clause_model.specs.Literals.{number_of}
+use Rattle.clause_model.specs.Clauses.{number_of}
 use Rattle.lrat_check.specs.Numbers.{IsId, IsHint}
 
 mag_small : (z : ℤ) → FitsSigned w64 z → mag z < 2 ^ 63

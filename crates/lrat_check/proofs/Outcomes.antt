@@ -8,8 +8,7 @@ use Rattle.std.proofs.lemmas.List.{append-nil}
 use Rattle.std.proofs.lemmas.List.Splits.{join_with_byte-slice_split}
 use Rattle.lrat_check.specs.declared.line.Line.{Line}
 use Rattle.lrat_check.specs.Numbers.{IsId, AllWithin}
-use Rattle.lrat_check.specs.Content.{Content, addition, deletion, content_of}
-use Rattle.lrat_check.specs.Text.{text_of, words_of, middle_of, id_of, literal_text, end_word, deletion_word, HasGoodParts, IsLine}
+use Rattle.lrat_check.specs.Text.{Content, addition, deletion, content_of, text_of, words_of, middle_of, id_of, literal_text, end_word, deletion_word, HasGoodParts, IsLine}
 use Rattle.lrat_check.specs.Reading.{IsLineWith}
 use Rattle.lrat_check.proofs.Texts.{split_unique, literals_not_end, addition_differs, split-text, push_same, id_injective, ids_injective, hints_injective, literals_injective}
 

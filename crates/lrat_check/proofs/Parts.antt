@@ -5,13 +5,11 @@ use Rattle.std.proofs.lemmas.Bool.{cases_eq}
 use Rattle.std.proofs.lemmas.Bool.Decides.{nat_tests}
 use Rattle.std.proofs.lemmas.List.{append-nil, take-map, take_all, length-take, length-map}
 use Rattle.std.proofs.lemmas.List.Elements.{All-contains, All-take, Contains-get_or, Contains-append_right, Contains-append_cases, Contains-push_cases}
-use Rattle.clause_model.specs.Propagation.{Refutes, numbered}
+use Rattle.clause_model.specs.Clauses.{Refutes, numbered}
 use Rattle.lrat_check.specs.Numbers.{is_negative}
-use Rattle.lrat_check.specs.Content.{Content, addition, deletion}
-use Rattle.lrat_check.specs.Text.{id_of}
+use Rattle.lrat_check.specs.Text.{Content, addition, deletion, id_of, meant, Suffice, names_of, IsShortened, IsUsed, empty, named, IsUsedPart, HasEmpty, IsTrimmed, EachIsNamed}
 use Rattle.lrat_check.specs.Checking.{State, live_at, AddsClause}
 use Rattle.lrat_check.specs.Runs.{AcceptsAll, IsRefutation}
-use Rattle.lrat_check.specs.Trimmed.{meant, Suffice, names_of, IsShortened, IsUsed, empty, named, IsUsedPart, HasEmpty, IsTrimmed, EachIsNamed}
 use Rattle.lrat_check.proofs.Members.{head_or_tail, tail_in, head_in, none_in, first_of_pairs, rest_of_pairs, same_elements}
 use Rattle.lrat_check.proofs.Sufficing.{EndsAt, EndsAt-like, EndsAt-take, EndsAt-within, EndsAt-refutes, Suffice-from_end, Suffice-once}
 use Rattle.lrat_check.proofs.Placed.{Origin, Tracks-begun, ascends_to, meant_origin}

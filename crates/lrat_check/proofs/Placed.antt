@@ -4,14 +4,11 @@ use Rattle.std.specs.Prelude.{All, Contains, unsigned_abs, slice_get}
 use Rattle.std.proofs.lemmas.Bool.{cases_eq}
 use Rattle.std.proofs.lemmas.Bool.Decides.{nat_tests}
 use Rattle.std.proofs.lemmas.Option.{slice_get_within}
-use Rattle.clause_model.specs.Literals.{negated}
-use Rattle.clause_model.specs.Propagation.{Refutes, numbered}
+use Rattle.clause_model.specs.Clauses.{negated, Refutes, numbered}
 use Rattle.lrat_check.specs.Numbers.{is_negative}
-use Rattle.lrat_check.specs.Content.{Content, addition, deletion}
-use Rattle.lrat_check.specs.Deleting.{without, Deletes}
+use Rattle.lrat_check.specs.Text.{Content, addition, deletion, without, Deletes, meant}
 use Rattle.lrat_check.specs.Checking.{State, live_at, Starts, AddsClause, Accepts}
 use Rattle.lrat_check.specs.Runs.{AcceptsAll}
-use Rattle.lrat_check.specs.Trimmed.{meant}
 use Rattle.lrat_check.proofs.Members.{head_or_tail, tail_in, head_in, none_in}
 
 -- the clause is the formula's, or a line adds it

@@ -3,12 +3,10 @@ use Rattle.std.proofs.Common.{◌≡◌, ℕ, ℤ, ◌<◌, ◌≤◌, ◌⊎◌
 use Rattle.std.specs.Prelude.{Contains, unsigned_abs}
 use Rattle.std.proofs.lemmas.Bool.{false_from_ne_true}
 use Rattle.std.proofs.lemmas.List.{take-map}
-use Rattle.clause_model.specs.Literals.{negated}
-use Rattle.lrat_check.specs.Content.{Content, addition, deletion}
-use Rattle.lrat_check.specs.Text.{id_of}
+use Rattle.clause_model.specs.Clauses.{negated}
+use Rattle.lrat_check.specs.Text.{Content, addition, deletion, id_of, meant, Suffice, names_of, IsShortened, AddsFirstEmpty, IsUsed, empty, named, HasEmpty}
 use Rattle.lrat_check.specs.Checking.{State, live_at}
 use Rattle.lrat_check.specs.Runs.{AcceptsAll, IsRefutation}
-use Rattle.lrat_check.specs.Trimmed.{meant, Suffice, names_of, IsShortened, AddsFirstEmpty, IsUsed, empty, named, HasEmpty}
 use Rattle.lrat_check.proofs.Members.{head_or_tail, tail_in, head_in}
 use Rattle.lrat_check.proofs.Sufficing.{EndsAt, ends, EndsAt-like, EndsAt-live, Suffice-from_end, Suffice-once}
 use Rattle.lrat_check.proofs.Placed.{Origin, Placed, placed, Tracks-begun, Ascends, ascends, ascends_to, meant_origin}

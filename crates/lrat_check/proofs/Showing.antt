@@ -7,19 +7,16 @@ use Rattle.std.proofs.lemmas.List.{get_or_default, get_or-map, get_or_read, leng
 use Rattle.std.proofs.lemmas.List.Elements.{Contains-get_or}
 use Rattle.std.proofs.lemmas.List.Sums.{sum_by-cons}
 use Rattle.step_ledger.specs.Counts.{RisesBy}
-use Rattle.clause_model.specs.Literals.{HasDistinctVariables}
-use Rattle.clause_model.specs.Propagation.{hint_lengths}
+use Rattle.clause_model.specs.Clauses.{HasDistinctVariables, hint_lengths}
 use Rattle.clause_model.proofs.Sound.{negations_consistent}
 use Rattle.lrat_check.specs.declared.line.Addition.{Addition}
 use Rattle.lrat_check.specs.declared.line.Line.{Line}
 use Rattle.lrat_check.specs.declared.meanings.Meanings.{Meanings}
 use Rattle.lrat_check.specs.declared.shown.Shown.{Shown}
-use Rattle.lrat_check.specs.Content.{Content, content_of, addition, deletion}
-use Rattle.lrat_check.specs.Text.{id_of}
+use Rattle.lrat_check.specs.Text.{Content, content_of, addition, deletion, id_of, meant, names_of, Suffice, IsShortened, HasEmpty, used_lengths}
 use Rattle.lrat_check.specs.Checking.{State, Starts}
 use Rattle.lrat_check.specs.Costs.{IsPartOf, LooksAt}
 use Rattle.lrat_check.specs.Runs.{contents_of, Costs, IsRefutation}
-use Rattle.lrat_check.specs.Trimmed.{meant, names_of, Suffice, IsShortened, HasEmpty, used_lengths}
 use Rattle.lrat_check.specs.Ending.{add_of, adds_of, literals_in, up_to_empty}
 use Rattle.lrat_check.specs.Shown.{IsBefore, cut_of}
 use Rattle.lrat_check.specs.Meant.{IsMeant, LooksAtFewest, ShowsAt, meant_by}

@@ -5,12 +5,10 @@ use Rattle.std.proofs.lemmas.Bool.{cases_eq}
 use Rattle.std.proofs.lemmas.List.{take-map}
 use Rattle.std.proofs.lemmas.List.Elements.{All-contains, Contains-get_or}
 use Rattle.std.proofs.lemmas.List.Sums.{sum_by-cons}
-use Rattle.clause_model.specs.Propagation.{hint_lengths}
-use Rattle.lrat_check.specs.Content.{Content, addition, deletion}
-use Rattle.lrat_check.specs.Text.{id_of}
+use Rattle.clause_model.specs.Clauses.{hint_lengths}
+use Rattle.lrat_check.specs.Text.{Content, addition, deletion, id_of, meant, names_of, Suffice, IsShortened, used_lengths}
 use Rattle.lrat_check.specs.Checking.{State, live_at, Starts, AddsClause}
 use Rattle.lrat_check.specs.Runs.{IsRefutation, Costs}
-use Rattle.lrat_check.specs.Trimmed.{meant, names_of, Suffice, IsShortened, used_lengths}
 use Rattle.lrat_check.specs.Shown.{IsBefore}
 use Rattle.lrat_check.proofs.Members.{head_or_tail, head_in, tail_in, none_in, first_of_pairs, rest_of_pairs}
 use Rattle.lrat_check.proofs.Sufficing.{EndsAt, lengths_like}

@@ -7,11 +7,10 @@ use Rattle.std.proofs.lemmas.Option.{gets, slice_get_past, slice_get-map, slice_
 use Rattle.std.proofs.Common.{ℤ, map, Vec, vec_len}
 use Rattle.std.specs.Prelude.{◌==◌}
 use Rattle.std.specs.Global.{Global}
-use Rattle.clause_model.specs.Literals.{code_of, codes_of}
+use Rattle.clause_model.specs.Clauses.{code_of, codes_of, numbered}
 use Rattle.std.proofs.lemmas.Grind.{common_steps}
 use Rattle.std.proofs.lemmas.List.{take_more, take_all, length-take, length-map, nil_from_length}
 use Rattle.std.proofs.lemmas.List.Quantifiers.{Any-push}
-use Rattle.clause_model.specs.Propagation.{numbered}
 use Rattle.lrat_check.specs.Live.{Adds}
 
 abbrev pub HasEmpty : List (List ℕ) → Type 0

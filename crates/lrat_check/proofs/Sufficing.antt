@@ -2,12 +2,11 @@
 use Rattle.std.proofs.Common.{◌≡◌, ℕ, zero, suc, ◌+◌, ◌<◌, ◌≤◌, ◌⊎◌, List, [], ◌∷◌, ◌++◌, length, get_or, take, drop, refl, sym, ◌∙◌, ap, inl, inr, arith, Option, Some, None, subst}
 use Rattle.std.specs.Prelude.{Contains}
 use Rattle.std.proofs.lemmas.List.{length-take, drop_more}
-use Rattle.clause_model.specs.Clauses.{AllFalse, IsUnit, IsOpen, IsConsistent}
-use Rattle.clause_model.specs.Propagation.{Refutes, hint_lengths}
+use Rattle.clause_model.specs.Clauses.{AllFalse, IsUnit, IsOpen, IsConsistent, Refutes, hint_lengths}
 use Rattle.clause_model.proofs.Marks.{Consistent-push}
 use Rattle.clause_model.proofs.Runs.{Unit-conflict, Unit-only, Unit-open}
 use Rattle.lrat_check.specs.Costs.{LooksAt}
-use Rattle.lrat_check.specs.Trimmed.{Suffice}
+use Rattle.lrat_check.specs.Text.{Suffice}
 use Rattle.lrat_check.proofs.Members.{head_in, tail_in, head_or_tail, none_in}
 
 -- the n-th hint names the first clause that is false

@@ -11,11 +11,10 @@ use Rattle.std.proofs.lemmas.List.Elements.{All-head, All-tail, All-nil, All-con
 use Rattle.std.proofs.lemmas.List.Splits.{slice_split_none, slice_split_at}
 use Rattle.std.proofs.lemmas.Str.Parse.{IsNumeralModel, numerals_by_value, tells_all_ascii_digits}
 use Rattle.std.proofs.lemmas.Fmt.{digits_decimal, decimal_digit, decimal_injective}
-use Rattle.clause_model.specs.Literals.{number_of, code_of}
+use Rattle.clause_model.specs.Clauses.{number_of, code_of}
 use Rattle.clause_model.proofs.LiteralLaws.{code_of-number_of, number_of_differs}
 use Rattle.lrat_check.specs.Numbers.{IsId, IsHint, AllWithin}
-use Rattle.lrat_check.specs.Content.{Content, addition, deletion}
-use Rattle.lrat_check.specs.Text.{text_of, words_of, middle_of, id_of, spaced, literal_text, end_word, deletion_word, HasGoodParts, IsLine}
+use Rattle.lrat_check.specs.Text.{Content, addition, deletion, text_of, words_of, middle_of, id_of, spaced, literal_text, end_word, deletion_word, HasGoodParts, IsLine}
 use Rattle.lrat_check.proofs.Numerals.{same_number, id_fits, hint_fits, literal_fits}
 
 -- ---- blanks

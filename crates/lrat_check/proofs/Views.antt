@@ -9,7 +9,7 @@ use Rattle.std.proofs.lemmas.Bool.Decides.{nat_tests}
 use Rattle.std.proofs.lemmas.List.{length-map, get_or-map}
 use Rattle.std.proofs.lemmas.Map.Made.{lookup-map_values}
 use Rattle.lrat_check.specs.Live.{LiveMap, clause_at, Adds}
-use Rattle.lrat_check.specs.Deleting.{without}
+use Rattle.lrat_check.specs.Text.{without}
 
 pub clause_at-get : (m : LiveMap) (id : ℕ) → clause_at m id ≡ option_map (λ (c : Vec ℕ Global). c.items) (get nat_eq m id)
 clause_at-get m id = lookup-map_values (λ (c : Vec ℕ Global). c.items) (nat_eq id) m.entries

@@ -1,10 +1,9 @@
 -- What a checker knows, and when it accepts a line.
 use Rattle.std.specs.Prelude.{ℕ, ℤ, ◌≡◌, ◌<◌, ◌⊎◌, ◌↔◌, Bool, false, List, [], All, Any, Option, IsTrue, map, unsigned_abs, length}
-use Rattle.clause_model.specs.Propagation.{ReverseUnitPropagation, SatisfiesLive, numbered}
+use Rattle.clause_model.specs.Clauses.{ReverseUnitPropagation, SatisfiesLive, numbered}
 use Rattle.lrat_check.specs.Numbers.{is_negative}
-use Rattle.lrat_check.specs.Content.{Content, addition, deletion}
+use Rattle.lrat_check.specs.Text.{Content, addition, deletion, Deletes}
 use Rattle.lrat_check.specs.Live.{found_in, Adds}
-use Rattle.lrat_check.specs.Deleting.{Deletes}
 
 -- the live clauses with their ids, the greatest id so far, and whether an empty clause is or was among them
 pub record State : Type 0 where

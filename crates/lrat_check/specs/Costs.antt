@@ -1,11 +1,9 @@
 -- The literals that a checker looks at while it goes by the hints of a line.
 use Rattle.std.specs.Prelude.{ℕ, ℤ, ◌≡◌, ◌<◌, ◌+◌, ◌⊎◌, List, [], ◌∷◌, ◌++◌, All, Option, Some, None, false, length, map, unsigned_abs}
 use Rattle.step_ledger.specs.Counts.{RisesBy}
-use Rattle.clause_model.specs.Literals.{negated}
-use Rattle.clause_model.specs.Clauses.{AllFalse, IsUnit, IsOpen}
-use Rattle.clause_model.specs.Propagation.{hint_lengths}
+use Rattle.clause_model.specs.Clauses.{negated, AllFalse, IsUnit, IsOpen, hint_lengths}
 use Rattle.lrat_check.specs.Numbers.{is_negative}
-use Rattle.lrat_check.specs.Content.{Content, addition, deletion}
+use Rattle.lrat_check.specs.Text.{Content, addition, deletion}
 use Rattle.lrat_check.specs.Checking.{State, live_at}
 
 -- the lengths of the live clauses that the hints of a line name

@@ -3,7 +3,7 @@ use Rattle.std.specs.Prelude.{ℕ, List, [], ◌∷◌, Vec, map}
 use Rattle.std.specs.Borrow.{Bor}
 use Rattle.std.specs.Global.{Global}
 use Rattle.lrat_check.specs.declared.line.Addition.{Addition}
-use Rattle.lrat_check.specs.Content.{Content, addition, deletion}
+use Rattle.lrat_check.specs.Text.{Content, addition, deletion}
 
 -- what additions say
 abbrev pub add_of : Bor Addition → Content

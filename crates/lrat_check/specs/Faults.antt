@@ -1,12 +1,10 @@
 -- The first fault of a line.
 use Rattle.std.specs.Prelude.{ℕ, ◌≡◌, ◌<◌, ◌≤◌, ◌⊎◌, true, false, All, Any, map, unsigned_abs}
-use Rattle.clause_model.specs.Literals.{negated}
-use Rattle.clause_model.specs.Propagation.{Stop, dead, unfit, no_conflict, StopsAs}
+use Rattle.clause_model.specs.Clauses.{negated, Stop, dead, unfit, no_conflict, StopsAs}
 use Rattle.lrat_check.specs.declared.fault.LineFault.{LineFault}
 use Rattle.lrat_check.specs.declared.fault.LineFault.TheVariants.{Order, Rat, Dead, Hint as Unfit, NoConflict}
 use Rattle.lrat_check.specs.Numbers.{is_negative}
-use Rattle.lrat_check.specs.Content.{Content, addition, deletion}
-use Rattle.lrat_check.specs.Deleting.{DeadAt}
+use Rattle.lrat_check.specs.Text.{Content, addition, deletion, DeadAt}
 use Rattle.lrat_check.specs.Checking.{State, live_at}
 
 abbrev pub fault_of : Stop → LineFault

@@ -1,13 +1,11 @@
 -- What ids mean, and what is looked at of the additions, while a proof is trimmed.
 use Rattle.std.specs.Prelude.{ℕ, ℤ, ◌≡◌, ◌≤◌, ◌+◌, List, Option, map, slice_index_or, take, unsigned_abs}
-use Rattle.clause_model.specs.Literals.{negated}
-use Rattle.clause_model.specs.Propagation.{hint_lengths}
+use Rattle.clause_model.specs.Clauses.{negated, hint_lengths}
 use Rattle.lrat_check.specs.declared.meanings.Meanings.{Meanings}
 use Rattle.lrat_check.specs.declared.shown.Shown.{Shown}
-use Rattle.lrat_check.specs.Content.{Content, addition}
+use Rattle.lrat_check.specs.Text.{Content, addition, meant, Suffice, HasEmpty}
 use Rattle.lrat_check.specs.Costs.{IsPartOf}
 use Rattle.lrat_check.specs.Runs.{IsRefutation}
-use Rattle.lrat_check.specs.Trimmed.{meant, Suffice, HasEmpty}
 use Rattle.lrat_check.specs.Ending.{add_of, adds_of, literals_in, up_to_empty}
 
 -- the clause that an id means

@@ -2,8 +2,7 @@ use Rattle.std.specs.Prelude.{ℕ, ◌≡◌, ◌==◌, ◌++◌, ◌∷◌, Lis
 use Rattle.std.specs.List.{slice_split}
 use Rattle.std.specs.Borrow.{Bor}
 use Rattle.lrat_check.specs.declared.line.Line.{Line}
-use Rattle.lrat_check.specs.Content.{content_of}
-use Rattle.lrat_check.specs.Text.{middle_of, id_of, end_word, HasGoodParts}
+use Rattle.lrat_check.specs.Text.{content_of, middle_of, id_of, end_word, HasGoodParts}
 
 -- the words that the slices hold
 abbrev pub all_now : List (Bor (List ℕ)) → List (List ℕ)

@@ -1,7 +1,7 @@
 -- Lines one after another.
 use Rattle.std.specs.Prelude.{ℕ, ◌≡◌, ◌+◌, List, [], ◌∷◌, true, map}
 use Rattle.lrat_check.specs.declared.line.Line.{Line}
-use Rattle.lrat_check.specs.Content.{Content, content_of}
+use Rattle.lrat_check.specs.Text.{Content, content_of}
 use Rattle.lrat_check.specs.Checking.{State, Starts, Accepts}
 use Rattle.lrat_check.specs.Costs.{cost_of}
 

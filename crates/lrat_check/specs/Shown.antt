@@ -1,8 +1,7 @@
 -- An addition that was looked at, while a proof is trimmed, and what it marks.
 use Rattle.std.specs.Prelude.{ℕ, ◌≡◌, ◌<◌, ◌⊎◌, ◌↔◌, Bool, false, List, Contains, IsTrue, length, slice_index, slice_index_or, take}
 use Rattle.lrat_check.specs.declared.shown.Shown.{Shown}
-use Rattle.lrat_check.specs.Content.{Content, addition}
-use Rattle.lrat_check.specs.Text.{id_of}
+use Rattle.lrat_check.specs.Text.{Content, addition, id_of}
 
 -- the addition with the hints that were looked at
 abbrev pub cut_of : Shown → Content

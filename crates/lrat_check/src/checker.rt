@@ -1,15 +1,13 @@
 //! The checker itself. It keeps each live clause under its id and believes no line: a line is added only where its hints make its clause follow.
 ghost use Rattle.std.specs.Prelude.{◌≡◌, ℕ, ◌+◌, ◌≤◌, ◌⊎◌, map, unsigned_abs, OnOk, OnErr, IfErr, IfOk, Bool, true, false, [], All, Any};
-ghost use Rattle.clause_model.specs.Literals.{code_of, codes_of, negated};
+ghost use Rattle.clause_model.specs.Clauses.{code_of, codes_of, negated, hint_lengths};
 ghost use Rattle.lrat_check.specs.Live.{clause_at, listed, Adds};
 ghost use Rattle.lrat_check.specs.Checking.{State, live_at, Starts, AddsClause, DeletesClauses, Accepts, HoldsAt};
 ghost use Rattle.lrat_check.specs.Faults.{IsFaultOf};
-ghost use Rattle.lrat_check.specs.Content.{content_of, addition, deletion};
+ghost use Rattle.lrat_check.specs.Text.{content_of, addition, deletion, Suffice};
 ghost use Rattle.lrat_check.specs.Costs.{cost_of, Counts};
 ghost use Rattle.cnf_gates.specs.Meaning.{all_true};
 ghost use Rattle.lrat_check.specs.Numbers.{is_negative};
-ghost use Rattle.lrat_check.specs.Trimmed.{Suffice};
-ghost use Rattle.clause_model.specs.Propagation.{hint_lengths};
 
 use crate::deletion::{delete, find_dead};
 use crate::fault::LineFault;

@@ -1,7 +1,7 @@
 //! Deletions only save memory. An id that isn't live is refused before anything is deleted, so that a refused line changes nothing.
 ghost use Rattle.std.specs.Prelude.{◌≡◌, ℕ, IfOk, MatchOption, Option, List};
 ghost use Rattle.lrat_check.specs.Live.{clause_at};
-ghost use Rattle.lrat_check.specs.Deleting.{Deletes, DeadAt, IsAfter};
+ghost use Rattle.lrat_check.specs.Text.{Deletes, DeadAt, IsAfter};
 
 use crate::line::Id;
 use clause_model::Literal;

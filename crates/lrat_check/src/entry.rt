@@ -3,7 +3,7 @@ ghost use Rattle.std.specs.Prelude.{◌≡◌, ◌<◌, ℕ, ℤ, List, [], ◌�
 ghost use Rattle.std.specs.Int.{w64};
 ghost use Rattle.std.specs.Fmt.{signed_decimal};
 ghost use Rattle.lrat_check.specs.Text.{spaced};
-ghost use Rattle.clause_model.specs.Literals.{number_of};
+ghost use Rattle.clause_model.specs.Clauses.{number_of};
 
 use crate::line::{Hint, Id, VARIABLES};
 use clause_model::Literal;

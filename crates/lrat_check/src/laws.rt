@@ -2,13 +2,11 @@
 
 ghost use Rattle.std.specs.Prelude.{◌≡◌, ℕ, ℤ, List, Bool, true};
 ghost use Rattle.cnf_gates.specs.Meaning.{all_true};
-ghost use Rattle.clause_model.specs.Literals.{codes_of};
-ghost use Rattle.lrat_check.specs.Content.{Content};
-ghost use Rattle.lrat_check.specs.Text.{text_of, HasGoodParts, IsLine};
+ghost use Rattle.clause_model.specs.Clauses.{codes_of};
+ghost use Rattle.lrat_check.specs.Text.{Content, text_of, HasGoodParts, IsLine, IsTrimmed, EachIsNamed};
 ghost use Rattle.lrat_check.specs.Checking.{State, Accepts, Reached};
 ghost use Rattle.lrat_check.specs.Faults.{IsFaultOf};
 ghost use Rattle.lrat_check.specs.Runs.{IsRefutation};
-ghost use Rattle.lrat_check.specs.Trimmed.{IsTrimmed, EachIsNamed};
 ghost use Rattle.lrat_check.specs.declared.fault.LineFault.{LineFault};
 
 /// A formula from whose clauses a checker comes to be refuted has no model.

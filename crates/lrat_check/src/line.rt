@@ -1,7 +1,7 @@
 //! Ids, hints and literals are types of their own, so that none can stand in another's place.
 ghost use Rattle.std.specs.Prelude.{◌≡◌, ◌≢◌, ℕ, ℤ, pos, ◌<◌, ◌≤◌, ◌^◌, unsigned_abs, MatchOption};
 ghost use Rattle.lrat_check.specs.Numbers.{is_negative, IsId, IsHint, AllWithin};
-ghost use Rattle.clause_model.specs.Literals.{HasDistinctVariables};
+ghost use Rattle.clause_model.specs.Clauses.{HasDistinctVariables};
 
 use clause_model::Literal;
 use std::marker::Model;

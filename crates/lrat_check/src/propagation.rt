@@ -1,13 +1,12 @@
 //! The one rule of proof, reverse unit propagation by hints: no search, so a line takes as long as the clauses that it names.
 ghost use Rattle.std.specs.Prelude.{◌≡◌, ℕ, ◌+◌, ◌≤◌, ◌⊎◌, List, Option, Some, None, map, take, unsigned_abs, MatchOption, OnOk, IfErr, IfOk, [], length};
-ghost use Rattle.clause_model.specs.Literals.{negated, HasDistinctVariables};
-ghost use Rattle.clause_model.specs.Propagation.{Refutes, ReverseUnitPropagation, Stop, StopsAs, hint_lengths};
+ghost use Rattle.clause_model.specs.Clauses.{negated, HasDistinctVariables, Refutes, ReverseUnitPropagation, Stop, StopsAs, hint_lengths};
 ghost use Rattle.clause_model.specs.Standings.{StandsAs};
 ghost use Rattle.step_ledger.specs.Counts.{RisesBy};
 ghost use Rattle.lrat_check.specs.Live.{clause_at};
 ghost use Rattle.lrat_check.specs.Costs.{LooksAt, IsPartOf};
 ghost use Rattle.lrat_check.specs.Faults.{fault_of};
-ghost use Rattle.lrat_check.specs.Trimmed.{Suffice};
+ghost use Rattle.lrat_check.specs.Text.{Suffice};
 
 use crate::fault::LineFault;
 use crate::line::Hint;

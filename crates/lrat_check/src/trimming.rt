@@ -1,13 +1,11 @@
 //! A proof without the lines and hints that it doesn't need. It is gone by from the first empty clause back, and only the lines that this clause stands
 //! on are looked at: the proof was accepted already, so nothing else is checked once more.
 ghost use Rattle.std.specs.Prelude.{◌≡◌, ℕ, ◌+◌, ◌<◌, ◌≤◌, List, [], AllPairs, IfOk, length, map};
-ghost use Rattle.clause_model.specs.Literals.{codes_of};
-ghost use Rattle.clause_model.specs.Propagation.{hint_lengths};
+ghost use Rattle.clause_model.specs.Clauses.{codes_of, hint_lengths};
 ghost use Rattle.step_ledger.specs.Counts.{RisesByAtLeast, RisesBy};
-ghost use Rattle.lrat_check.specs.Content.{Content, content_of};
+ghost use Rattle.lrat_check.specs.Text.{Content, content_of, names_of, IsTrimmed, IsUsedPart, HasEmpty, EachIsNamed, used_lengths};
 ghost use Rattle.lrat_check.specs.Checking.{State, Starts};
 ghost use Rattle.lrat_check.specs.Runs.{contents_of, IsRefutation, Costs};
-ghost use Rattle.lrat_check.specs.Trimmed.{names_of, IsTrimmed, IsUsedPart, HasEmpty, EachIsNamed, used_lengths};
 ghost use Rattle.lrat_check.specs.Ending.{adds_of, up_to_empty};
 ghost use Rattle.lrat_check.specs.Shown.{cut_of, MarksNamed};
 ghost use Rattle.lrat_check.specs.Meant.{IsMeant, LooksAtFewest, ShowsAt, meant_by};

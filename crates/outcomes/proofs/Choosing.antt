@@ -5,17 +5,14 @@ use Rattle.std.proofs.lemmas.Bool.{cases_Bool, cases_lt, false≢true}
 use Rattle.std.proofs.lemmas.Option.{slice_get_within, same_Some}
 use Rattle.thumb_instr.specs.declared.instr.Instr.{Instr}
 use Rattle.thumb_instr.specs.Items.{has, is_in_masks}
-use Rattle.thumb_model.specs.Items.{Values}
-use Rattle.thumb_model.specs.Effect.{after_all}
+use Rattle.thumb_model.specs.Effect.{Values, after_all}
 use Rattle.window_exec.specs.declared.state.WState.{WState}
-use Rattle.window_exec.specs.State.{values_of}
-use Rattle.window_exec.specs.Telling.{Differ}
+use Rattle.window_exec.specs.State.{values_of, Differ}
 use Rattle.window_exec.proofs.Differences.{differs_anywhere, differs_is}
-use Rattle.seq_enum.specs.Lists.{numbers_from}
+use Rattle.seq_enum.specs.Alphabet.{numbers_from, alphabet}
 use Rattle.seq_enum.proofs.Numbered.{length-numbers}
 use Rattle.outcomes.specs.declared.trials.Trial.{Trial}
 use Rattle.outcomes.specs.Outcomes.{Extent, sequences_below, AreAgreeing, grown_to, added}
-use Rattle.seq_enum.specs.Alphabet.{alphabet}
 use Rattle.outcomes.specs.Tables.{IsFor}
 use Rattle.outcomes.specs.Candidates.{TellsFrom, AreCandidates, BeginsAt, grown_for, added_for}
 use Rattle.outcomes.proofs.Looking.{numbers_ascend, number_here}

@@ -5,15 +5,13 @@ use Rattle.std.proofs.lemmas.List.Concat.{flat_map-append}
 use Rattle.std.proofs.lemmas.List.{length-map}
 use Rattle.std.proofs.lemmas.Option.{slice_get_cases, slice_get_within}
 use Rattle.thumb_instr.specs.declared.instr.Instr.{Instr}
-use Rattle.thumb_model.specs.Sides.{AreOver}
+use Rattle.thumb_model.specs.Effect.{AreOver}
 use Rattle.window_exec.specs.declared.state.WState.{WState}
-use Rattle.window_exec.specs.State.{values_of}
-use Rattle.window_exec.specs.Telling.{Differ}
-use Rattle.seq_enum.specs.Lists.{numbers_from}
+use Rattle.window_exec.specs.State.{values_of, Differ}
+use Rattle.seq_enum.specs.Alphabet.{numbers_from, alphabet, words}
 use Rattle.seq_enum.specs.Places.{sum_below}
 use Rattle.seq_enum.proofs.Numbered.{get_front}
 use Rattle.seq_enum.proofs.Words.{length-words}
-use Rattle.seq_enum.specs.Alphabet.{alphabet, words}
 use Rattle.fingerprints.proofs.Letters.{letter}
 use Rattle.fingerprints.proofs.Candidates.{numbers_split}
 use Rattle.outcomes.specs.declared.columns.Columns.{Columns}

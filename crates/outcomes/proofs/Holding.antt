@@ -9,10 +9,8 @@ use Rattle.std.proofs.Math.Seq.{get_or-append_seam}
 use Rattle.std.proofs.lemmas.Option.{slice_get_within, same_Some, slice_get-get_or}
 use Rattle.thumb_instr.specs.declared.instr.Instr.{Instr}
 use Rattle.std.specs.Int.{bit_at}
-use Rattle.thumb_instr.specs.Window.{is_in_window}
-use Rattle.thumb_instr.specs.Renaming.{named, AreBelow}
-use Rattle.thumb_model.specs.Items.{Values, n_flag, z_flag, c_flag, v_flag}
-use Rattle.thumb_model.specs.Effect.{after, after_all}
+use Rattle.thumb_instr.specs.Window.{is_in_window, named, AreBelow}
+use Rattle.thumb_model.specs.Effect.{Values, n_flag, z_flag, c_flag, v_flag, after, after_all}
 use Rattle.window_exec.specs.declared.state.WState.{WState}
 use Rattle.window_exec.specs.State.{values_of}
 use Rattle.seq_enum.proofs.Numbered.{get_front, get_back}

@@ -8,7 +8,7 @@ use Rattle.thumb_instr.specs.Items.{has, is_in_masks}
 use Rattle.window_exec.specs.declared.state.WState.{WState}
 use Rattle.window_exec.specs.State.{values_of}
 use Rattle.window_exec.proofs.Differences.{differs_at, differs_anywhere, differs_is}
-use Rattle.seq_enum.specs.Lists.{numbers_from, ascends_from}
+use Rattle.seq_enum.specs.Alphabet.{numbers_from, ascends_from}
 use Rattle.seq_enum.proofs.Numbered.{length-numbers, numbers_at}
 use Rattle.fingerprints.proofs.Candidates.{numbers_split}
 use Rattle.outcomes.specs.declared.columns.Columns.{Columns}

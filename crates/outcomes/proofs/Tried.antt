@@ -3,8 +3,8 @@ use Rattle.std.proofs.Common.{◌≡◌, ℕ, ◌+◌, ◌-◌, ◌<◌, ◌≤�
 use Rattle.std.specs.List.{Any}
 use Rattle.std.proofs.lemmas.Bool.{cases_lt}
 use Rattle.std.proofs.lemmas.List.{get_or_default}
-use Rattle.thumb_model.specs.Items.{Values}
-use Rattle.window_exec.specs.Telling.{Differ}
+use Rattle.thumb_model.specs.Effect.{Values}
+use Rattle.window_exec.specs.State.{Differ}
 
 -- ---- none of a list so far, or one of it ----
 

@@ -3,9 +3,8 @@ use Rattle.std.specs.Prelude.{ℕ, ◌≡◌, ◌<◌, ◌↔◌, true, List, []
 use Rattle.thumb_instr.specs.declared.instr.Instr.{Instr}
 use Rattle.thumb_model.specs.Effect.{after_all}
 use Rattle.window_exec.specs.declared.state.WState.{WState}
-use Rattle.window_exec.specs.State.{values_of}
-use Rattle.window_exec.specs.Telling.{Differ}
-use Rattle.seq_enum.specs.Lists.{ascends_from}
+use Rattle.window_exec.specs.State.{values_of, Differ}
+use Rattle.seq_enum.specs.Alphabet.{ascends_from}
 use Rattle.outcomes.specs.declared.trials.Trial.{Trial}
 use Rattle.outcomes.specs.Outcomes.{Extent, grown_to, added}
 

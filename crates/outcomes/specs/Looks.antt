@@ -3,9 +3,8 @@ use Rattle.std.specs.Prelude.{ℕ, ◌≡◌, ◌<◌, ◌↔◌, Bool, true, no
 use Rattle.std.specs.Int.{bit_at}
 use Rattle.thumb_instr.specs.Items.{has}
 use Rattle.window_exec.specs.declared.state.WState.{WState}
-use Rattle.window_exec.specs.State.{values_of}
-use Rattle.window_exec.specs.Telling.{Differ}
-use Rattle.seq_enum.specs.Lists.{ascends_from}
+use Rattle.window_exec.specs.State.{values_of, Differ}
+use Rattle.seq_enum.specs.Alphabet.{ascends_from}
 use Rattle.outcomes.specs.declared.columns.Columns.{Columns}
 use Rattle.outcomes.specs.Columns.{outcome_at}
 

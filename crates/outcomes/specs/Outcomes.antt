@@ -2,14 +2,10 @@
 use Rattle.std.specs.Prelude.{ℕ, ◌≡◌, ◌<◌, ◌≤◌, ◌+◌, ◌-◌, ◌↔◌, true, List, Some, Contains, length, max, slice_get}
 use Rattle.std.specs.List.{flat_map}
 use Rattle.thumb_instr.specs.declared.instr.Instr.{Instr}
-use Rattle.thumb_model.specs.Items.{Values}
-use Rattle.thumb_model.specs.Effect.{after_all}
-use Rattle.thumb_model.specs.Sides.{AreOver}
+use Rattle.thumb_model.specs.Effect.{Values, after_all, AreOver}
 use Rattle.window_exec.specs.declared.state.WState.{WState}
-use Rattle.window_exec.specs.State.{values_of}
-use Rattle.window_exec.specs.Telling.{Differ}
-use Rattle.seq_enum.specs.Lists.{numbers_from, ascends_from}
-use Rattle.seq_enum.specs.Alphabet.{words}
+use Rattle.window_exec.specs.State.{values_of, Differ}
+use Rattle.seq_enum.specs.Alphabet.{numbers_from, ascends_from, words}
 use Rattle.outcomes.specs.declared.columns.Columns.{Columns}
 use Rattle.outcomes.specs.Columns.{Holds}
 

@@ -2,8 +2,7 @@
 use Rattle.std.specs.Prelude.{◌≡◌, List, All, map}
 use Rattle.thumb_instr.specs.declared.instr.Instr.{Instr}
 use Rattle.thumb_model.specs.Effect.{after_all}
-use Rattle.window_exec.specs.State.{values_of, seen}
-use Rattle.window_exec.specs.Seen.{Seen}
+use Rattle.window_exec.specs.State.{values_of, seen, Seen}
 use Rattle.outcomes.specs.declared.trials.Trial.{Trial}
 
 abbrev pub start_of : Trial → Seen

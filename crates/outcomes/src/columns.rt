@@ -2,8 +2,7 @@
 ghost use Rattle.std.specs.Prelude.{◌≡◌, ℕ, ◌<◌, ◌≤◌, ◌+◌, ◌-◌, ◌*◌, ◌++◌, ◌∷◌, [], List, IfOk, true, length, map, slice_get, slice_index, get_or, nat_lt, Some};
 ghost use Rattle.std.specs.List.{flat_map};
 ghost use Rattle.thumb_instr.specs.declared.instr.Instr.{Instr};
-ghost use Rattle.thumb_model.specs.Effect.{after_all};
-ghost use Rattle.thumb_model.specs.Sides.{AreOver};
+ghost use Rattle.thumb_model.specs.Effect.{after_all, AreOver};
 ghost use Rattle.window_exec.specs.declared.state.WState.{WState as State};
 ghost use Rattle.window_exec.specs.State.{values_of};
 ghost use Rattle.step_ledger.specs.Counts.{RisesBy};

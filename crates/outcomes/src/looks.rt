@@ -3,7 +3,7 @@ ghost use Rattle.std.specs.Prelude.{◌≡◌, ℕ, ◌+◌, ◌<◌, ◌≤◌,
 ghost use Rattle.std.specs.Int.{bit_at};
 ghost use Rattle.thumb_instr.specs.Items.{has};
 ghost use Rattle.window_exec.specs.State.{values_of};
-ghost use Rattle.seq_enum.specs.Lists.{numbers_from};
+ghost use Rattle.seq_enum.specs.Alphabet.{numbers_from};
 ghost use Rattle.outcomes.specs.Columns.{column_of, outcome_at, AreFull};
 ghost use Rattle.outcomes.specs.Looks.{flags_differ, keeps_word, AreAmong, AreThose, IsLike};
 

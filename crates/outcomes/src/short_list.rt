@@ -1,6 +1,6 @@
 //! The sequences that the first of some states doesn't tell from a left side.
 ghost use Rattle.std.specs.Prelude.{◌≡◌, ◌≤◌, ◌+◌, IfOk, OnOk, IfErr};
-ghost use Rattle.seq_enum.specs.Lists.{numbers_from};
+ghost use Rattle.seq_enum.specs.Alphabet.{numbers_from};
 ghost use Rattle.step_ledger.specs.Counts.{RisesBy};
 ghost use Rattle.outcomes.specs.Outcomes.{grown_to, sequences_below};
 ghost use Rattle.outcomes.specs.Candidates.{AreCandidates, BeginsAt, grown_for, added_for};

@@ -2,7 +2,7 @@
 use Rattle.std.proofs.Common.{◌≡◌, ◌↔◌, ℕ, zero, suc, ◌+◌, ◌-◌, ◌<◌, ◌≤◌, Bool, List, [], ◌∷◌, length, take, drop, map, Some, refl, sym, ap, ◌∙◌, subst, ◌⊎◌, inl, inr, arith}
 use Rattle.std.specs.Prelude.{slice_get}
 use Rattle.std.proofs.lemmas.Option.{same_Some}
-use Rattle.thumb_instr.specs.Renaming.{Low}
+use Rattle.thumb_instr.specs.Window.{Low}
 use Rattle.thumb_model.specs.Listing.{Place, Label, Code}
 use Rattle.thumb_model.specs.Flow.{Reads, LiveAfter}
 use Rattle.rule_model.specs.Rules.{Rule, Applies}

@@ -6,7 +6,7 @@ use Rattle.std.specs.Option.{option_map}
 use Rattle.std.proofs.lemmas.Bool.{or_right}
 use Rattle.std.proofs.lemmas.Option.{same_Some}
 use Rattle.kept_places.proofs.Ranks.{rank_gone, rank_zero}
-use Rattle.thumb_model.specs.Items.{one_of}
+use Rattle.thumb_model.specs.Effect.{one_of}
 use Rattle.thumb_model.specs.Listing.{Name, Place, Label, is_code, place_among, is_call, label_places, return_places}
 use Rattle.thumb_model.proofs.Lists.{cons_same}
 use Rattle.kept_places.specs.Marks.{is_gone, rank}

@@ -7,7 +7,7 @@ use Rattle.std.proofs.lemmas.List.{length-set}
 use Rattle.std.proofs.lemmas.Option.{same_Some}
 use Rattle.thumb_instr.specs.declared.instr.Instr.{Instr}
 use Rattle.thumb_instr.specs.Shape.{uses_of, writes_of}
-use Rattle.thumb_model.specs.Items.{one_of}
+use Rattle.thumb_model.specs.Effect.{one_of}
 use Rattle.thumb_model.specs.Listing.{Place, plain, Code}
 use Rattle.shrinking_sets.specs.Straight.{nop as still, nops, is_straight, reads_first, writes_in, IsExchange}
 use Rattle.kept_places.specs.Marks.{is_gone, rank}

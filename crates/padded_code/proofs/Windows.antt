@@ -6,7 +6,7 @@ use Rattle.thumb_instr.specs.declared.instr.Instr.{Instr}
 use Rattle.thumb_instr.specs.declared.instr.Instr.TheVariants as instr
 use Rattle.thumb_instr.specs.Shape.{uses_of, writes_of}
 use Rattle.thumb_instr.specs.Window.{is_in_window}
-use Rattle.thumb_model.specs.Items.{one_of}
+use Rattle.thumb_model.specs.Effect.{one_of}
 use Rattle.thumb_model.specs.Listing.{Place, plain, Code}
 use Rattle.thumb_model.specs.Flow.{Way, way, Onward, ways_of, ways, ways_on, Follows, Reads, now, later, LiveAfter}
 use Rattle.kept_places.specs.Marks.{is_gone, rank}

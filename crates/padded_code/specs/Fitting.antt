@@ -2,12 +2,10 @@
 use Rattle.std.specs.Prelude.{◌≡◌, ◌↔◌, ℕ, suc, ◌+◌, ◌-◌, ◌<◌, ◌≤◌, Bool, true, false, List, length, map, take, Some, slice_get, ◌⊎◌}
 use Rattle.kept_places.specs.Marks.{is_gone, rank}
 use Rattle.thumb_instr.specs.declared.instr.Instr.{Instr}
-use Rattle.thumb_instr.specs.Renaming.{Low, renamed, item_under}
-use Rattle.thumb_instr.specs.Window.{is_in_window}
-use Rattle.thumb_model.specs.Items.{one_of}
+use Rattle.thumb_instr.specs.Window.{Low, renamed, item_under, is_in_window}
+use Rattle.thumb_model.specs.Effect.{one_of, IsOneToOne, register_count, normalised}
 use Rattle.thumb_model.specs.Listing.{plain, Label, Code, is_code}
 use Rattle.thumb_model.specs.Flow.{Reads}
-use Rattle.thumb_model.specs.Sides.{IsOneToOne, register_count, normalised}
 use Rattle.thumb_model.specs.Replaced.{move_label, replaced}
 use Rattle.rule_model.specs.Rules.{Rule, rule_registers, Applies}
 use Rattle.rule_model.specs.Rewriting.{IsLeastScratch}

@@ -1,6 +1,6 @@
 -- Lines that are rewritten, and a padded code.
 use Rattle.std.specs.Prelude.{◌≡◌, ℕ, ◌≤◌, Bool, List, length, map}
-use Rattle.thumb_instr.specs.Renaming.{renamed}
+use Rattle.thumb_instr.specs.Window.{renamed}
 use Rattle.thumb_model.specs.Listing.{Line, Code, code_of}
 use Rattle.rule_model.specs.Rewriting.{Setting, Replacement, lines_after, AppliesIn}
 use Rattle.padded_code.specs.Padding.{IsPadded}

@@ -8,8 +8,8 @@ use Rattle.std.proofs.lemmas.List.Concat.{flat_map-append}
 use Rattle.std.proofs.lemmas.List.Elements.{All-push, All-contains, Contains-append_right}
 use Rattle.std.proofs.lemmas.Option.{slice_get_within, get_or_from_slice_get, slice_get-map}
 use Rattle.lrat_check.specs.declared.line.Line.{Line}
-use Rattle.lrat_check.specs.Content.{Content, content_of}
-use Rattle.proof_logs.specs.Lines.{added, additions}
+use Rattle.lrat_check.specs.Text.{Content, content_of}
+use Rattle.proof_logs.specs.Proofs.{added, additions}
 use Rattle.proof_logs.specs.Checked.{contents_of}
 use Rattle.proof_logs.proofs.Turns.{got, drop_got}
 

@@ -7,23 +7,20 @@ use Rattle.std.proofs.lemmas.Bool.Decides.{nat_tests}
 use Rattle.std.proofs.lemmas.List.{drop_all, append-nil}
 use Rattle.std.proofs.lemmas.List.Elements.{All-contains, Contains-append_left, Contains-push_cases}
 use Rattle.std.proofs.lemmas.List.Quantifiers.{Any-push}
-use Rattle.clause_model.specs.Literals.{negated, HasDistinctVariables}
+use Rattle.clause_model.specs.Clauses.{negated, HasDistinctVariables}
 use Rattle.clause_model.proofs.Sound.{negations_consistent}
 use Rattle.clause_model.proofs.Runs.{refutes_or_stops}
 use Rattle.lrat_check.specs.declared.fault.LineFault.{LineFault}
 use Rattle.lrat_check.specs.Numbers.{is_negative}
 use Rattle.lrat_check.specs.declared.line.Line.{Line}
 use Rattle.lrat_check.specs.declared.line.Line.TheVariants.{Addition as Adding, Deletion as Deleting}
-use Rattle.lrat_check.specs.Content.{Content, addition, deletion, content_of}
+use Rattle.lrat_check.specs.Text.{Content, addition, deletion, content_of, without, Deletes, DeadAt}
 use Rattle.lrat_check.specs.Costs.{cost_of}
 use Rattle.lrat_check.specs.Live.{Adds}
-use Rattle.lrat_check.specs.Deleting.{without, Deletes, DeadAt}
 use Rattle.lrat_check.specs.Checking.{State, live_at, Starts, Accepts as Leads}
 use Rattle.lrat_check.specs.Faults.{IsFaultOf}
-use Rattle.proof_logs.specs.Verdicts.{Tests, Then}
-use Rattle.proof_logs.specs.Lines.{Known, started, with_clause, without_all, after_line, Accepts, AllAccepted, added, additions}
+use Rattle.proof_logs.specs.Proofs.{Tests, Then, Known, started, with_clause, without_all, after_line, Accepts, AllAccepted, added, additions, LinesVerdict}
 use Rattle.proof_logs.specs.Costs.{line_cost, lines_cost}
-use Rattle.proof_logs.specs.Proofs.{LinesVerdict}
 use Rattle.proof_logs.specs.Checked.{known_of}
 use Rattle.proof_logs.proofs.Turns.{drop_got, then_passed}
 use Rattle.proof_logs.proofs.Determined.{lines_one}

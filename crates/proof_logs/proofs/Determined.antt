@@ -1,9 +1,7 @@
 -- Verdicts have one answer each.
 use Rattle.std.proofs.Common.{ℕ, ◌≡◌, ◌+◌, ◌∷◌, inl, inr, List, [], Option, Some, None, sym, ◌∙◌, ap, refl, Result, Ok, Err, IfErr}
-use Rattle.lrat_check.specs.Content.{Content}
-use Rattle.proof_logs.specs.Verdicts.{Tests, Then, Passes, InTurn, Answers}
-use Rattle.proof_logs.specs.Lines.{Known, started, after_line, Accepts}
-use Rattle.proof_logs.specs.Proofs.{LinesVerdict, HasEmpty, ProofVerdict}
+use Rattle.lrat_check.specs.Text.{Content}
+use Rattle.proof_logs.specs.Proofs.{Tests, Then, Passes, InTurn, Answers, Known, started, after_line, Accepts, LinesVerdict, HasEmpty, ProofVerdict}
 
 -- a verdict has one answer at most
 pub record IsOne {F : Type 0} (verdict : Option F → Type 0) : Type 0 where

@@ -6,7 +6,7 @@ use Rattle.std.proofs.lemmas.Bool.{cases_eq, cases_lt, true≢false}
 use Rattle.std.proofs.lemmas.List.{get_or_past, set_past, get_or-set_other, get_or-set_same, take_all, take_more, get_or-map, map-set, length-map}
 use Rattle.std.proofs.lemmas.List.Elements.{All-nil, All-contains, All-weaker, All-push, All-more, Contains-get_or, Contains-append_left, Contains-push, Contains-push_cases}
 use Rattle.std.proofs.lemmas.List.Sums.{sum_by-cons, sum_by-set, sum_by_push, sum_by_more, sum_by-take-le}
-use Rattle.clause_model.specs.Asserting.{IsNew}
+use Rattle.clause_model.specs.Clauses.{IsNew}
 use Rattle.proof_logs.specs.Lists.{Kept, Holds, Keeps, listed, under}
 
 -- the sums of lists at different places are at most the sum of all

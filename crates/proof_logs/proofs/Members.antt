@@ -7,9 +7,7 @@ use Rattle.std.proofs.lemmas.List.{length-take, get_or_default, take_all}
 use Rattle.std.proofs.lemmas.List.Elements.{All-more, All-cons, All-tail}
 use Rattle.std.proofs.lemmas.Bool.{false≢true}
 use Rattle.std.proofs.lemmas.List.Sums.{sum_by_more}
-use Rattle.clause_model.specs.Literals.{negated, variable_of, HasDistinctVariables}
-use Rattle.clause_model.specs.Clauses.{IsUnset}
-use Rattle.clause_model.specs.Asserting.{IsNew}
+use Rattle.clause_model.specs.Clauses.{negated, variable_of, HasDistinctVariables, IsUnset, IsNew}
 use Rattle.clause_model.proofs.LiteralLaws.{variable_of-negated}
 
 -- the literals before a place don't have the variable of the one there

@@ -1,8 +1,8 @@
 -- The clauses still to come are new exactly where all are.
 use Rattle.std.proofs.Common.{◌≡◌, ℕ, ◌+◌, ◌≤◌, List, [], ◌∷◌, ◌++◌, length, sym, subst, arith, ap}
 use Rattle.std.specs.Prelude.{sum_by}
-use Rattle.clause_model.specs.Asserting.{IsNew}
-use Rattle.proof_logs.specs.Logs.{EachIsNew}
+use Rattle.clause_model.specs.Clauses.{IsNew}
+use Rattle.proof_logs.specs.Proofs.{EachIsNew}
 use Rattle.proof_logs.specs.Costs.{newness_cost}
 
 pub record NewRest (before clauses : List (List ℕ)) (whole : Type 0) : Type 0 where

@@ -1,10 +1,8 @@
 -- A verdict whose faults are told by other names.
 use Rattle.std.proofs.Common.{ℕ, ◌+◌, ◌∷◌, inl, inr, List, [], Option, Some, None, ap}
 use Rattle.std.specs.Option.{option_map}
-use Rattle.lrat_check.specs.Content.{Content}
-use Rattle.proof_logs.specs.Verdicts.{Tests, Then, Passes}
-use Rattle.proof_logs.specs.Lines.{Known, started, after_line, Accepts}
-use Rattle.proof_logs.specs.Proofs.{LinesVerdict, HasEmpty, ProofVerdict}
+use Rattle.lrat_check.specs.Text.{Content}
+use Rattle.proof_logs.specs.Proofs.{Tests, Then, Passes, Known, started, after_line, Accepts, LinesVerdict, HasEmpty, ProofVerdict}
 
 module _ {F G : Type 0} (name : F → G) where
   pub tests_renamed : (P : Type 0) (e : F) (o : Option F) → Tests P e o → Tests P (name e) (option_map name o)

@@ -7,14 +7,11 @@ use Rattle.std.proofs.lemmas.List.{append-nil}
 use Rattle.std.proofs.lemmas.List.Elements.{All-contains, All-cons, All-nil, All-push}
 use Rattle.std.proofs.lemmas.Option.{slice_get_within, get_or_from_slice_get}
 use Rattle.cnf_gates.specs.Meaning.{number_value, clause_value, all_true}
-use Rattle.clause_model.specs.Literals.{literal_value, code_of, codes_of}
-use Rattle.clause_model.specs.Clauses.{Satisfies}
-use Rattle.clause_model.specs.Propagation.{numbered, SatisfiesLive}
+use Rattle.clause_model.specs.Clauses.{literal_value, code_of, codes_of, Satisfies, numbered, SatisfiesLive}
 use Rattle.clause_model.proofs.Sound.{rup_sound}
-use Rattle.lrat_check.specs.Content.{Content, addition, deletion}
+use Rattle.lrat_check.specs.Text.{Content, addition, deletion}
 use Rattle.lrat_check.proofs.Accepted.{deleted_live}
-use Rattle.proof_logs.specs.Lines.{Known, started, with_clause, without_all, after_line, AllAccepted, additions}
-use Rattle.proof_logs.specs.Proofs.{HasEmpty, ProofVerdict}
+use Rattle.proof_logs.specs.Proofs.{Known, started, with_clause, without_all, after_line, AllAccepted, additions, HasEmpty, ProofVerdict}
 use Rattle.proof_logs.proofs.Checks.{passed_accepted}
 
 code_true : (m : ℕ → Bool) (z : ℤ) → number_value m z ≡ true → literal_value m (code_of z) ≡ true

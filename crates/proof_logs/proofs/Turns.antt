@@ -3,7 +3,7 @@ use Rattle.std.proofs.Common.{ℕ, ◌≡◌, ◌<◌, ◌≤◌, ◌+◌, ◌�
 use Rattle.std.proofs.Math.Seq.{drop-cons}
 use Rattle.std.proofs.lemmas.List.{drop_all}
 use Rattle.std.proofs.lemmas.Option.{slice_get-get_or, get_or_from_slice_get, slice_get_within}
-use Rattle.proof_logs.specs.Verdicts.{Then, InTurn}
+use Rattle.proof_logs.specs.Proofs.{Then, InTurn}
 
 -- the answer of the elements still to come is the whole's
 pub record Rest {X F : Type 0} (test : ℕ → X → Option F → Type 0) (m : ℕ) (xs : List X) (whole : Option F → Type 0) : Type 0 where

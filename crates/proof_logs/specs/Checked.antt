@@ -1,9 +1,9 @@
 -- What a checker that holds the lines so far knows.
 use Rattle.std.specs.Prelude.{List, [], ◌∷◌, map}
 use Rattle.lrat_check.specs.declared.line.Line.{Line}
-use Rattle.lrat_check.specs.Content.{Content, content_of}
+use Rattle.lrat_check.specs.Text.{Content, content_of}
 use Rattle.lrat_check.specs.Checking.{State, live_at}
-use Rattle.proof_logs.specs.Lines.{Known, after_line}
+use Rattle.proof_logs.specs.Proofs.{Known, after_line}
 
 abbrev pub known_of : State → Known
 known_of state = record { live = live_at state; last = state.last }

@@ -1,8 +1,8 @@
 -- How many literals are looked at, at most, while proofs and logs are checked.
 use Rattle.std.specs.Prelude.{ℕ, ◌+◌, ◌++◌, List, [], ◌∷◌, length, map, sum_by, unsigned_abs}
-use Rattle.clause_model.specs.Propagation.{hint_lengths}
-use Rattle.lrat_check.specs.Content.{Content, addition, deletion}
-use Rattle.proof_logs.specs.Lines.{Known, started, after_line, additions}
+use Rattle.clause_model.specs.Clauses.{hint_lengths}
+use Rattle.lrat_check.specs.Text.{Content, addition, deletion}
+use Rattle.proof_logs.specs.Proofs.{Known, started, after_line, additions}
 
 -- the lengths of the live clauses that the hints name, line by line
 abbrev pub line_cost : Known → Content → ℕ

@@ -1,7 +1,4 @@
-pub mod Verdicts
-pub mod Lines
-pub mod Proofs
-pub mod Logs
-pub mod Costs
 pub mod Checked
+pub mod Costs
 pub mod Lists
+pub mod Proofs

@@ -1,7 +1,7 @@
 //! Clauses, and whether one is part of another.
 ghost use Rattle.std.specs.Prelude.{◌≡◌, ℕ, ◌+◌, ◌≤◌, ◌↔◌, List, All, Contains, IsTrue, IfOk, length, sum_by};
 ghost use Rattle.step_ledger.specs.Counts.{RisesByAtLeast};
-ghost use Rattle.clause_model.specs.Asserting.{IsNew};
+ghost use Rattle.clause_model.specs.Clauses.{IsNew};
 
 use clause_model::{Assignment, Literal};
 use std::alloc::{AllocError, Global};

@@ -2,8 +2,7 @@
 //! clause for ever.
 ghost use Rattle.std.specs.Prelude.{◌≡◌, ℕ, ◌+◌, ◌≤◌, ◌++◌, ◌∷◌, ◌↔◌, List, [], IsTrue, IfOk, OnOk, length, map, sum_by};
 ghost use Rattle.step_ledger.specs.Counts.{RisesByAtLeast};
-ghost use Rattle.clause_model.specs.Literals.{codes_of, code_of, HasDistinctVariables};
-ghost use Rattle.clause_model.specs.Asserting.{IsNew};
+ghost use Rattle.clause_model.specs.Clauses.{codes_of, code_of, HasDistinctVariables, IsNew};
 ghost use Rattle.proof_logs.specs.Lists.{Holds};
 
 use crate::lists::Lists;

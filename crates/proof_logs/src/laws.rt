@@ -2,8 +2,8 @@
 
 ghost use Rattle.std.specs.Prelude.{◌≡◌, ℕ, ℤ, List, Bool, true, Option, None};
 ghost use Rattle.cnf_gates.specs.Meaning.{all_true};
-ghost use Rattle.clause_model.specs.Literals.{codes_of};
-ghost use Rattle.lrat_check.specs.Content.{Content};
+ghost use Rattle.clause_model.specs.Clauses.{codes_of};
+ghost use Rattle.lrat_check.specs.Text.{Content};
 ghost use Rattle.proof_logs.specs.Proofs.{ProofVerdict};
 ghost use Rattle.proof_logs.specs.declared.faults.ProofFault.{ProofFault};
 

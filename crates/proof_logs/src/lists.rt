@@ -1,7 +1,7 @@
 //! Clauses in lists by their literals, so that those which another contains are looked for among few.
 ghost use Rattle.std.specs.Prelude.{◌≡◌, ℕ, ◌+◌, ◌^◌, ◌<◌, ◌≤◌, ◌++◌, ◌∷◌, ◌↔◌, List, [], All, Contains, IsTrue, OnOk, MatchOption, length, sum_by};
 ghost use Rattle.step_ledger.specs.Counts.{RisesByAtLeast};
-ghost use Rattle.clause_model.specs.Asserting.{IsNew};
+ghost use Rattle.clause_model.specs.Clauses.{IsNew};
 ghost use Rattle.proof_logs.specs.Lists.{Holds, Keeps, listed, under};
 
 use crate::clause::{Clause, is_none_part};

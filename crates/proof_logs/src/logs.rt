@@ -2,11 +2,10 @@
 //! follows.
 ghost use Rattle.std.specs.Prelude.{◌≡◌, ◌≢◌, ℕ, ◌+◌, ◌≤◌, ◌∷◌, ◌↔◌, List, [], All, IsTrue, IfOk, IfSome, MatchOption, Option, length};
 ghost use Rattle.step_ledger.specs.Counts.{RisesByAtLeast};
-ghost use Rattle.clause_model.specs.Literals.{codes_of, HasDistinctVariables};
-ghost use Rattle.lrat_check.specs.Content.{content_of};
-ghost use Rattle.proof_logs.specs.Lines.{started, AllAccepted, added, additions};
+ghost use Rattle.clause_model.specs.Clauses.{codes_of, HasDistinctVariables};
+ghost use Rattle.lrat_check.specs.Text.{content_of};
+ghost use Rattle.proof_logs.specs.Proofs.{started, AllAccepted, added, additions, IsSpentLog, EachIsNew, Spends};
 ghost use Rattle.proof_logs.specs.Costs.{lines_cost, newness_cost, spent_cost};
-ghost use Rattle.proof_logs.specs.Logs.{IsSpentLog, EachIsNew, Spends};
 ghost use Rattle.proof_logs.specs.Checked.{contents_of};
 
 use crate::clauses::Clauses;

@@ -1,12 +1,10 @@
 //! A whole proof: its lines in turn, and that they come to the empty clause.
 ghost use Rattle.std.specs.Prelude.{◌≡◌, ℕ, ◌+◌, ◌≤◌, ◌↔◌, ◌⊎◌, IsTrue, IfOk, OnOk, Bool, true, Some};
 ghost use Rattle.cnf_gates.specs.Meaning.{all_true};
-ghost use Rattle.clause_model.specs.Literals.{codes_of};
+ghost use Rattle.clause_model.specs.Clauses.{codes_of};
 ghost use Rattle.step_ledger.specs.Counts.{RisesByAtLeast};
-ghost use Rattle.proof_logs.specs.Verdicts.{Answers};
-ghost use Rattle.proof_logs.specs.Lines.{started};
+ghost use Rattle.proof_logs.specs.Proofs.{Answers, started, LinesVerdict, HasEmpty, ProofVerdict};
 ghost use Rattle.proof_logs.specs.Costs.{lines_cost};
-ghost use Rattle.proof_logs.specs.Proofs.{LinesVerdict, HasEmpty, ProofVerdict};
 ghost use Rattle.proof_logs.specs.Checked.{known_of, contents_of};
 
 use crate::faults::ProofFault;

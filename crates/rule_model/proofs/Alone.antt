@@ -3,9 +3,9 @@ use Rattle.std.proofs.Common.{◌≡◌, ℕ, zero, suc, ◌≤◌, List, [], �
 use Rattle.std.specs.Prelude.{slice_get}
 use Rattle.std.proofs.lemmas.Option.{slice_get_past}
 use Rattle.thumb_instr.specs.declared.instr.Instr.{Instr}
-use Rattle.thumb_instr.specs.Renaming.{Low, named, AreBelow}
+use Rattle.thumb_instr.specs.Window.{Low, named, AreBelow}
 use Rattle.thumb_model.specs.Listing.{Code}
-use Rattle.thumb_model.specs.Sides.{AreOver, above, register_count}
+use Rattle.thumb_model.specs.Effect.{AreOver, above, register_count}
 use Rattle.rule_model.specs.Rules.{Rule, rule_registers, IsSoundRule, rule_at, alone, AreSound}
 use Rattle.rule_model.specs.Rewriting.{IsLeastScratch}
 

@@ -2,9 +2,9 @@
 use Rattle.std.proofs.Common.{take-append-drop, drop-drop, ◌≡◌, ℕ, ◌+◌, ◌<◌, List, [], ◌∷◌, ◌++◌, length, take, drop, map, refl, sym, ap, ◌∙◌, arith}
 use Rattle.std.proofs.lemmas.List.Sums.{sum_by-cons, sum_by-append}
 use Rattle.thumb_instr.specs.declared.instr.Instr.{Instr}
-use Rattle.thumb_instr.specs.Renaming.{Low, renamed}
+use Rattle.thumb_instr.specs.Window.{Low, renamed}
 use Rattle.thumb_model.specs.Listing.{Place, Op, Word, plain, Code}
-use Rattle.thumb_model.specs.Sides.{normalised}
+use Rattle.thumb_model.specs.Effect.{normalised}
 use Rattle.thumb_model.specs.Replaced.{replaced}
 use Rattle.rule_model.specs.Rules.{Rule, weight, Applies}
 use Rattle.rule_model.specs.Laws.{instructions, CostsAreKept}

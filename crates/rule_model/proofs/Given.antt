@@ -4,7 +4,7 @@ use Rattle.std.specs.Prelude.{Option, Some, slice_get, bytes_eq}
 use Rattle.std.specs.Option.{option_map, unwrap_or}
 use Rattle.std.proofs.lemmas.Option.{slice_get-map}
 use Rattle.thumb_instr.specs.declared.instr.Instr.{Instr}
-use Rattle.thumb_instr.specs.Renaming.{renamed}
+use Rattle.thumb_instr.specs.Window.{renamed}
 use Rattle.thumb_model.specs.Listing.{Name, Place, plain, Label, Code, Line, code_of, places_of, place_mentions, is_mentioned, has_label}
 use Rattle.thumb_model.specs.Naming.{Naming, Fits, points}
 use Rattle.thumb_model.specs.Replaced.{moved, move_label, replaced}

@@ -6,12 +6,11 @@ use Rattle.thumb_model.specs.Listing.{Label, Line, Code, places_of, labels_from,
 use Rattle.thumb_model.specs.Layout.{Layable}
 use Rattle.thumb_model.specs.Literals.{HasLiterals}
 use Rattle.thumb_model.specs.Same.{Same}
-use Rattle.thumb_instr.specs.Renaming.{renamed}
+use Rattle.thumb_instr.specs.Window.{renamed}
 use Rattle.rule_model.specs.Rules.{Rule, AreSound, weight, Applies}
-use Rattle.thumb_model.specs.Replaced.{replaced}
+use Rattle.thumb_model.specs.Replaced.{replaced, replaced_lines}
 use Rattle.rule_model.specs.Laws.{instructions, CostsAreKept, CostsOne}
 use Rattle.rule_model.specs.Rewriting.{Setting, Replacement, lines_after_rule, lines_after, AppliesIn, NoneApplies, AreRewritten, AllApplied}
-use Rattle.thumb_model.specs.ReplacedLines.{replaced_lines}
 use Rattle.thumb_model.specs.Cuts.{AreOps}
 use Rattle.thumb_model.proofs.Lists.{length_map}
 use Rattle.thumb_model.proofs.LinesReplaced.{AllOutside, ops_of, outside_of, before, lines_fewer}

@@ -4,14 +4,12 @@ use Rattle.std.specs.Prelude.{slice_get}
 use Rattle.std.proofs.lemmas.Bool.{cases_lt}
 use Rattle.std.proofs.lemmas.Option.{same_Some, slice_get_past, slice_get_within}
 use Rattle.thumb_instr.specs.declared.instr.Instr.{Instr}
-use Rattle.thumb_instr.specs.Window.{is_in_window}
+use Rattle.thumb_instr.specs.Window.{is_in_window, Low, named, renamed, number_or, item_under}
 use Rattle.thumb_instr.proofs.Registers.{low_is}
 use Rattle.thumb_instr.proofs.RenamingLemmas.{named_renamed}
-use Rattle.thumb_model.specs.Items.{one_of}
+use Rattle.thumb_model.specs.Effect.{one_of, register_count, AreOver, is_named, normalised}
 use Rattle.thumb_model.specs.Listing.{plain, Line, Code, code_of}
-use Rattle.thumb_instr.specs.Renaming.{Low, named, renamed, number_or, item_under}
 use Rattle.rule_model.specs.Rules.{Rule, IsSoundRule, rule_at, AreSound, Applies}
-use Rattle.thumb_model.specs.Sides.{register_count, AreOver, is_named, normalised}
 use Rattle.thumb_model.proofs.Lists.{present_at, get_take, take_all, cons_same}
 use Rattle.rule_model.specs.Rewriting.{Setting, Replacement, IsLeastScratch, IsFirst, lines_after, AreRewritten}
 use Rattle.rule_model.specs.Laws.{IsDetermined}

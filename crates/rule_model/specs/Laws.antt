@@ -1,13 +1,13 @@
 -- What holds of rewriting.
 use Rattle.std.specs.Prelude.{◌≡◌, ◌≢◌, ℕ, ◌+◌, ◌≤◌, max, List, [], ◌∷◌, length, map, Some, IsSome, slice_get}
 use Rattle.thumb_instr.specs.declared.instr.Instr.{Instr}
-use Rattle.thumb_instr.specs.Renaming.{Low, renamed}
+use Rattle.thumb_instr.specs.Window.{Low, renamed}
 use Rattle.thumb_model.specs.Listing.{Name, Place, Op, Word, Line, Code, places_of, code_of, place_of}
 use Rattle.thumb_model.specs.Layout.{Layable}
 use Rattle.thumb_model.specs.Naming.{Naming, Fits, points}
 use Rattle.thumb_model.specs.Literals.{HasLiterals}
 use Rattle.thumb_model.specs.Same.{Same}
-use Rattle.thumb_model.specs.Sides.{normalised}
+use Rattle.thumb_model.specs.Effect.{normalised}
 use Rattle.thumb_model.specs.Replaced.{replaced}
 use Rattle.rule_model.specs.Rules.{AreSound, weight}
 use Rattle.rule_model.specs.Rewriting.{Setting, Replacement, lines_after, AppliesIn, NoneApplies, AreRewritten, AllApplied}

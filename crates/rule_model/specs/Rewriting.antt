@@ -1,13 +1,12 @@
 -- Rewriting a listing's lines by a table.
 use Rattle.std.specs.Prelude.{◌≡◌, ℕ, ◌+◌, ◌-◌, ◌<◌, ◌≤◌, max, true, List, [], ◌∷◌, length, take, map, Option, Some, None, slice_get, ◌⊎◌}
 use Rattle.thumb_instr.specs.declared.instr.Instr.{Instr}
-use Rattle.thumb_instr.specs.Renaming.{Low, renamed}
-use Rattle.thumb_model.specs.Items.{one_of}
+use Rattle.thumb_instr.specs.Window.{Low, renamed}
+use Rattle.thumb_model.specs.Effect.{one_of, register_count}
 use Rattle.thumb_model.specs.Listing.{Line, Code, code_of}
 use Rattle.thumb_model.specs.Flow.{LiveAfter}
-use Rattle.thumb_model.specs.Sides.{register_count}
 use Rattle.thumb_model.specs.Layout.{Layable}
-use Rattle.thumb_model.specs.ReplacedLines.{replaced_lines, are_joined_from}
+use Rattle.thumb_model.specs.Replaced.{replaced_lines, are_joined_from}
 use Rattle.rule_model.specs.Rules.{Rule, weight, rule_at, Applies}
 
 -- what rewriting is given: the rules of each number of the table, what an instruction costs, the base, how many lines there may be, and the bytes of an instruction's own line

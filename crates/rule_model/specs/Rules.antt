@@ -1,11 +1,10 @@
 -- Rules, and where they apply.
 use Rattle.std.specs.Prelude.{◌≡◌, ℕ, ◌+◌, ◌-◌, ◌<◌, ◌≤◌, max, true, false, List, [], ◌∷◌, length, take, drop, map, sum_by, Option, Some, None, slice_get, ◌⊎◌}
 use Rattle.thumb_instr.specs.declared.instr.Instr.{Instr}
-use Rattle.thumb_instr.specs.Renaming.{Low, renamed, item_under}
-use Rattle.thumb_model.specs.Items.{one_of}
+use Rattle.thumb_instr.specs.Window.{Low, renamed, item_under}
+use Rattle.thumb_model.specs.Effect.{one_of, Equal, IsOneToOne, AreOver, is_named, register_count, normalised}
 use Rattle.thumb_model.specs.Listing.{plain, Label, Code, is_code}
 use Rattle.thumb_model.specs.Flow.{LiveAfter}
-use Rattle.thumb_model.specs.Sides.{Equal, IsOneToOne, AreOver, is_named, register_count, normalised}
 use Rattle.thumb_model.specs.Replaced.{move_label, replaced}
 
 -- a rule: its left side, its right side, the items that may be live after it, and the numbers of the sequences that it leaves open

@@ -8,8 +8,7 @@ use Rattle.std.proofs.lemmas.List.{length-map}
 use Rattle.std.proofs.lemmas.List.Folds.{list_any-append}
 use Rattle.thumb_instr.specs.declared.instr.Instr.{Instr}
 use Rattle.thumb_instr.specs.declared.instr.Instr.TheVariants as instr
-use Rattle.thumb_instr.specs.Window.{is_in_window, normal_of, byte_sum, byte_of}
-use Rattle.thumb_instr.specs.Renaming.{Low, named, renamed, AreBelow, item_under, number_or}
+use Rattle.thumb_instr.specs.Window.{is_in_window, normal_of, byte_sum, byte_of, Low, named, renamed, AreBelow, item_under, number_or}
 use Rattle.thumb_instr.proofs.RenamingLemmas.{named_renamed, named_low}
 use Rattle.rule_table.specs.Canonical.{has, with_first, firsts, name_in, numbers_of}
 use Rattle.rule_table.proofs.Orders.{name_stands, has_firsts}

@@ -11,22 +11,19 @@ use Rattle.std.proofs.lemmas.List.{map-append, take-append-drop}
 use Rattle.thumb_syntax.proofs.Steps.{map_some}
 use Rattle.std.proofs.lemmas.List.Concat.{flat_map-append}
 use Rattle.std.proofs.lemmas.List.Elements.{All-nil, All-cons, All-head, All-tail, All-push, All-replicate}
-use Rattle.seq_enum.specs.Lists.{ascends_from}
-use Rattle.seq_enum.specs.Pools.{is_pool}
+use Rattle.seq_enum.specs.Alphabet.{ascends_from, is_pool}
 use Rattle.seq_enum.specs.Costs.{AreCosts}
 use Rattle.thumb_instr.specs.declared.instr.Instr.{Instr}
 use Rattle.thumb_instr.specs.declared.instr.Instr.TheVariants as instr
 use Rattle.thumb_instr.specs.declared.within.Within.{Within}
-use Rattle.lrat_check.specs.Content.{Content}
-use Rattle.lrat_check.specs.Text.{IsLine}
+use Rattle.lrat_check.specs.Text.{Content, IsLine}
 use Rattle.rule_table.specs.declared.header.Field.{Field}
 use Rattle.rule_table.specs.declared.header.Field.TheVariants as field
 use Rattle.rule_table.specs.declared.header.Head.{Head}
 use Rattle.rule_table.specs.declared.header.Head.TheVariants as head
 use Rattle.rule_table.specs.Header.{Header, heads, has_line, has_families, number_in, with_number, is_same, blank, IsWithin, IsHeader}
-use Rattle.rule_table.specs.Table.{Opened, Rule, Family as Raised, Table}
+use Rattle.rule_table.specs.Table.{Opened, Rule, Family as Raised, Table, IsState, IsInstr, IsMask, IsOpened, IsRule, IsFamily, IsTable, numbers_of}
 use Rattle.rule_table.specs.Text.{Item, Number, Pool, Costs, State, Entry, Left, Right, Mask, Proof, Logged, Open, Family, End, rule_items, family_items, line_items, header_items, items_of}
-use Rattle.rule_table.specs.Valid.{IsState, IsInstr, IsMask, IsOpened, IsRule, IsFamily, IsTable, numbers_of}
 use Rattle.rule_table.specs.Items.{IsItem}
 use Rattle.rule_table.specs.Grammar.{Stage, Start, Heading, Stated, Sided, Masked, Proved, Opening, Raising, Shown, Done, with_state, with_rule, with_opened, with_family, is_empty, heard, later, raising, step, run}
 

@@ -5,7 +5,7 @@ use Rattle.std.specs.Option.{option_and_then, is_some}
 use Rattle.std.proofs.Math.Bool.{or_assoc, or-false}
 use Rattle.std.proofs.lemmas.List.Folds.{list_any-append}
 use Rattle.thumb_instr.specs.Items.{has as has_item}
-use Rattle.thumb_instr.specs.Renaming.{Low, item_under}
+use Rattle.thumb_instr.specs.Window.{Low, item_under}
 use Rattle.rule_table.specs.Canonical.{has}
 use Rattle.rule_table.specs.Binding.{given_at, IsOneToOne, Agrees, Binds, Clashes, IsBound}
 

@@ -4,7 +4,7 @@ use Rattle.std.specs.Option.{option_map, option_and_then, is_some}
 use Rattle.std.proofs.lemmas.Option.{slice_get-map}
 use Rattle.std.proofs.lemmas.List.{length-map}
 use Rattle.thumb_instr.specs.declared.instr.Instr.{Instr}
-use Rattle.thumb_instr.specs.Renaming.{Low, renamed, number_or}
+use Rattle.thumb_instr.specs.Window.{Low, renamed, number_or}
 use Rattle.rule_table.specs.Canonical.{has}
 use Rattle.rule_table.specs.Matching.{registers_in, eight, given_for, Renames}
 use Rattle.rule_table.specs.Binding.{given_at, IsOneToOne, Agrees, Binds, Clashes}

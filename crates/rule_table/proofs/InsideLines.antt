@@ -14,12 +14,11 @@ use Rattle.std.proofs.lemmas.List.Folds.{list_all-append}
 use Rattle.std.proofs.lemmas.List.Elements.{All-nil, All-cons, All-head, All-tail, All-append, All-map, All-weaker}
 use Rattle.ascii_scan.specs.FirstLine.{is_inside}
 use Rattle.thumb_instr.specs.Items.{has}
-use Rattle.clause_model.specs.Literals.{number_of}
-use Rattle.lrat_check.specs.Content.{Content, addition, deletion}
+use Rattle.clause_model.specs.Clauses.{number_of}
+use Rattle.lrat_check.specs.Text.{Content, addition, deletion, IsLine, HasGoodParts, id_of, middle_of, words_of, literal_text, end_word, deletion_word, text_of as text_of_line}
 use Rattle.lrat_check.specs.Numbers.{IsId, IsHint}
-use Rattle.lrat_check.specs.Text.{IsLine, HasGoodParts, id_of, middle_of, words_of, literal_text, end_word, deletion_word, text_of as text_of_line}
 use Rattle.lrat_check.proofs.Numerals.{hint_fits, literal_fits}
-use Rattle.window_exec.specs.Seen.{Seen}
+use Rattle.window_exec.specs.State.{Seen}
 use Rattle.rule_table.specs.Text.{hex_digit, hex_of, after_blanks, named}
 
 abbrev pub IsInside : List ℕ → Type 0

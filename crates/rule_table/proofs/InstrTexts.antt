@@ -19,8 +19,7 @@ use Rattle.thumb_instr.specs.declared.operation.ByteOperation.TheVariants as byt
 use Rattle.thumb_instr.specs.declared.operation.Extension.TheVariants as extension
 use Rattle.thumb_instr.specs.declared.operation.Reversal.TheVariants as reversal
 use Rattle.thumb_instr.specs.declared.within.Within.{Within}
-use Rattle.thumb_instr.specs.Renaming.{AreBelow}
-use Rattle.thumb_instr.specs.Window.{is_in_window}
+use Rattle.thumb_instr.specs.Window.{AreBelow, is_in_window}
 use Rattle.thumb_instr.specs.Parts.{parts_of}
 use Rattle.thumb_instr.proofs.PartLemmas.{same_parts}
 use Rattle.thumb_syntax.specs.declared.form.Place.{Place}
@@ -34,7 +33,7 @@ use Rattle.thumb_syntax.specs.Spelling.{slots, register_text, number_text, slot_
 use Rattle.thumb_syntax.specs.Whole.{is_whole}
 use Rattle.thumb_syntax.proofs.RoundTrip.{writing_reads_back}
 use Rattle.rule_table.specs.Text.{instr_text}
-use Rattle.rule_table.specs.Valid.{IsInstr}
+use Rattle.rule_table.specs.Table.{IsInstr}
 use Rattle.rule_table.proofs.InsideLines.{IsInside, inside_both, decimal_inside}
 
 -- ---- slots

@@ -11,8 +11,7 @@ use Rattle.thumb_instr.specs.declared.kind.Parts.{Parts}
 use Rattle.thumb_instr.specs.declared.role.Operands.{Operands}
 use Rattle.thumb_instr.specs.Parts.{parts_of}
 use Rattle.thumb_instr.specs.Roles.{roles}
-use Rattle.thumb_instr.specs.Window.{is_in_window, normal_of}
-use Rattle.thumb_instr.specs.Renaming.{Low, AreBelow, named_by, named_in, named, renamed}
+use Rattle.thumb_instr.specs.Window.{is_in_window, normal_of, Low, AreBelow, named_by, named_in, named, renamed}
 use Rattle.thumb_instr.proofs.PartLemmas.{same_parts, same_fields}
 use Rattle.thumb_instr.proofs.RenamingLemmas.{parts_low}
 use Rattle.rule_table.specs.Binding.{number_under, IsBound, Clashes}

@@ -8,13 +8,13 @@ use Rattle.std.proofs.lemmas.Fmt.{decimal_injective}
 use Rattle.ascii_scan.specs.FirstLine.{is_inside}
 use Rattle.lrat_check.specs.Text.{text_of as text_of_line}
 use Rattle.lrat_check.proofs.Outcomes.{text_of-injective}
-use Rattle.window_exec.specs.Seen.{Seen}
+use Rattle.window_exec.specs.State.{Seen}
 use Rattle.rule_table.specs.declared.header.Field.{Field}
 use Rattle.rule_table.specs.declared.header.Field.TheVariants as field
 use Rattle.rule_table.specs.declared.words.Word.TheVariants as word
 use Rattle.rule_table.specs.Header.{row, IsWithin}
 use Rattle.rule_table.specs.Text.{Item, Number, Pool, Costs, State, Entry, Left, Right, Mask, Proof, Logged, Open, Family, End, line_of, instr_text, after_blanks, hex_of, mask_text, mask_rows, named}
-use Rattle.rule_table.specs.Valid.{IsState, IsInstr}
+use Rattle.rule_table.specs.Table.{IsState, IsInstr}
 use Rattle.rule_table.specs.Items.{IsItem}
 use Rattle.rule_table.specs.Fronts.{words, front, word_of, tail_of}
 use Rattle.rule_table.proofs.FrontLemmas.{same_pair}

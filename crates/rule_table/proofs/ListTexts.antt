@@ -8,7 +8,7 @@ use Rattle.std.proofs.lemmas.Fmt.{decimal_injective}
 use Rattle.std.proofs.lemmas.Bool.{and_parts, false≢true}
 use Rattle.std.proofs.lemmas.List.Elements.{All-nil, All-cons, All-head, All-tail, All-map, All-weaker}
 use Rattle.std.proofs.lemmas.List.Splits.{slice_split_none, slice_split_at, length-slice_split, join_with_byte-slice_split}
-use Rattle.seq_enum.specs.Pools.{is_pool, inside}
+use Rattle.seq_enum.specs.Alphabet.{is_pool, inside}
 use Rattle.seq_enum.specs.Costs.{AreCosts}
 use Rattle.lrat_check.proofs.Texts.{map-injective, HasNoBlank}
 use Rattle.rule_table.specs.Text.{after_blanks}

@@ -7,8 +7,7 @@ use Rattle.std.proofs.lemmas.List.{map-append}
 use Rattle.std.proofs.lemmas.Option.{slice_get_past}
 use Rattle.thumb_instr.specs.declared.instr.Instr.{Instr}
 use Rattle.thumb_instr.specs.declared.instr.Instr.TheVariants as instr
-use Rattle.thumb_instr.specs.Window.{is_in_window}
-use Rattle.thumb_instr.specs.Renaming.{Low, Reg, named, renamed, reg_under, both_under, wide_or, number_or, item_under}
+use Rattle.thumb_instr.specs.Window.{is_in_window, Low, Reg, named, renamed, reg_under, both_under, wide_or, number_or, item_under}
 use Rattle.thumb_instr.proofs.Registers.{same_number}
 use Rattle.thumb_instr.proofs.RenamingLemmas.{named_renamed}
 use Rattle.rule_table.specs.Canonical.{has}

@@ -6,12 +6,12 @@ use Rattle.std.specs.Int.{bit_at}
 use Rattle.std.proofs.lemmas.Bool.{cases_Bool, and_parts, ne_eqb}
 use Rattle.std.proofs.lemmas.Bool.Decides.{nat_tests}
 use Rattle.std.proofs.lemmas.Nat.Bits.{same_from_bits, bit_at-lt}
-use Rattle.seq_enum.specs.Lists.{ascends_from}
+use Rattle.seq_enum.specs.Alphabet.{ascends_from}
 use Rattle.thumb_instr.specs.Items.{has, is_in_masks, one_of}
 use Rattle.rule_table.specs.declared.tails.MaskItem.{MaskItem}
 use Rattle.rule_table.specs.MaskView.{row_of}
 use Rattle.rule_table.specs.Text.{mask_rows, mask_text}
-use Rattle.rule_table.specs.Valid.{IsMask}
+use Rattle.rule_table.specs.Table.{IsMask}
 use Rattle.rule_table.specs.Fronts.{strip, left_of, is_taken, and_taken, taken}
 use Rattle.rule_table.proofs.FrontLemmas.{strip_front, strip_sound}
 

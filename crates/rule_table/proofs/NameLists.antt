@@ -3,8 +3,8 @@ use Rattle.std.proofs.Common.{◌≡◌, ℕ, zero, suc, ◌+◌, ◌-◌, ◌<�
 use Rattle.std.proofs.Math.Seq.{drop-cons}
 use Rattle.std.proofs.lemmas.List.{drop_all}
 use Rattle.std.proofs.lemmas.Bool.Decides.{eqb_tells}
-use Rattle.seq_enum.specs.Lists.{numbers_from}
-use Rattle.thumb_instr.specs.Renaming.{Low}
+use Rattle.seq_enum.specs.Alphabet.{numbers_from}
+use Rattle.thumb_instr.specs.Window.{Low}
 use Rattle.rule_table.specs.Canonical.{name_in, numbers_of}
 use Rattle.rule_table.proofs.Backs.{eight}
 

@@ -7,7 +7,7 @@ use Rattle.std.proofs.lemmas.Bool.Decides.{eqb_tells}
 use Rattle.rule_table.specs.Canonical.{firsts, has, with_first, name_in, numbers_of}
 use Rattle.std.specs.List.{flat_map}
 use Rattle.thumb_instr.specs.declared.instr.Instr.{Instr}
-use Rattle.thumb_instr.specs.Renaming.{Low, named}
+use Rattle.thumb_instr.specs.Window.{Low, named}
 
 pub firsts-step : (seen rs : List ℕ) (i : ℕ) (d : ℕ) → i < length rs → firsts seen (drop i rs) ≡ firsts (with_first seen (get_or rs i d)) (drop (i + 1) rs)
 unfolding firsts

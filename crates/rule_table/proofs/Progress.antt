@@ -13,9 +13,8 @@ use Rattle.seq_enum.specs.Costs.{AreCosts}
 use Rattle.rule_table.specs.declared.header.Head.{Head}
 use Rattle.rule_table.specs.declared.header.Head.TheVariants as head
 use Rattle.rule_table.specs.Header.{Header, heads, has_line, IsHeader}
-use Rattle.rule_table.specs.Table.{Opened, Rule, Family as Raised, Table}
+use Rattle.rule_table.specs.Table.{Opened, Rule, Family as Raised, Table, IsOpened, IsRule, IsFamily, IsTable}
 use Rattle.rule_table.specs.Text.{Item, State, Entry, Left, Right, Mask, Proof, Logged, Open, Family, End, line_of, text_of_items, text_of, open_items, rule_items, family_items, line_items, cost_numbers, said, header_items, items_of}
-use Rattle.rule_table.specs.Valid.{IsOpened, IsRule, IsFamily, IsTable}
 use Rattle.rule_table.specs.Items.{IsItem}
 use Rattle.rule_table.specs.Grammar.{Stage, Start, Done, step, run}
 use Rattle.rule_table.specs.Steps.{Follows, StepsTo}

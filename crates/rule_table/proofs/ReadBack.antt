@@ -5,16 +5,15 @@ use Rattle.std.specs.Option.{option_and_then}
 use Rattle.std.specs.List.{flat_map, All}
 use Rattle.std.proofs.lemmas.Bool.{and_parts, cases_Bool}
 use Rattle.std.proofs.lemmas.List.Elements.{All-head, All-tail}
-use Rattle.seq_enum.specs.Lists.{ascends_from}
-use Rattle.lrat_check.specs.Content.{Content}
-use Rattle.window_exec.specs.Seen.{Seen}
+use Rattle.seq_enum.specs.Alphabet.{ascends_from}
+use Rattle.lrat_check.specs.Text.{Content}
+use Rattle.window_exec.specs.State.{Seen}
 use Rattle.thumb_instr.specs.declared.instr.Instr.{Instr}
 use Rattle.rule_table.specs.declared.header.Field.TheVariants as field
 use Rattle.rule_table.specs.declared.header.Head.TheVariants as head
 use Rattle.rule_table.specs.Header.{Header, has_line, has_families, IsWithin, IsHeader}
-use Rattle.rule_table.specs.Table.{Opened, Rule, Family as Raised, Table}
+use Rattle.rule_table.specs.Table.{Opened, Rule, Family as Raised, Table, IsRule, IsTable, numbers_of}
 use Rattle.rule_table.specs.Text.{Item, State, Entry, Left, Right, Mask, Proof, Logged, End, open_items, rule_items, family_items, header_items, items_of}
-use Rattle.rule_table.specs.Valid.{IsRule, IsTable, numbers_of}
 use Rattle.rule_table.specs.Grammar.{Stage, Start, Stated, Sided, Proved, Opening, Shown, Done, with_state, with_rule, with_opened, with_family, step, run}
 
 pub run-append : (s : Stage) (p q : List Item) → run s (p ++ q) ≡ option_and_then (λ t. run t q) (run s p)

@@ -8,8 +8,7 @@ use Rattle.thumb_instr.specs.declared.role.Role.{Role}
 use Rattle.thumb_instr.specs.declared.role.Role.TheVariants.{Register}
 use Rattle.thumb_instr.specs.Parts.{parts_of, of}
 use Rattle.thumb_instr.specs.Roles.{roles}
-use Rattle.thumb_instr.specs.Window.{is_in_window}
-use Rattle.thumb_instr.specs.Renaming.{Low, named_by, named, renamed, item_under}
+use Rattle.thumb_instr.specs.Window.{is_in_window, Low, named_by, named, renamed, item_under}
 use Rattle.thumb_instr.proofs.PartLemmas.{same_parts, same_fields}
 use Rattle.thumb_instr.proofs.RenamingLemmas.{low_number, reg_number, window_renamed}
 use Rattle.rule_table.specs.Binding.{number_under}

@@ -4,7 +4,7 @@ use Rattle.std.specs.Option.{option_and_then, is_some}
 use Rattle.thumb_instr.specs.Items.{has as has_item}
 use Rattle.thumb_instr.specs.declared.role.Role.{Role}
 use Rattle.thumb_instr.specs.declared.role.Role.TheVariants.{Register}
-use Rattle.thumb_instr.specs.Renaming.{Low, item_under}
+use Rattle.thumb_instr.specs.Window.{Low, item_under}
 use Rattle.rule_table.specs.Canonical.{has}
 
 -- the register that stands in place of one, if one does so far

@@ -1,7 +1,7 @@
 -- The header of a table, which its first lines say: the record, and the lines in order, each with its word, its limits and the first version that has
 -- it. A further line is a field of the record and a row of each list here.
 use Rattle.std.specs.Prelude.{◌≡◌, ◌≤◌, ℕ, Bool, true, false, List, [], ◌∷◌, codes, nat_le, Option, None, IfSome, IsSome, if◌then◌else◌}
-use Rattle.seq_enum.specs.Pools.{is_pool}
+use Rattle.seq_enum.specs.Alphabet.{is_pool}
 use Rattle.seq_enum.specs.Costs.{AreCosts}
 use Rattle.rule_table.specs.declared.header.Field.{Field}
 use Rattle.rule_table.specs.declared.header.Field.TheVariants.{Version, Regs, Left, Seed, Budget, Scratch}

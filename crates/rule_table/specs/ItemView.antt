@@ -1,5 +1,5 @@
 -- What a line says, without where it lies in memory.
-use Rattle.lrat_check.specs.Content.{content_of}
+use Rattle.lrat_check.specs.Text.{content_of}
 use Rattle.window_exec.specs.State.{seen}
 use Rattle.rule_table.specs.declared.item.Item.{Item as Code}
 use Rattle.rule_table.specs.declared.item.Item.TheVariants as code

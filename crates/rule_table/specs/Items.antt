@@ -1,12 +1,12 @@
 -- Which lines there are, each by what it says.
 use Rattle.std.specs.Prelude.{◌≡◌, ◌<◌, ◌^◌, true, [], ◌∷◌}
 use Rattle.std.specs.List.{All}
-use Rattle.seq_enum.specs.Pools.{is_pool}
+use Rattle.seq_enum.specs.Alphabet.{is_pool}
 use Rattle.seq_enum.specs.Costs.{AreCosts}
 use Rattle.lrat_check.specs.Text.{IsLine}
 use Rattle.rule_table.specs.Header.{IsWithin}
 use Rattle.rule_table.specs.Text.{Item, Number, Pool, Costs, State, Entry, Left, Right, Mask, Proof, Logged, Open, Family, End}
-use Rattle.rule_table.specs.Valid.{IsState, IsInstr, IsMask}
+use Rattle.rule_table.specs.Table.{IsState, IsInstr, IsMask}
 
 -- what a line says lies in its limits
 abbrev pub IsItem : Item → Type 0

@@ -2,8 +2,7 @@
 use Rattle.std.specs.Prelude.{◌≡◌, ℕ, true, List, [], ◌∷◌, length, map, slice_get, Option, None, if◌then◌else◌}
 use Rattle.std.specs.List.{flat_map, list_all}
 use Rattle.thumb_instr.specs.declared.instr.Instr.{Instr}
-use Rattle.thumb_instr.specs.Window.{is_in_window, normal_of}
-use Rattle.thumb_instr.specs.Renaming.{Low, named, renamed, item_under}
+use Rattle.thumb_instr.specs.Window.{is_in_window, normal_of, Low, named, renamed, item_under}
 use Rattle.rule_table.specs.Canonical.{has}
 
 -- the registers that instructions name, in the order of their texts

@@ -3,9 +3,8 @@ use Rattle.std.specs.Prelude.{◌≡◌, ℕ, List, Result, Ok, Err}
 use Rattle.rule_table.specs.declared.table.Table.{Table as Code}
 use Rattle.rule_table.specs.declared.errors.TableError.{TableError}
 use Rattle.rule_table.specs.declared.errors.TableError.TheVariants as error
-use Rattle.rule_table.specs.Table.{Table}
+use Rattle.rule_table.specs.Table.{Table, IsTable}
 use Rattle.rule_table.specs.Text.{text_of}
-use Rattle.rule_table.specs.Valid.{IsTable}
 use Rattle.rule_table.specs.Views.{table_of}
 use Rattle.rule_table.specs.Refused.{IsText, IsRefused}
 

@@ -1,9 +1,8 @@
 -- Which texts are tables, and the first line of one that is refused.
 use Rattle.std.specs.Prelude.{◌≡◌, ℕ, ◌+◌, List, [], ◌∷◌, ◌++◌, length}
 use Rattle.ascii_scan.specs.Lines.{lines_of}
-use Rattle.rule_table.specs.Table.{Table}
+use Rattle.rule_table.specs.Table.{Table, IsTable}
 use Rattle.rule_table.specs.Text.{text_of}
-use Rattle.rule_table.specs.Valid.{IsTable}
 
 -- the bytes are the text of this table
 pub record IsText (bytes : List ℕ) (table : Table) : Type 0 where

@@ -5,9 +5,8 @@ use Rattle.thumb_instr.specs.declared.instr.Instr.{Instr}
 use Rattle.thumb_instr.specs.Items.{has}
 use Rattle.thumb_syntax.specs.Spelling.{text_of as text_of_shown}
 use Rattle.thumb_syntax.specs.Rows.{shown_with}
-use Rattle.lrat_check.specs.Content.{Content}
-use Rattle.lrat_check.specs.Text.{text_of as text_of_line}
-use Rattle.window_exec.specs.Seen.{Seen}
+use Rattle.lrat_check.specs.Text.{Content, text_of as text_of_line}
+use Rattle.window_exec.specs.State.{Seen}
 use Rattle.rule_table.specs.declared.header.Field.{Field}
 use Rattle.rule_table.specs.declared.header.Head.{Head}
 use Rattle.rule_table.specs.declared.header.Head.TheVariants as head

@@ -1,6 +1,6 @@
 -- What tables, their headers and entries hold.
 use Rattle.std.specs.Prelude.{map}
-use Rattle.lrat_check.specs.Content.{content_of}
+use Rattle.lrat_check.specs.Text.{content_of}
 use Rattle.window_exec.specs.State.{seen}
 use Rattle.rule_table.specs.declared.header.Header as heading
 use Rattle.rule_table.specs.declared.header.Row as line

@@ -2,8 +2,7 @@
 //! bound otherwise, or that stands in place of another, ends the walk.
 ghost use Rattle.std.specs.Prelude.{◌≡◌, ◌<◌, ◌∷◌, [], ℕ, None, true, length, map, ◌↔◌, IsTrue};
 ghost use Rattle.std.specs.List.{list_all};
-ghost use Rattle.thumb_instr.specs.Window.{is_in_window, normal_of};
-ghost use Rattle.thumb_instr.specs.Renaming.{AreBelow, item_under, named_by, named, renamed};
+ghost use Rattle.thumb_instr.specs.Window.{is_in_window, normal_of, AreBelow, item_under, named_by, named, renamed};
 ghost use Rattle.rule_table.specs.Binding.{given_at, IsOneToOne, IsBound, number_under};
 ghost use Rattle.rule_table.specs.Matching.{registers_in};
 ghost use Rattle.seq_enum.specs.Places.{rank};

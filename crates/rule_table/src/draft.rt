@@ -1,6 +1,6 @@
 //! What has been read of a table. A line changes it in place.
 ghost use Rattle.std.specs.Prelude.{◌≡◌, ◌<◌, ◌∷◌, ◌++◌, [], map, length, IfOk, OnOk, MatchOption};
-ghost use Rattle.lrat_check.specs.Content.{content_of};
+ghost use Rattle.lrat_check.specs.Text.{content_of};
 ghost use Rattle.window_exec.specs.State.{seen};
 ghost use Rattle.rule_table.specs.Table.{Table as Held};
 ghost use Rattle.rule_table.specs.Views.{header_in, table_of, rule_of, opened_of, family_of};
@@ -51,7 +51,7 @@ pub(crate) struct Draft {
 }
 
 /// A table of which nothing was read.
-#[tactic(auto, unfolding(seq_enum::specs::Pools::is_pool, seq_enum::specs::Lists::ascends_from))]
+#[tactic(auto, unfolding(seq_enum::specs::Alphabet::is_pool, seq_enum::specs::Alphabet::ascends_from))]
 fn blank(alloc: Global) -> Table
     ensures { header_in result ≡ blank }
 {

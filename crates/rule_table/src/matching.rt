@@ -1,8 +1,7 @@
 //! Windows that are a left side with other registers.
 ghost use Rattle.std.specs.Prelude.{◌≡◌, true, map, MatchOption, List};
 ghost use Rattle.std.specs.List.{list_all};
-ghost use Rattle.thumb_instr.specs.Window.{is_in_window, normal_of};
-ghost use Rattle.thumb_instr.specs.Renaming.{Low as LowRegister};
+ghost use Rattle.thumb_instr.specs.Window.{is_in_window, normal_of, Low as LowRegister};
 ghost use Rattle.rule_table.specs.Matching.{registers_in, eight, given_for, Renames, Matches, IsMapOf};
 
 use crate::binding::Binding;

@@ -3,12 +3,11 @@ ghost use Rattle.std.specs.Prelude.{◌≡◌, ℕ, List, [], ◌∷◌, ◌++�
 ghost use Rattle.std.specs.List.{list_all};
 ghost use Rattle.thumb_instr.specs.Items.{has as has_item, one_of};
 ghost use Rattle.thumb_instr.specs.declared.instr.Instr.{Instr};
-ghost use Rattle.seq_enum.specs.Pools.{is_pool};
+ghost use Rattle.seq_enum.specs.Alphabet.{is_pool};
 ghost use Rattle.seq_enum.specs.Costs.{AreCosts};
-ghost use Rattle.window_exec.specs.State.{seen};
-ghost use Rattle.window_exec.specs.Seen.{Seen};
+ghost use Rattle.window_exec.specs.State.{seen, Seen};
 ghost use Rattle.rule_table.specs.Text.{after_blanks, instr_text, mask_rows, mask_text, State, Family};
-ghost use Rattle.rule_table.specs.Valid.{IsState, IsInstr, IsMask};
+ghost use Rattle.rule_table.specs.Table.{IsState, IsInstr, IsMask};
 ghost use Rattle.rule_table.specs.Items.{IsItem};
 ghost use Rattle.lrat_check.specs.Reading.{all_now};
 ghost use Rattle.rule_table.specs.Fronts.{strip, is_taken, left_of, taken, tail_of};

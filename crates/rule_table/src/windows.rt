@@ -3,8 +3,7 @@ ghost use Rattle.std.specs.Prelude.{◌≡◌, ◌<◌, ◌≤◌, ℕ, [], ◌�
 ghost use Rattle.std.specs.List.{list_all};
 ghost use Rattle.std.specs.Bool.{OnTrue, OnFalse};
 ghost use Rattle.thumb_instr.specs.Items.{has as has_item};
-ghost use Rattle.thumb_instr.specs.Window.{is_in_window, normal_of};
-ghost use Rattle.thumb_instr.specs.Renaming.{renamed};
+ghost use Rattle.thumb_instr.specs.Window.{is_in_window, normal_of, renamed};
 ghost use Rattle.rule_table.specs.Canonical.{has, with_first, firsts, name_in, numbers_of, appearing, register_has, masked, IsRenamable, IsCanonical};
 
 use crate::map::Map;

@@ -1,7 +1,7 @@
 //! The text of a table.
 ghost use Rattle.std.specs.Prelude.{◌≡◌, ◌++◌, ◌∷◌, [], codes, OnOk, IfOk, map};
 ghost use Rattle.std.specs.List.{flat_map};
-ghost use Rattle.lrat_check.specs.Content.{content_of};
+ghost use Rattle.lrat_check.specs.Text.{content_of};
 ghost use Rattle.window_exec.specs.State.{seen};
 ghost use Rattle.rule_table.specs.Text.{cost_numbers, text_of_items, text_of, line_items, header_items, rule_items, open_items, family_items};
 ghost use Rattle.rule_table.specs.Text as item;

@@ -4,7 +4,7 @@ use Rattle.std.specs.Option.{option_map}
 use Rattle.std.proofs.lemmas.Bool.{ne_eqb}
 use Rattle.std.proofs.lemmas.Bool.Decides.{eqb_tells, leb_tells}
 use Rattle.std.proofs.lemmas.Option.{slice_get_past, same_Some}
-use Rattle.seq_enum.specs.Lists.{numbers_from, ascends_from, IsPlace}
+use Rattle.seq_enum.specs.Alphabet.{numbers_from, ascends_from, IsPlace}
 use Rattle.seq_enum.specs.Places.{place_of}
 use Rattle.seq_enum.proofs.Numbered.{length-numbers, numbers_at, number_here, number_past, get_front, get_back}
 

@@ -3,9 +3,8 @@ use Rattle.std.proofs.Common.{◌≡◌, ℕ, suc, ◌<◌, ◌≤◌, Bool, tru
 use Rattle.std.specs.List.{list_all}
 use Rattle.std.proofs.lemmas.Bool.{lt-leb}
 use Rattle.std.proofs.Math.Facts.{Fits-lt-pow}
-use Rattle.seq_enum.specs.Lists.{ascends_from, held_in, IsPlace}
+use Rattle.seq_enum.specs.Alphabet.{ascends_from, held_in, IsPlace, inside, is_pool}
 use Rattle.seq_enum.specs.Places.{place_of}
-use Rattle.seq_enum.specs.Pools.{inside, is_pool}
 use Rattle.seq_enum.proofs.Ascending.{both, ascends_filter, IsPlace-ascending}
 use Rattle.seq_enum.proofs.Fields.{held_length}
 use Rattle.std.proofs.Common.{Option, Some, None, IfSome, cond}

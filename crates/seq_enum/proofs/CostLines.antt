@@ -12,8 +12,8 @@ use Rattle.std.proofs.lemmas.List.Quantifiers.{position-Some}
 use Rattle.std.proofs.lemmas.List.Folds.{list_all_at, list_all-append}
 use Rattle.ascii_scan.specs.FirstLine.{is_inside}
 use Rattle.seq_enum.specs.declared.cost_text.Said.{Said}
-use Rattle.seq_enum.specs.Lists.{numbers_from}
-use Rattle.seq_enum.specs.CostTexts.{mnemonics, line_of, IsSaid}
+use Rattle.seq_enum.specs.Alphabet.{numbers_from}
+use Rattle.seq_enum.specs.Costs.{mnemonics, line_of, IsSaid}
 use Rattle.seq_enum.proofs.EndedLines.{IsInside}
 
 same_bytes : (xs ys : List ℕ) → xs ≡ ys → bytes_eq xs ys ≡ true

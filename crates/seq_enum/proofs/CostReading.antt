@@ -11,8 +11,8 @@ use Rattle.std.proofs.lemmas.List.Elements.{All-nil, All-cons, All-head, All-tai
 use Rattle.ascii_scan.specs.Lines.{lines_of, is_ended, Placed, placed, placed_from, lines_in, whole}
 use Rattle.ascii_scan.proofs.LineLemmas.{lines_join, map-whole}
 use Rattle.seq_enum.specs.declared.cost_text.Said.{Said}
-use Rattle.seq_enum.specs.Lists.{numbers_from}
-use Rattle.seq_enum.specs.CostTexts.{IsSaid, AreSaid, line_of, costs_said, text_lines, text_of, costs_of, IsCostText, Begins, Stops, IsRefusedCosts}
+use Rattle.seq_enum.specs.Alphabet.{numbers_from}
+use Rattle.seq_enum.specs.Costs.{IsSaid, AreSaid, line_of, costs_said, text_lines, text_of, costs_of, IsCostText, Begins, Stops, IsRefusedCosts}
 use Rattle.seq_enum.specs.CostSteps.{IsHeading, Says, IsNoted}
 use Rattle.seq_enum.specs.ReadingCosts.{OneMeaning, NotBoth, RefusedOnce}
 use Rattle.seq_enum.proofs.EndedLines.{IsInside, ended, lines_ended, ended_tells, is_ended_last, open_content, whole_ended, whole_open}

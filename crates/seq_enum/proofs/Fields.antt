@@ -4,9 +4,7 @@ use Rattle.std.specs.Option.{option_map}
 use Rattle.std.proofs.lemmas.Option.{slice_get-map, slice_get_within, same_Some}
 use Rattle.std.proofs.lemmas.List.{length-map}
 use Rattle.thumb_instr.specs.declared.within.Within.{Within}
-use Rattle.seq_enum.specs.Lists.{numbers_from, held_by, held_in}
-use Rattle.seq_enum.specs.Pools.{inside}
-use Rattle.seq_enum.specs.Alphabet.{registers, others}
+use Rattle.seq_enum.specs.Alphabet.{numbers_from, held_by, held_in, inside, registers, others}
 use Rattle.seq_enum.proofs.Numbered.{length-numbers, numbers_at}
 use Rattle.seq_enum.proofs.Ascending.{firsts, firsts_but}
 

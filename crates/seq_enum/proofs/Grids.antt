@@ -6,7 +6,7 @@ use Rattle.std.proofs.lemmas.Option.{slice_get-map, same_Some}
 use Rattle.std.proofs.lemmas.List.{length-map, map-append}
 use Rattle.std.proofs.lemmas.List.Concat.{flat_map_single}
 use Rattle.std.proofs.Math.Path.{fun_ext}
-use Rattle.seq_enum.specs.Lists.{IsPlace, grid2, grid3}
+use Rattle.seq_enum.specs.Alphabet.{IsPlace, grid2, grid3}
 use Rattle.seq_enum.specs.Places.{digits2, digits3, paired}
 use Rattle.seq_enum.proofs.Numbered.{get-flat_map-digits, length-flat_map-even, IsPlace-flat_map, IsPlace-map, zero_or_more, flat_map_from}
 

@@ -20,9 +20,8 @@ use Rattle.thumb_instr.specs.declared.operation.Reversal.TheVariants as reversal
 use Rattle.thumb_instr.specs.Parts.{of, parts_of}
 use Rattle.thumb_instr.specs.Roles.{roles}
 use Rattle.thumb_instr.proofs.PartLemmas.{same_parts, gives_back}
-use Rattle.seq_enum.specs.Lists.{numbers_from, held_in, IsPlace, grid2, grid3}
+use Rattle.seq_enum.specs.Alphabet.{numbers_from, held_in, IsPlace, grid2, grid3, rows, registers, members, alphabet}
 use Rattle.seq_enum.specs.Places.{rank, digits3, paired, values, seconds, second_count, parts_in}
-use Rattle.seq_enum.specs.Alphabet.{rows, registers, members, alphabet}
 use Rattle.seq_enum.proofs.Numbered.{numbers_at, length-numbers, IsPlace-lists, IsPlace-unmap, flat_map_at}
 use Rattle.seq_enum.proofs.Ascending.{length-others, first_others}
 use Rattle.seq_enum.proofs.Fields.{numbers, held_numbers, held_length, register_numbers, other_numbers}

@@ -8,9 +8,8 @@ use Rattle.std.proofs.lemmas.Nat.{div-add-mod', mod-mul-add, mod_below}
 use Rattle.std.proofs.Math.Nat.{mod-eq_of_lt}
 use Rattle.std.proofs.Math.Seq.{take-append_seam}
 use Rattle.thumb_instr.specs.declared.instr.Instr.{Instr}
-use Rattle.seq_enum.specs.Lists.{numbers_from}
+use Rattle.seq_enum.specs.Alphabet.{numbers_from, words, sequences_of}
 use Rattle.seq_enum.specs.Places.{sum_below}
-use Rattle.seq_enum.specs.Alphabet.{words, sequences_of}
 use Rattle.seq_enum.specs.Walks.{Stands, shorter}
 use Rattle.seq_enum.proofs.Numbered.{get-flat_map-digits, get-flat_map}
 use Rattle.seq_enum.proofs.Words.{power_fits, length-words, word_length, word_here, word_later, word_start}

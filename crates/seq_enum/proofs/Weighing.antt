@@ -7,9 +7,8 @@ use Rattle.std.proofs.lemmas.List.Concat.{flat_map-append}
 use Rattle.std.proofs.lemmas.List.Elements.{All-nil, All-cons, All-head, All-tail, All-append, All-map, All-same}
 use Rattle.std.proofs.lemmas.List.Sums.{sum_by-append}
 use Rattle.thumb_instr.specs.declared.instr.Instr.{Instr}
-use Rattle.seq_enum.specs.Lists.{numbers_from}
+use Rattle.seq_enum.specs.Alphabet.{numbers_from, words}
 use Rattle.seq_enum.specs.Places.{sum_below}
-use Rattle.seq_enum.specs.Alphabet.{words}
 use Rattle.thumb_instr.specs.Parts.{parts_of}
 use Rattle.seq_enum.proofs.Words.{word_length, length-words}
 use Rattle.seq_enum.specs.Costs.{AreCosts, cost_in, mnemonic, weight_under}

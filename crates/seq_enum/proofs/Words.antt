@@ -10,9 +10,8 @@ use Rattle.std.proofs.Math.Seq.{take-suc}
 use Rattle.std.proofs.lemmas.Option.{slice_get-map, same_Some, slice_get_within, get_or_from_slice_get}
 use Rattle.std.proofs.lemmas.Bool.Decides.{leb_tells}
 use Rattle.thumb_instr.specs.declared.instr.Instr.{Instr}
-use Rattle.seq_enum.specs.Lists.{IsPlace, numbers_from}
+use Rattle.seq_enum.specs.Alphabet.{IsPlace, numbers_from, words, sequences, sequences_of, alphabet}
 use Rattle.seq_enum.specs.Places.{sum_below}
-use Rattle.seq_enum.specs.Alphabet.{words, sequences, sequences_of, alphabet}
 use Rattle.seq_enum.proofs.Numbered.{length-flat_map-even, get-flat_map-digits, IsPlace-flat_map, IsPlace-map, IsPlace-lists, flat_map_at, get_front, get_back, numbers_at, length-numbers, piece_here, piece_later}
 
 pub length-words : (letters : List Instr) (n : ℕ) → length (words letters n) ≡ length letters ^ n

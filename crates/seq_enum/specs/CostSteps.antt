@@ -2,7 +2,7 @@
 use Rattle.std.specs.Prelude.{◌≡◌, ℕ, Bool, true, false, List, get_or, slice_set, codes, Option, Some, None}
 use Rattle.ascii_scan.specs.Lines.{Placed}
 use Rattle.seq_enum.specs.declared.cost_text.Said.{Said}
-use Rattle.seq_enum.specs.CostTexts.{IsSaid, line_of}
+use Rattle.seq_enum.specs.Costs.{IsSaid, line_of}
 
 -- the line that begins a text of costs
 pub record IsHeading (line : Placed) : Type 0 where

@@ -20,8 +20,7 @@ use Rattle.thumb_instr.specs.declared.role.Role.{Role}
 use Rattle.thumb_instr.specs.declared.role.Role.TheVariants.{Register, Number}
 use Rattle.thumb_instr.specs.Roles.{roles}
 use Rattle.thumb_instr.specs.Parts.{of}
-use Rattle.seq_enum.specs.Lists.{numbers_from, grid3}
-use Rattle.seq_enum.specs.Pools.{inside}
+use Rattle.seq_enum.specs.Alphabet.{numbers_from, grid3, inside}
 
 -- where a number first stands in a list
 unfoldable pub place_of : ℕ → List ℕ → Option ℕ

@@ -1,7 +1,7 @@
 -- What reading a text as costs answers.
 use Rattle.std.specs.Prelude.{◌≡◌, ℕ, List, Result, Ok, Err}
 use Rattle.seq_enum.specs.declared.cost_text.CostLine.{CostLine}
-use Rattle.seq_enum.specs.CostTexts.{IsCostText, IsRefusedCosts}
+use Rattle.seq_enum.specs.Costs.{IsCostText, IsRefusedCosts}
 
 -- the costs whose text the bytes are, or the line that is refused
 abbrev pub ReadsCosts : List ℕ → Result (List ℕ) CostLine → Type 0

@@ -2,8 +2,7 @@
 ghost use Rattle.std.specs.Prelude.{◌≡◌, ◌≢◌, ◌+◌, ◌-◌, ◌≤◌, ◌<◌, ◌*◌, length, slice_get, IfSome, IsSome, All};
 ghost use Rattle.seq_enum.specs.Places.{rank};
 ghost use Rattle.std.specs.List.{flat_map};
-ghost use Rattle.seq_enum.specs.Lists.{IsPlace, held_in};
-ghost use Rattle.seq_enum.specs.Alphabet.{alphabet, members};
+ghost use Rattle.seq_enum.specs.Alphabet.{IsPlace, held_in, alphabet, members};
 ghost use Rattle.seq_enum.specs.Numberings.{IsNumbering};
 
 use crate::members::{member, place_of_parts, size_of};

@@ -5,7 +5,7 @@ ghost use Rattle.std.specs.Option.{unwrap_or};
 ghost use Rattle.std.specs.Str.{bytes_eq};
 ghost use Rattle.ascii_scan.specs.Source.{line_view};
 ghost use Rattle.seq_enum.specs.declared.cost_text.Said.{Said as Saying};
-ghost use Rattle.seq_enum.specs.CostTexts.{mnemonics, line_of, IsSaid};
+ghost use Rattle.seq_enum.specs.Costs.{mnemonics, line_of, IsSaid};
 ghost use Rattle.seq_enum.specs.CostSteps.{IsHeading, Notes};
 ghost use Rattle.seq_enum.specs.ReadingCosts.{ReadsCosts};
 
@@ -37,7 +37,7 @@ static MNEMONICS: [&[u8]; 28] = [
     b"sxth", b"sxtb", b"uxth", b"uxtb", b"rev", b"rev16", b"revsh",
 ];
 
-#[tactic(auto, unfolding(crate::specs::CostTexts::mnemonics))]
+#[tactic(auto, unfolding(crate::specs::Costs::mnemonics))]
 fn mnemonics() -> &'static [&'static [u8]]
     ensures value { map (λ name. name.now) result.now ≡ mnemonics }
     ensures len { length result.now ≡ 28 }

@@ -2,9 +2,8 @@
 ghost use Rattle.std.specs.Prelude.{◌≡◌, ◌≤◌, ◌<◌, ◌*◌, length, slice_get, IfSome, IsSome};
 ghost use Rattle.thumb_instr.specs.Parts.{of};
 ghost use Rattle.thumb_instr.specs.Roles.{roles};
-ghost use Rattle.seq_enum.specs.Lists.{IsPlace};
+ghost use Rattle.seq_enum.specs.Alphabet.{IsPlace, members};
 ghost use Rattle.seq_enum.specs.Places.{rank, digits3, paired, values, seconds, second_count, parts_in};
-ghost use Rattle.seq_enum.specs.Alphabet.{members};
 
 use crate::pool::Pool;
 use crate::values::{count_of, count_of_second, place_of, place_of_second, second_at, value_at};

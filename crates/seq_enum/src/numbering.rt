@@ -2,9 +2,8 @@
 ghost use Rattle.std.specs.Prelude.{◌≡◌, ◌≤◌, ◌<◌, ◌+◌, ◌*◌, ◌^◌, length, take, IfSome, IsSome, Some, All};
 ghost use Rattle.std.specs.List.{flat_map};
 ghost use Rattle.std.specs.Option.{option_map};
-ghost use Rattle.seq_enum.specs.Lists.{IsPlace};
+ghost use Rattle.seq_enum.specs.Alphabet.{IsPlace, alphabet, members, rows, words, sequences};
 ghost use Rattle.seq_enum.specs.Places.{rank, sum_below};
-ghost use Rattle.seq_enum.specs.Alphabet.{alphabet, members, rows, words, sequences};
 ghost use Rattle.seq_enum.specs.Numberings.{AreStarts, IsNumbering};
 
 use crate::alphabet::{place_of, size};

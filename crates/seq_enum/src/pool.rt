@@ -1,8 +1,7 @@
 //! The pool of numbers. How many of them an operand takes depends on its range, so counts by range stand here.
 ghost use Rattle.std.specs.Prelude.{◌≡◌, ◌≤◌, ◌<◌, slice_get, length, filter, IfSome, IsSome, IsTrue, ◌↔◌, Some, true};
-ghost use Rattle.seq_enum.specs.Lists.{ascends_from, IsPlace};
+ghost use Rattle.seq_enum.specs.Alphabet.{ascends_from, IsPlace, is_pool, inside};
 ghost use Rattle.seq_enum.specs.Places.{place_of};
-ghost use Rattle.seq_enum.specs.Pools.{is_pool, inside};
 
 use arrayvec::ArrayVec;
 use std::marker::Model;
@@ -15,7 +14,7 @@ pub struct Pool {
 
 impl Model for Pool {
     ghost use Rattle.std.specs.Prelude.{List, ℕ, IsTrue};
-    ghost use Rattle.seq_enum.specs.Pools.{is_pool};
+    ghost use Rattle.seq_enum.specs.Alphabet.{is_pool};
 
     ghost Value = { List ℕ };
 
@@ -89,7 +88,7 @@ fn is_pool(numbers: &[u8]) -> bool
 }
 
 /// Whether each number is above the one before.
-#[tactic(auto, unfolding(crate::specs::Lists::ascends_from))]
+#[tactic(auto, unfolding(crate::specs::Alphabet::ascends_from))]
 fn ascends(numbers: &[u8]) -> bool
     ensures { result ≡ ascends_from 0 numbers.now }
 {

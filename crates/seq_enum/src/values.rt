@@ -1,6 +1,6 @@
 //! What stands as each operand in the alphabet: a register below `k`, or a number of the pool.
 ghost use Rattle.std.specs.Prelude.{◌≡◌, ◌≤◌, ◌<◌, slice_get, length, IfSome};
-ghost use Rattle.seq_enum.specs.Lists.{IsPlace, numbers_from};
+ghost use Rattle.seq_enum.specs.Alphabet.{IsPlace, numbers_from};
 ghost use Rattle.seq_enum.specs.Places.{values, seconds, second_count, without};
 
 use crate::pool::Pool;

@@ -2,8 +2,7 @@
 //! that what a sequence costs comes from what it costs without its last letter.
 ghost use Rattle.std.specs.Prelude.{◌≡◌, ◌+◌, ◌<◌, ◌≤◌, ◌++◌, All, IfOk, OnOk, Some, drop, length, map};
 ghost use Rattle.std.specs.List.{flat_map};
-ghost use Rattle.seq_enum.specs.Lists.{numbers_from};
-ghost use Rattle.seq_enum.specs.Alphabet.{alphabet, words};
+ghost use Rattle.seq_enum.specs.Alphabet.{numbers_from, alphabet, words};
 ghost use Rattle.seq_enum.specs.Costs.{cost_in, weight_under};
 
 use crate::costs::Costs;

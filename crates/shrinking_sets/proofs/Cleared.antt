@@ -5,7 +5,7 @@ use Rattle.std.proofs.lemmas.Bool.{cases_Bool, cases_lt, or_from, or_left, or_pa
 use Rattle.std.proofs.lemmas.Option.{same_Some}
 use Rattle.thumb_instr.specs.declared.instr.Instr.{Instr}
 use Rattle.thumb_instr.specs.Shape.{uses_of, writes_of}
-use Rattle.thumb_model.specs.Items.{one_of}
+use Rattle.thumb_model.specs.Effect.{one_of}
 use Rattle.thumb_model.specs.Listing.{Code}
 use Rattle.thumb_model.specs.Flow.{Way, Onward, way, ways, Follows, Reads, now, later}
 use Rattle.shrinking_sets.specs.Straight.{reads_first, writes_in, IsApart, IsExchange}

@@ -9,7 +9,7 @@ use Rattle.thumb_instr.specs.declared.instr.Instr.{Instr}
 use Rattle.thumb_instr.specs.declared.instr.Instr.TheVariants as instr
 use Rattle.thumb_instr.specs.Items.{has}
 use Rattle.thumb_instr.specs.Shape.{uses_of, writes_of, registers_in}
-use Rattle.thumb_model.specs.Items.{one_of, sp}
+use Rattle.thumb_model.specs.Effect.{one_of, sp}
 use Rattle.thumb_model.specs.Listing.{Name, Mention, Place, Op, Word, Label, Code, is_op_place, is_call, is_call_instr, place_among, label_places, return_places, IsPoint}
 use Rattle.thumb_model.specs.Steps.{aim_of}
 use Rattle.thumb_model.specs.Flow.{Leads, Onward, ToPlace, AnyPoint, Out, way, left_but, ways_of, ways_on, ways, Follows}

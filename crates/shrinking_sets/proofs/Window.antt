@@ -3,7 +3,7 @@ use Rattle.std.proofs.Common.{◌≡◌, ℕ, ◌+◌, true, false, List, [], �
 use Rattle.std.proofs.lemmas.Bool.{or_left}
 use Rattle.thumb_instr.specs.declared.instr.Instr.{Instr}
 use Rattle.thumb_instr.specs.Shape.{uses_of, writes_of}
-use Rattle.thumb_model.specs.Items.{one_of}
+use Rattle.thumb_model.specs.Effect.{one_of}
 use Rattle.thumb_model.specs.Listing.{Code}
 use Rattle.thumb_model.specs.Flow.{Way, Onward, way, ways, Follows, Reads, now, later}
 use Rattle.shrinking_sets.specs.Straight.{reads_first, writes_in, IsExchange}

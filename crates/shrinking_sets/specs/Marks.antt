@@ -1,7 +1,7 @@
 -- Marks of places, for one item: where it may be read, and where it is read for sure.
 use Rattle.std.specs.Prelude.{◌≡◌, ◌≢◌, ℕ, ◌+◌, ◌<◌, ◌&&◌, ◌||◌, not, Bool, true, false, List, [], ◌∷◌, length, Some, slice_get, ◌⊎◌}
 use Rattle.thumb_instr.specs.declared.instr.Instr.{Instr}
-use Rattle.thumb_model.specs.Items.{one_of}
+use Rattle.thumb_model.specs.Effect.{one_of}
 use Rattle.thumb_model.specs.Listing.{Code, IsPoint}
 use Rattle.thumb_model.specs.Flow.{Way, AnyPoint, ways, Follows, Reads}
 use Rattle.shrinking_sets.specs.Straight.{reads_first, writes_in, IsApart}

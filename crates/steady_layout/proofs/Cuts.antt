@@ -5,7 +5,7 @@ use Rattle.std.proofs.lemmas.Bool.{and_parts, and_from, eqb-true}
 use Rattle.thumb_instr.specs.declared.instr.Instr.{Instr}
 use Rattle.thumb_model.specs.Listing.{Name, Mention, Value, Statement, Nothing, Runs, Words, Aligns, Sets, Line, Place, Op, Word, Label, places_in, places_of, is_op_place, labels_at, labels_from}
 use Rattle.thumb_model.specs.Layout.{instr_size, is_among, set_in, set_address}
-use Rattle.thumb_model.specs.ReplacedLines.{is_op, without, labels_kept, new_line, replaced_lines}
+use Rattle.thumb_model.specs.Replaced.{is_op, without, labels_kept, new_line, replaced_lines}
 use Rattle.thumb_model.proofs.LinesReplaced.{AllOutside, all_back, no_names}
 use Rattle.thumb_model.proofs.Lists.{drop_back, length_map}
 use Rattle.steady_layout.specs.declared.starts.Start.{Start}

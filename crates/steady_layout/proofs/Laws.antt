@@ -6,13 +6,12 @@ use Rattle.std.proofs.lemmas.List.{append-nil}
 use Rattle.thumb_model.proofs.LinesReplaced.{outside_of, before}
 use Rattle.thumb_instr.specs.declared.instr.Instr.{Instr}
 use Rattle.thumb_instr.specs.declared.instr.Instr.TheVariants as instr
-use Rattle.thumb_instr.specs.Renaming.{Low, renamed}
-use Rattle.thumb_instr.specs.Window.{is_in_window}
+use Rattle.thumb_instr.specs.Window.{Low, renamed, is_in_window}
 use Rattle.thumb_instr.proofs.RenamingLemmas.{window_renamed}
 use Rattle.thumb_model.specs.Listing.{Name, Statement, Nothing, Runs, Words, Aligns, Sets, Line, Place, Op, Word, plain, Label, code_of, places_of, labels_from}
 use Rattle.thumb_model.specs.Layout.{instr_size, size_at, is_among, label_address, set_in, set_address, cleared, or_else, lies_in, fault_at, faults_from, Layable}
-use Rattle.thumb_model.specs.Sides.{AreOver, normalised}
-use Rattle.thumb_model.specs.ReplacedLines.{replaced_lines}
+use Rattle.thumb_model.specs.Effect.{AreOver, normalised}
+use Rattle.thumb_model.specs.Replaced.{replaced_lines}
 use Rattle.thumb_model.proofs.Lists.{length_map}
 use Rattle.thumb_model.proofs.Window.{normal_in_window}
 use Rattle.thumb_model.proofs.LinesReplaced.{AllOutside}

@@ -3,16 +3,15 @@ use Rattle.std.proofs.Common.{◌≡◌, ℕ, ℤ, suc, ◌⊎◌, inl, inr, Lis
 use Rattle.std.specs.Prelude.{Any}
 use Rattle.std.proofs.lemmas.List.{append-nil}
 use Rattle.thumb_instr.specs.declared.instr.Instr.{Instr}
-use Rattle.thumb_model.specs.Sides.{AreOver}
-use Rattle.clause_model.specs.Literals.{codes_of}
+use Rattle.thumb_model.specs.Effect.{AreOver}
+use Rattle.clause_model.specs.Clauses.{codes_of}
 use Rattle.bit_blast.specs.Differences.{sides_formula}
 use Rattle.bit_blast.proofs.Exact.{itself_ends_in_empty}
 use Rattle.std.specs.Result.{IsErrAnd}
-use Rattle.lrat_check.specs.Content.{Content}
+use Rattle.lrat_check.specs.Text.{Content}
 use Rattle.proof_logs.specs.declared.faults.ProofFault.{ProofFault}
 use Rattle.proof_logs.specs.declared.faults.ProofFault.TheVariants as proof
-use Rattle.proof_logs.specs.Verdicts.{Answers}
-use Rattle.proof_logs.specs.Proofs.{ProofVerdict}
+use Rattle.proof_logs.specs.Proofs.{Answers, ProofVerdict}
 use Rattle.proof_logs.proofs.Renamed.{proof_renamed}
 use Rattle.table_audit.specs.declared.errors.AuditError.{AuditError}
 use Rattle.table_audit.specs.declared.errors.AuditError.TheVariants.{Memory}

@@ -3,16 +3,14 @@ use Rattle.std.proofs.Common.{◌≡◌, ℕ, zero, suc, ◌+◌, ◌-◌, ◌<�
 use Rattle.std.specs.List.{flat_map, list_all}
 use Rattle.std.proofs.lemmas.Option.{same_Some, slice_get_within}
 use Rattle.std.proofs.lemmas.Bool.{eq-eqb, eqb-true, cases_Bool, and_parts}
-use Rattle.seq_enum.specs.Lists.{numbers_from}
+use Rattle.seq_enum.specs.Alphabet.{numbers_from}
 use Rattle.seq_enum.proofs.Numbered.{numbers_at, length-numbers, get_front, get_back}
-use Rattle.thumb_instr.specs.Renaming.{Low}
+use Rattle.thumb_instr.specs.Window.{Low, named, is_in_window}
 use Rattle.thumb_instr.specs.declared.instr.Instr.{Instr}
 use Rattle.thumb_instr.specs.declared.instr.Instr.TheVariants as instr
-use Rattle.thumb_instr.specs.Renaming.{named}
 use Rattle.rule_table.specs.Canonical.{firsts, has, with_first, numbers_of, appearing}
 use Rattle.rule_table.proofs.Orders.{low-step, instr-step, firsts-grows}
-use Rattle.thumb_instr.specs.Window.{is_in_window}
-use Rattle.table_audit.specs.Sides.{named_count}
+use Rattle.table_audit.specs.Shorter.{named_count}
 use Rattle.table_audit.specs.Orders.{IsAstray, IsInOrder}
 use Rattle.fingerprints.proofs.Candidates.{numbers_split}
 

@@ -8,13 +8,11 @@ use Rattle.std.proofs.lemmas.List.Sums.{sum_by-cons, sum_by_push}
 use Rattle.std.proofs.lemmas.Option.{cond_some, option_and_then_some, same_Some}
 use Rattle.thumb_instr.specs.declared.instr.Instr.{Instr}
 use Rattle.thumb_instr.specs.Parts.{parts_of}
-use Rattle.seq_enum.specs.Lists.{ascends_from}
-use Rattle.seq_enum.specs.Alphabet.{sequences}
+use Rattle.seq_enum.specs.Alphabet.{ascends_from, sequences}
 use Rattle.seq_enum.specs.Costs.{AreCosts, mnemonic, cost_in, cost_under, weight_under}
 use Rattle.rule_table.specs.Header.{Header}
 use Rattle.rule_table.specs.Table.{Rule, Table}
-use Rattle.table_audit.specs.Sides.{alphabet_registers}
-use Rattle.table_audit.specs.Shorter.{sequences_below, weight_in, IsBelow, is_lighter, if_below, lighter_at, below_at, below}
+use Rattle.table_audit.specs.Shorter.{alphabet_registers, sequences_below, weight_in, IsBelow, is_lighter, if_below, lighter_at, below_at, below}
 use Rattle.table_audit.specs.Naming.{run_share, told_cost}
 use Rattle.table_audit.proofs.Numbering.{below_from}
 use Rattle.table_audit.proofs.Upcoming.{ascends_above}

@@ -7,12 +7,11 @@ use Rattle.std.proofs.lemmas.Option.{slice_get_within}
 use Rattle.thumb_instr.specs.declared.instr.Instr.{Instr}
 use Rattle.thumb_instr.specs.declared.instr.Instr.TheVariants as instr
 use Rattle.thumb_instr.specs.Items.{has as has_item, is_in_masks}
-use Rattle.thumb_instr.specs.Window.{is_in_window, normal_of, byte_sum, byte_of}
-use Rattle.thumb_instr.specs.Renaming.{Low, named, renamed, AreBelow, low_under, item_under}
+use Rattle.thumb_instr.specs.Window.{is_in_window, normal_of, byte_sum, byte_of, Low, named, renamed, AreBelow, low_under, item_under}
 use Rattle.thumb_instr.proofs.RenamingLemmas.{named_renamed, below_parts, low_number}
 use Rattle.rule_table.specs.Canonical.{firsts, appearing, numbers_of, register_has, masked}
 use Rattle.rule_table.proofs.Backs.{windows_normal}
-use Rattle.table_audit.specs.Sides.{named_count, IsCanonicalSide}
+use Rattle.table_audit.specs.Shorter.{named_count, IsCanonicalSide}
 use Rattle.table_audit.specs.Canonical.{CanonicalFormIsSide}
 use Rattle.window_exec.proofs.Differences.{either}
 use Rattle.table_audit.proofs.Names.{count_same}

@@ -16,8 +16,7 @@ use Rattle.outcomes.proofs.Choosing.{told_or_candidate, few_added}
 use Rattle.outcomes.proofs.Growing.{below_more}
 use Rattle.rule_table.specs.Header.{Header}
 use Rattle.rule_table.specs.Table.{Rule, Table}
-use Rattle.table_audit.specs.Sides.{alphabet_registers}
-use Rattle.table_audit.specs.Shorter.{sequences_below, weight_in, IsBelow, is_lighter, below}
+use Rattle.table_audit.specs.Shorter.{alphabet_registers, sequences_below, weight_in, IsBelow, is_lighter, below}
 use Rattle.table_audit.specs.Lighter.{AreLighter, IsWithin, CoverUntold}
 use Rattle.table_audit.specs.Acceptance.{IsUntold, lengths_below}
 use Rattle.table_audit.specs.Costs.{runs_cost}

@@ -1,7 +1,7 @@
 -- The audit of a table has one answer.
 use Rattle.std.proofs.Common.{ℕ, ◌≡◌, ◌<◌, ◌≤◌, ◌⊎◌, inl, inr, Option, Some, None, Result, IfErr, refl, sym, ◌∙◌, ap, arith}
 use Rattle.rule_table.specs.Table.{Rule, Family, Table}
-use Rattle.proof_logs.specs.Verdicts.{Answers}
+use Rattle.proof_logs.specs.Proofs.{Answers}
 use Rattle.proof_logs.proofs.Determined.{IsOne, tests_one, then_one, turn_one, proof_one, passing_answers}
 use Rattle.table_audit.specs.declared.errors.AuditError.{AuditError}
 use Rattle.table_audit.specs.declared.errors.AuditError.TheVariants.{Entry, Memory}

@@ -4,12 +4,11 @@ use Rattle.std.specs.Option.{is_some}
 use Rattle.std.proofs.lemmas.Option.{slice_get-get_or}
 use Rattle.thumb_instr.specs.declared.instr.Instr.{Instr}
 use Rattle.thumb_instr.specs.Window.{normal_of}
-use Rattle.thumb_model.specs.Sides.{AreOver}
-use Rattle.seq_enum.specs.Lists.{IsPlace}
-use Rattle.seq_enum.specs.Alphabet.{alphabet, sequences, IsOver}
+use Rattle.thumb_model.specs.Effect.{AreOver}
+use Rattle.seq_enum.specs.Alphabet.{IsPlace, alphabet, sequences, IsOver}
 use Rattle.rule_table.specs.Canonical.{appearing}
 use Rattle.rule_table.specs.Table.{Rule, Table}
-use Rattle.table_audit.specs.Sides.{named_count, alphabet_registers, IsCanonicalSide, SidesFit}
+use Rattle.table_audit.specs.Shorter.{named_count, alphabet_registers, IsCanonicalSide, SidesFit}
 use Rattle.table_audit.specs.Canonical.{HasFormula}
 use Rattle.table_audit.specs.Orders.{IsInOrder, AreWithin}
 use Rattle.table_audit.proofs.Numbering.{over_sequences, has_number}

@@ -8,8 +8,7 @@ use Rattle.std.proofs.lemmas.List.Elements.{Contains-append_left, Contains-appen
 use Rattle.std.proofs.lemmas.Nat.{div-add-mod', mod_below}
 use Rattle.std.proofs.lemmas.Option.{slice_get_within, slice_get_cases, slice_get-map, slice_get-get_or, get_or_from_slice_get, option_and_then_some, same_Some}
 use Rattle.thumb_instr.specs.declared.instr.Instr.{Instr}
-use Rattle.seq_enum.specs.Lists.{numbers_from, ascends_from}
-use Rattle.seq_enum.specs.Alphabet.{words, sequences_of}
+use Rattle.seq_enum.specs.Alphabet.{numbers_from, ascends_from, words, sequences_of}
 use Rattle.seq_enum.specs.Costs.{cost_under, weight_under}
 use Rattle.seq_enum.proofs.Numbered.{get_front, get_back, get-flat_map, get-flat_map-digits, length-numbers, numbers_at}
 use Rattle.seq_enum.proofs.Words.{length-words, word_length, power_small}

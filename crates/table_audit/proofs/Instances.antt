@@ -7,24 +7,22 @@ use Rattle.std.proofs.lemmas.List.{length-map}
 use Rattle.std.proofs.lemmas.Option.{slice_get-map, same_Some}
 use Rattle.thumb_instr.specs.declared.instr.Instr.{Instr}
 use Rattle.thumb_instr.specs.declared.instr.Instr.TheVariants as instr
-use Rattle.thumb_instr.specs.Renaming.{named}
-use Rattle.thumb_instr.specs.Window.{is_in_window, normal_of}
+use Rattle.thumb_instr.specs.Window.{named, is_in_window, normal_of}
 use Rattle.thumb_instr.proofs.Registers.{same_number}
-use Rattle.thumb_model.specs.Sides.{Equal, AreOver, is_named, register_count}
+use Rattle.thumb_model.specs.Effect.{Equal, AreOver, is_named, register_count}
 use Rattle.rule_model.specs.Rules.{IsSoundRule, rule_registers, rule_among, rule_at, alone, AreSound}
 use Rattle.rule_model.specs.Rules as model
 use Rattle.rule_model.proofs.Alone.{alone_is}
 use Rattle.bit_blast.specs.declared.slots.Slot.TheVariants.{Plain, Hole}
 use Rattle.bit_blast.specs.Slots.{Byte, IsValue, filled, slot, slots, instance}
 use Rattle.bit_blast.proofs.Holes.{by_test, slots_over, filled_over, side_length, side_named, side_window}
-use Rattle.seq_enum.specs.Lists.{numbers_from}
-use Rattle.seq_enum.specs.Pools.{inside}
+use Rattle.seq_enum.specs.Alphabet.{numbers_from, inside}
 use Rattle.seq_enum.proofs.Numbered.{numbers_at, get_front, get_back}
 use Rattle.seq_enum.proofs.Fields.{numbers, held_numbers, number_by}
 use Rattle.rule_table.specs.Canonical.{appearing}
 use Rattle.rule_table.specs.Table.{Rule, Family, Table}
 use Rattle.proof_logs.proofs.Turns.{turn_each}
-use Rattle.table_audit.specs.Sides.{IsCanonicalSide, SidesFit}
+use Rattle.table_audit.specs.Shorter.{IsCanonicalSide, SidesFit}
 use Rattle.table_audit.specs.Families.{entry_at, symbol_of, values_of, raised}
 use Rattle.table_audit.specs.Acceptance.{EntryVerdict, IsAccepted}
 use Rattle.table_audit.specs.Soundness.{items_in, rewriting_rule, instances_of, numbers_in, numbers_of, IsSound}

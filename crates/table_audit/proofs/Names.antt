@@ -5,12 +5,11 @@ use Rattle.std.proofs.lemmas.Bool.{cases_Bool, eqb-true, or_cases, or_left, or_r
 use Rattle.std.proofs.lemmas.List.Folds.{list_any-append}
 use Rattle.thumb_instr.specs.declared.instr.Instr.{Instr}
 use Rattle.thumb_instr.specs.Items.{has as has_item, is_in_masks}
-use Rattle.thumb_instr.specs.Renaming.{named}
-use Rattle.thumb_model.specs.Items.{one_of}
-use Rattle.thumb_model.specs.Sides.{is_named, above, register_count}
-use Rattle.seq_enum.specs.Lists.{numbers_from}
+use Rattle.thumb_instr.specs.Window.{named}
+use Rattle.thumb_model.specs.Effect.{one_of, is_named, above, register_count}
+use Rattle.seq_enum.specs.Alphabet.{numbers_from}
 use Rattle.rule_table.specs.Canonical.{has, with_first, firsts, appearing}
-use Rattle.table_audit.specs.Sides.{named_count, IsCanonicalSide}
+use Rattle.table_audit.specs.Shorter.{named_count, IsCanonicalSide}
 use Rattle.table_audit.specs.Soundness.{items_in}
 use Rattle.table_audit.proofs.Appearing.{has_low}
 

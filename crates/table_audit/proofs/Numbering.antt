@@ -8,9 +8,8 @@ use Rattle.std.proofs.lemmas.List.Concat.{flat_map-append}
 use Rattle.std.proofs.lemmas.Option.{slice_get_within, same_Some, slice_get-map, slice_get-get_or, get_or_from_slice_get, slice_get_cases}
 use Rattle.std.proofs.lemmas.Bool.Decides.{leb_tells}
 use Rattle.thumb_instr.specs.declared.instr.Instr.{Instr}
-use Rattle.seq_enum.specs.Lists.{numbers_from}
+use Rattle.seq_enum.specs.Alphabet.{numbers_from, alphabet, words, sequences, sequences_of, IsOver}
 use Rattle.seq_enum.specs.Places.{sum_below}
-use Rattle.seq_enum.specs.Alphabet.{alphabet, words, sequences, sequences_of, IsOver}
 use Rattle.seq_enum.proofs.Numbered.{get_front, get_back, flat_map_from, get-flat_map}
 use Rattle.seq_enum.proofs.Words.{length-words, words_parts}
 use Rattle.fingerprints.proofs.Candidates.{numbers_split, length_within}

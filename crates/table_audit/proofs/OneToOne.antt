@@ -6,8 +6,8 @@ use Rattle.std.proofs.lemmas.Bool.Decides.{eqb_tells}
 use Rattle.std.proofs.lemmas.List.{map-append}
 use Rattle.std.proofs.lemmas.List.Folds.{list_any-append}
 use Rattle.std.proofs.lemmas.Option.{same_Some, slice_get-map, slice_get-get_or}
-use Rattle.thumb_instr.specs.Renaming.{Low, AreBelow, item_under, number_or}
-use Rattle.seq_enum.specs.Lists.{numbers_from}
+use Rattle.thumb_instr.specs.Window.{Low, AreBelow, item_under, number_or}
+use Rattle.seq_enum.specs.Alphabet.{numbers_from}
 use Rattle.rule_table.specs.Canonical.{has, with_first, firsts, numbers_of}
 
 -- ---- no two are the same ----

@@ -4,16 +4,14 @@ use Rattle.std.proofs.lemmas.Option.{same_Some}
 use Rattle.std.proofs.lemmas.List.Sums.{sum_by-cons}
 use Rattle.std.proofs.lemmas.List.{length-map}
 use Rattle.thumb_instr.specs.declared.instr.Instr.{Instr}
-use Rattle.clause_model.specs.Literals.{codes_of}
-use Rattle.lrat_check.specs.Content.{Content}
-use Rattle.window_exec.specs.Seen.{Seen}
-use Rattle.seq_enum.specs.Lists.{ascends_from}
-use Rattle.rule_table.specs.Table.{Opened, Rule, Table}
-use Rattle.rule_table.specs.Valid.{numbers_of}
-use Rattle.proof_logs.specs.Logs.{IsSpentLog}
+use Rattle.clause_model.specs.Clauses.{codes_of}
+use Rattle.lrat_check.specs.Text.{Content}
+use Rattle.window_exec.specs.State.{Seen}
+use Rattle.seq_enum.specs.Alphabet.{ascends_from}
+use Rattle.rule_table.specs.Table.{Opened, Rule, Table, numbers_of}
+use Rattle.proof_logs.specs.Proofs.{IsSpentLog}
 use Rattle.proof_logs.specs.Costs.{spent_cost}
-use Rattle.table_audit.specs.Sides.{alphabet_registers, formula_against}
-use Rattle.table_audit.specs.Shorter.{IsTold, below, lighter_at, below_at}
+use Rattle.table_audit.specs.Shorter.{alphabet_registers, formula_against, IsTold, below, lighter_at, below_at}
 use Rattle.outcomes.specs.Trials.{start_of, AreTrials}
 use Rattle.outcomes.specs.declared.trials.Trial.{Trial}
 use Rattle.table_audit.specs.Naming.{told_cost}

@@ -5,8 +5,7 @@ use Rattle.std.proofs.lemmas.Option.{slice_get-map, slice_get-get_or, slice_get_
 use Rattle.std.proofs.lemmas.Bool.{and_parts, eqb-true, eq-eqb, cases_Bool}
 use Rattle.std.specs.Cmp.Lexicographic.{pointwise, same_text, other_text}
 use Rattle.window_exec.specs.declared.state.WState.{WState}
-use Rattle.window_exec.specs.State.{seen}
-use Rattle.window_exec.specs.Seen.{Seen}
+use Rattle.window_exec.specs.State.{seen, Seen}
 
 equal : (a b : WState) → (pointwise eqb a.r b.r && eqb a.nzcv b.nzcv) ≡ true → seen a ≡ seen b
 equal a b h =

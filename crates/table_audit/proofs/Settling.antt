@@ -7,10 +7,8 @@ use Rattle.std.proofs.lemmas.List.Elements.{Contains-get_or}
 use Rattle.std.proofs.lemmas.Option.{same_Some}
 use Rattle.thumb_instr.specs.declared.instr.Instr.{Instr}
 use Rattle.window_exec.specs.declared.state.WState.{WState}
-use Rattle.window_exec.specs.State.{seen}
-use Rattle.window_exec.specs.Seen.{Seen}
-use Rattle.seq_enum.specs.Lists.{ascends_from}
-use Rattle.seq_enum.specs.Alphabet.{alphabet, sequences, sequences_of}
+use Rattle.window_exec.specs.State.{seen, Seen}
+use Rattle.seq_enum.specs.Alphabet.{ascends_from, alphabet, sequences, sequences_of}
 use Rattle.outcomes.specs.declared.trials.Trial.{Trial}
 use Rattle.outcomes.specs.Trials.{AreTrials, start_of}
 use Rattle.outcomes.specs.Outcomes as table
@@ -20,8 +18,7 @@ use Rattle.outcomes.specs.Tables.{IsFor}
 use Rattle.rule_table.specs.Table.{Rule, Table}
 use Rattle.table_audit.specs.declared.errors.EntryFault.TheVariants.{Untold}
 use Rattle.table_audit.specs.declared.errors.AuditError.TheVariants.{Entry}
-use Rattle.table_audit.specs.Sides.{alphabet_registers}
-use Rattle.table_audit.specs.Shorter.{sequences_below, weight_in}
+use Rattle.table_audit.specs.Shorter.{alphabet_registers, sequences_below, weight_in}
 use Rattle.table_audit.specs.Naming.{first_of}
 use Rattle.table_audit.specs.Lighter.{IsWithin, CoverUntold}
 use Rattle.table_audit.specs.Acceptance.{IsUntold, IsFirstUntold, ToldVerdict}

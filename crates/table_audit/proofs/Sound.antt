@@ -6,11 +6,10 @@ use Rattle.std.proofs.lemmas.Option.{slice_get_within, get_or_from_slice_get, sa
 use Rattle.std.proofs.lemmas.Bool.Decides.{leb_tells}
 use Rattle.std.proofs.lemmas.Bool.{or_cases, and_parts, ltb-true, ne_eqb}
 use Rattle.thumb_instr.specs.declared.instr.Instr.{Instr}
-use Rattle.thumb_model.specs.Items.{AreWords, one_of}
-use Rattle.thumb_model.specs.Sides.{Equal, AreOver, register_count}
+use Rattle.thumb_model.specs.Effect.{AreWords, one_of, Equal, AreOver, register_count}
 use Rattle.rule_model.specs.Rules.{IsSoundRule, rule_registers}
 use Rattle.rule_model.proofs.Alone.{count_over}
-use Rattle.window_exec.specs.Seen.{Seen}
+use Rattle.window_exec.specs.State.{Seen}
 use Rattle.bit_blast.specs.Slots.{filled, instance}
 use Rattle.bit_blast.specs.Exactness.{IsMask, HasNoModel, AreEqual, AreEqualForAll}
 use Rattle.bit_blast.proofs.Exact.{no_model_is_equal}
@@ -18,18 +17,15 @@ use Rattle.bit_blast.proofs.Families.{no_model_is_equal_for_all}
 use Rattle.bit_blast.proofs.Holes.{side_itself}
 use Rattle.rule_table.specs.declared.header.Field.TheVariants.{Scratch}
 use Rattle.rule_table.specs.Header.{Header}
-use Rattle.rule_table.specs.Table.{Rule, Family, Table}
-use Rattle.rule_table.specs.Valid.{IsState, IsRule, IsTable}
+use Rattle.rule_table.specs.Table.{Rule, Family, Table, IsState, IsRule, IsTable}
 use Rattle.proof_logs.proofs.Turns.{turn_each}
 use Rattle.proof_logs.proofs.Sound.{proved_unsatisfied}
 use Rattle.table_audit.specs.declared.errors.EntryFault.TheVariants.{Proof, Unfinished}
 use Rattle.table_audit.specs.declared.errors.AuditError.TheVariants.{Entry}
 use Rattle.table_audit.specs.declared.errors.AuditError.TheVariants as error
 use Rattle.table_audit.specs.declared.errors.FamilyKind.TheVariants as family
-use Rattle.table_audit.specs.Sides.{named_count, alphabet_registers, SidesFit, formula_of}
+use Rattle.table_audit.specs.Shorter.{named_count, alphabet_registers, SidesFit, formula_of, IsBelow, values_in, IsTold, is_named as is_open}
 use Rattle.table_audit.specs.Canonical.{HasFormula}
-use Rattle.table_audit.specs.Shorter.{IsBelow, values_in, IsTold}
-use Rattle.table_audit.specs.Shorter.{is_named as is_open}
 use Rattle.table_audit.specs.Acceptance.{EntryVerdict, EntryProofVerdict, ToldVerdict, OpenTest, OpensVerdict, FamilyProofVerdict, RaisedVerdict, FamilyVerdict, IsAccepted}
 use Rattle.table_audit.specs.Families.{entry_of, symbol_of, IsRaisable, raised_formula, AreEqualWithEach, NoneIsShorter}
 use Rattle.table_audit.specs.Soundness.{items_in, rewriting_rule, IsShortest, IsSoundFamily, IsSound}

@@ -8,9 +8,7 @@ use Rattle.std.proofs.Math.ListN.{get_or-map}
 use Rattle.std.proofs.lemmas.Option.{slice_get_cases, slice_get-map}
 use Rattle.thumb_instr.specs.declared.instr.Instr.{Instr}
 use Rattle.thumb_model.specs.Effect.{after_all}
-use Rattle.window_exec.specs.State.{values_of, seen}
-use Rattle.window_exec.specs.Seen.{Seen}
-use Rattle.window_exec.specs.Telling.{Differ, Tells}
+use Rattle.window_exec.specs.State.{values_of, seen, Seen, Differ, Tells}
 use Rattle.proof_logs.proofs.Turns.{got}
 use Rattle.outcomes.specs.declared.trials.Trial.{Trial}
 use Rattle.table_audit.specs.Shorter.{values_in, IsTold}

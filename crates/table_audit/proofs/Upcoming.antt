@@ -4,12 +4,11 @@ use Rattle.std.specs.List.{AllWithin}
 use Rattle.std.specs.List.Sorted.{IsNonDecreasingBy}
 use Rattle.std.proofs.lemmas.Bool.{and_parts, and_from, leb-true, ltb-true, ltb-false, ne_eqb}
 use Rattle.std.proofs.lemmas.Option.{same_Some}
-use Rattle.seq_enum.specs.Lists.{ascends_from}
+use Rattle.seq_enum.specs.Alphabet.{ascends_from}
 use Rattle.outcomes.proofs.Looking.{ascends_lower}
 use Rattle.rule_table.specs.declared.table.Open as code
 use Rattle.rule_table.specs.Views.{opened_of}
-use Rattle.rule_table.specs.Table.{Opened}
-use Rattle.rule_table.specs.Valid.{numbers_of}
+use Rattle.rule_table.specs.Table.{Opened, numbers_of}
 use Rattle.table_audit.specs.Shorter.{is_named}
 use Rattle.table_audit.specs.Naming.{is_number}
 

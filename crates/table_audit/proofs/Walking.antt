@@ -2,13 +2,13 @@
 use Rattle.std.proofs.Common.{◌≡◌, ℕ, ◌<◌, ◌≤◌, inl, inr, List, [], ◌∷◌, Some, slice_get, length, arith}
 use Rattle.std.proofs.lemmas.Option.{slice_get_cases}
 use Rattle.thumb_instr.specs.declared.instr.Instr.{Instr}
-use Rattle.thumb_instr.specs.Renaming.{named, AreBelow}
-use Rattle.thumb_model.specs.Sides.{AreOver, above, register_count}
+use Rattle.thumb_instr.specs.Window.{named, AreBelow}
+use Rattle.thumb_model.specs.Effect.{AreOver, above, register_count}
 use Rattle.thumb_model.proofs.Small.{below_more}
 use Rattle.seq_enum.specs.Alphabet.{sequences}
 use Rattle.bit_blast.specs.Exactness.{IsMaskOver}
 use Rattle.rule_table.specs.Header.{Header}
-use Rattle.table_audit.specs.Sides.{named_count, alphabet_registers, IsCanonicalSide}
+use Rattle.table_audit.specs.Shorter.{named_count, alphabet_registers, IsCanonicalSide}
 use Rattle.table_audit.proofs.Numbering.{over_sequences}
 use Rattle.table_audit.proofs.Fitting.{are_over, ordered_of}
 

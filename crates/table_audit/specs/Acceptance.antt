@@ -1,21 +1,18 @@
 -- Whether the audit accepts a table, or why not: the first cause in order.
 use Rattle.std.specs.Prelude.{ℕ, ◌≡◌, ◌<◌, ◌≤◌, ◌⊎◌, ◌+◌, true, false, List, Option, Some, None, length, slice_get}
 use Rattle.thumb_instr.specs.declared.instr.Instr.{Instr}
-use Rattle.clause_model.specs.Literals.{codes_of}
-use Rattle.window_exec.specs.Seen.{Seen}
+use Rattle.clause_model.specs.Clauses.{codes_of}
+use Rattle.window_exec.specs.State.{Seen}
 use Rattle.fingerprints.specs.Seeded.{seeded_states}
 use Rattle.rule_table.specs.Header.{Header}
 use Rattle.rule_table.specs.Table.{Opened, Rule, Family, Table}
-use Rattle.proof_logs.specs.Verdicts.{Tests, Then, InTurn}
-use Rattle.proof_logs.specs.Proofs.{ProofVerdict}
-use Rattle.proof_logs.specs.Logs.{IsSpentLog}
+use Rattle.proof_logs.specs.Proofs.{Tests, Then, InTurn, ProofVerdict, IsSpentLog}
 use Rattle.table_audit.specs.declared.errors.EntryFault.TheVariants.{Sides, Proof, Unfinished, Untold, Open}
 use Rattle.table_audit.specs.declared.errors.AuditError.{AuditError}
 use Rattle.table_audit.specs.declared.errors.FamilyKind.TheVariants as family
 use Rattle.table_audit.specs.declared.errors.AuditError.TheVariants.{States, Wide, Entry}
 use Rattle.table_audit.specs.declared.errors.AuditError.TheVariants as error
-use Rattle.table_audit.specs.Sides.{SidesFit, with_scratch, formula_against, formula_of}
-use Rattle.table_audit.specs.Shorter.{sequences_below, weight_in, IsBelow, IsTold, is_named}
+use Rattle.table_audit.specs.Shorter.{SidesFit, with_scratch, formula_against, formula_of, sequences_below, weight_in, IsBelow, IsTold, is_named}
 use Rattle.table_audit.specs.Families.{entry_of, IsRaisable, raised_formula}
 
 -- ---- the table ----

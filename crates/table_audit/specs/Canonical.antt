@@ -1,13 +1,13 @@
 -- What the canonical form of a window is, and of which entries there is a formula.
 use Rattle.std.specs.Prelude.{◌≡◌, ℕ, List, Option, length}
 use Rattle.thumb_instr.specs.declared.instr.Instr.{Instr}
-use Rattle.thumb_instr.specs.Renaming.{Low}
-use Rattle.thumb_model.specs.Sides.{AreOver, register_count}
+use Rattle.thumb_instr.specs.Window.{Low}
+use Rattle.thumb_model.specs.Effect.{AreOver, register_count}
 use Rattle.bit_blast.specs.Exactness.{IsMaskOver}
 use Rattle.rule_table.specs.Canonical.{IsRenamable, IsCanonical}
 use Rattle.rule_table.specs.Header.{Header}
 use Rattle.rule_table.specs.Table.{Rule}
-use Rattle.table_audit.specs.Sides.{named_count, alphabet_registers, IsCanonicalSide}
+use Rattle.table_audit.specs.Shorter.{named_count, alphabet_registers, IsCanonicalSide}
 
 -- the sequence is a canonical side as long as the window, its registers are counted alike in both ways, and the mask has no register but those that it names, which are those below their count
 pub record IsSideOf (window seq : List Instr) (mask : ℕ) : Type 0 where

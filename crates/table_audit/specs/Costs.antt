@@ -1,12 +1,11 @@
 -- How many steps the audit of a table counts at most.
 use Rattle.std.specs.Prelude.{ℕ, ◌+◌, ◌*◌, List, Option, Some, None, length, sum_by}
 use Rattle.thumb_instr.specs.declared.instr.Instr.{Instr}
-use Rattle.clause_model.specs.Literals.{codes_of}
+use Rattle.clause_model.specs.Clauses.{codes_of}
 use Rattle.rule_table.specs.Table.{Opened, Rule, Family, Table}
-use Rattle.proof_logs.specs.Lines.{started}
+use Rattle.proof_logs.specs.Proofs.{started}
 use Rattle.proof_logs.specs.Costs.{lines_cost, spent_cost}
-use Rattle.table_audit.specs.Sides.{formula_against, formula_of}
-use Rattle.table_audit.specs.Shorter.{below, below_at}
+use Rattle.table_audit.specs.Shorter.{formula_against, formula_of, below, below_at}
 use Rattle.table_audit.specs.Families.{entry_of, raised_formula}
 
 -- steps of instructions: both sides on each state once, and again for each sequence below the right side and for each that is named open

@@ -3,18 +3,16 @@ use Rattle.std.specs.Prelude.{◌≡◌, ℕ, zero, suc, ◌+◌, ◌-◌, ◌�
 use Rattle.std.specs.List.{list_any}
 use Rattle.thumb_instr.specs.declared.instr.Instr.{Instr}
 use Rattle.thumb_instr.specs.declared.instr.Instr.TheVariants as instr
-use Rattle.thumb_model.specs.Items.{one_of}
-use Rattle.thumb_model.specs.Sides.{Equal}
+use Rattle.thumb_model.specs.Effect.{one_of, Equal}
 use Rattle.cnf_gates.specs.Cnf.{Cnf}
 use Rattle.bit_blast.specs.declared.slots.Slot.{Slot}
 use Rattle.bit_blast.specs.declared.slots.Symbol.{Symbol}
 use Rattle.bit_blast.specs.Slots.{Byte, IsValue, filled, instance}
 use Rattle.bit_blast.specs.Differences.{family_formula}
-use Rattle.seq_enum.specs.Lists.{numbers_from, held_in}
+use Rattle.seq_enum.specs.Alphabet.{numbers_from, held_in}
 use Rattle.rule_table.specs.Header.{Header}
 use Rattle.rule_table.specs.Table.{Rule, Family, Table}
-use Rattle.table_audit.specs.Sides.{alphabet_registers}
-use Rattle.table_audit.specs.Shorter.{IsBelow, is_named}
+use Rattle.table_audit.specs.Shorter.{alphabet_registers, IsBelow, is_named}
 
 -- the entry of a number, counted from 1
 abbrev pub entry_at : List Rule → ℕ → Option Rule

@@ -1,11 +1,10 @@
-pub mod Sides
+pub mod Acceptance
 pub mod Canonical
+pub mod Costs
+pub mod Families
+pub mod Faults
+pub mod Lighter
+pub mod Naming
 pub mod Orders
 pub mod Shorter
-pub mod Naming
-pub mod Families
-pub mod Acceptance
-pub mod Lighter
-pub mod Faults
-pub mod Costs
 pub mod Soundness

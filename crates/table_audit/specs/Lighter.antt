@@ -1,12 +1,10 @@
 -- Numbers of the sequences that are to be tried: those that are below a right side, or so many of them as the first state leaves.
 use Rattle.std.specs.Prelude.{ℕ, ◌≡◌, ◌<◌, ◌≤◌, ◌↔◌, ◌&&◌, Bool, true, false, List, Option, Some, None, Contains, length, nat_lt, slice_get, ◌-◌}
 use Rattle.thumb_instr.specs.declared.instr.Instr.{Instr}
-use Rattle.seq_enum.specs.Lists.{ascends_from}
-use Rattle.seq_enum.specs.Alphabet.{sequences}
+use Rattle.seq_enum.specs.Alphabet.{ascends_from, sequences}
 use Rattle.seq_enum.specs.Costs.{cost_under}
 use Rattle.rule_table.specs.Table.{Rule, Table}
-use Rattle.table_audit.specs.Sides.{alphabet_registers}
-use Rattle.table_audit.specs.Shorter.{is_lighter}
+use Rattle.table_audit.specs.Shorter.{alphabet_registers, is_lighter}
 use Rattle.table_audit.specs.Acceptance.{IsUntold}
 
 -- the numbers, ascending, of those sequences that weigh less than a limit

@@ -3,13 +3,12 @@ use Rattle.std.specs.Prelude.{◌≡◌, ◌<◌, ◌≤◌, ℕ, true, List, So
 use Rattle.std.specs.List.{list_all}
 use Rattle.thumb_instr.specs.declared.instr.Instr.{Instr}
 use Rattle.thumb_instr.specs.Window.{is_in_window}
-use Rattle.seq_enum.specs.Lists.{numbers_from}
-use Rattle.seq_enum.specs.Alphabet.{IsOver}
+use Rattle.seq_enum.specs.Alphabet.{numbers_from, IsOver}
 use Rattle.seq_enum.specs.Costs.{weight_under}
 use Rattle.bit_blast.specs.Exactness.{IsMaskOver}
 use Rattle.rule_table.specs.Canonical.{appearing}
 use Rattle.rule_table.specs.Table.{Rule, Table}
-use Rattle.table_audit.specs.Sides.{named_count}
+use Rattle.table_audit.specs.Shorter.{named_count}
 
 -- some register of the list doesn't stand at its own place
 pub record IsAstray (registers : List ℕ) : Type 0 where

@@ -3,7 +3,7 @@ use Rattle.std.specs.Prelude.{ℕ, ◌≡◌, ◌≤◌, ◌↔◌, false, List,
 use Rattle.thumb_instr.specs.declared.instr.Instr.{Instr}
 use Rattle.thumb_instr.specs.Items.{has}
 use Rattle.rule_model.specs.Rules.{Rule, alone, AreSound}
-use Rattle.thumb_model.specs.Sides.{Equal}
+use Rattle.thumb_model.specs.Effect.{Equal}
 use Rattle.rule_table.specs.Header.{Header}
 use Rattle.rule_table.specs.Table as table
 use Rattle.table_audit.specs.Shorter.{IsBelow, is_named}

@@ -1,6 +1,6 @@
 //! An `Audited` is made by the audit alone. Rewriting takes nothing else, so that no rule is applied that was not checked.
 ghost use Rattle.std.specs.Prelude.{◌≡◌};
-ghost use Rattle.rule_table.specs.Valid.{IsTable};
+ghost use Rattle.rule_table.specs.Table.{IsTable};
 ghost use Rattle.rule_table.specs.Views.{table_of};
 ghost use Rattle.table_audit.specs.Acceptance.{IsAccepted};
 ghost use Rattle.table_audit.specs.Soundness.{IsSound};
@@ -16,7 +16,7 @@ pub struct Audited {
 }
 
 impl Model for Audited {
-    ghost use Rattle.rule_table.specs.Valid.{IsTable};
+    ghost use Rattle.rule_table.specs.Table.{IsTable};
     ghost use Rattle.rule_table.specs.Views.{table_of};
     ghost use Rattle.rule_table.specs.declared.table.Table.{Table};
     ghost use Rattle.table_audit.specs.Acceptance.{IsAccepted};

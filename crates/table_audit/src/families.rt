@@ -1,10 +1,10 @@
 //! Families: an entry's rule for each value of a number that stands in 8 bits.
 ghost use Rattle.std.specs.Prelude.{◌≡◌, ◌<◌, ◌≤◌, ◌+◌, ◌↔◌, IfOk, IfSome, IsTrue, None, Some, length, map, option_map};
 ghost use Rattle.std.specs.List.{list_any};
-ghost use Rattle.thumb_model.specs.Items.{one_of};
+ghost use Rattle.thumb_model.specs.Effect.{one_of};
 ghost use Rattle.bit_blast.specs.Slots.{filled, slot, instance};
 ghost use Rattle.rule_table.specs.Views.{family_of, header_in, rule_of, table_of};
-ghost use Rattle.proof_logs.specs.Verdicts.{Answers};
+ghost use Rattle.proof_logs.specs.Proofs.{Answers};
 ghost use Rattle.table_audit.specs.declared.errors.AuditError.TheVariants.{Memory};
 ghost use Rattle.table_audit.specs.Canonical.{HasFormula};
 ghost use Rattle.table_audit.specs.Families.{entry_at, entry_of, family_at, is_hole, IsRaisable, raised_formula};

@@ -1,9 +1,8 @@
 //! What follows from the definitions, each as the contract of a function that does nothing.
 ghost use Rattle.std.specs.Prelude.{◌≡◌, Option, Result, IfErr};
 ghost use Rattle.rule_table.specs.declared.table.Table as code;
-ghost use Rattle.rule_table.specs.Table.{Table};
-ghost use Rattle.rule_table.specs.Valid.{IsTable};
-ghost use Rattle.proof_logs.specs.Verdicts.{Answers};
+ghost use Rattle.rule_table.specs.Table.{Table, IsTable};
+ghost use Rattle.proof_logs.specs.Proofs.{Answers};
 ghost use Rattle.table_audit.specs.declared.errors.AuditError.{AuditError};
 ghost use Rattle.table_audit.specs.Acceptance.{TableVerdict, IsAccepted};
 ghost use Rattle.table_audit.specs.Soundness.{IsSound, CheapestIsShortest};

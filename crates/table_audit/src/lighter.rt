@@ -1,7 +1,7 @@
 //! The sequences that weigh less than a limit, where they are few beside those that are as long. Each letter weighs something, so a sequence without its last
 //! letter is lighter: all of them are found by putting letters behind those that were found before.
 ghost use Rattle.std.specs.Prelude.{◌≡◌, ◌<◌, ◌≤◌, ◌+◌, ◌*◌, ◌^◌, ◌++◌, None, IfOk, IsTrue, OnOk, MatchOption, filter, length};
-ghost use Rattle.seq_enum.specs.Lists.{numbers_from};
+ghost use Rattle.seq_enum.specs.Alphabet.{numbers_from};
 ghost use Rattle.seq_enum.specs.Costs.{cost_under};
 ghost use Rattle.outcomes.specs.Outcomes.{sequences_below};
 ghost use Rattle.table_audit.specs.Shorter.{is_lighter};

@@ -1,13 +1,12 @@
 //! The numbers that an entry names open.
 ghost use Rattle.std.specs.Prelude.{◌≡◌, ◌<◌, ◌≤◌, ◌+◌, ◌*◌, ◌↔◌, true, IfOk, IsTrue, length, map, sum_by};
 ghost use Rattle.window_exec.specs.State.{seen};
-ghost use Rattle.seq_enum.specs.Lists.{ascends_from};
-ghost use Rattle.rule_table.specs.Valid.{numbers_of};
+ghost use Rattle.seq_enum.specs.Alphabet.{ascends_from};
+ghost use Rattle.rule_table.specs.Table.{numbers_of};
 ghost use Rattle.rule_table.specs.Views.{header_in, opened_of, rule_of, table_of};
-ghost use Rattle.proof_logs.specs.Verdicts.{Answers};
-ghost use Rattle.table_audit.specs.Sides.{alphabet_registers};
+ghost use Rattle.proof_logs.specs.Proofs.{Answers};
+ghost use Rattle.table_audit.specs.Shorter.{alphabet_registers, below};
 ghost use Rattle.table_audit.specs.Canonical.{HasFormula};
-ghost use Rattle.table_audit.specs.Shorter.{below};
 ghost use Rattle.outcomes.specs.Trials.{AreTrials};
 ghost use Rattle.table_audit.specs.Acceptance.{IsRightlyOpen, OpensVerdict};
 ghost use Rattle.table_audit.specs.Costs.{open_cost};

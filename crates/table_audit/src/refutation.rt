@@ -1,7 +1,7 @@
 //! The proof of an entry.
 ghost use Rattle.std.specs.Prelude.{◌≡◌, ◌≤◌, ◌+◌, [], IsTrue};
 ghost use Rattle.rule_table.specs.Views.{header_in, rule_of, table_of};
-ghost use Rattle.proof_logs.specs.Verdicts.{Answers};
+ghost use Rattle.proof_logs.specs.Proofs.{Answers};
 ghost use Rattle.table_audit.specs.declared.errors.AuditError.TheVariants.{Memory};
 ghost use Rattle.table_audit.specs.Canonical.{HasFormula};
 ghost use Rattle.table_audit.specs.Acceptance.{EntryProofVerdict};

@@ -1,24 +1,21 @@
 //! Each sequence below the right side is named open, or some state tells it. The first state tells nearly all, by a table of what each sequence leaves of it,
 //! and the others are run on all states. Where the table would have far more sequences than are below the right side, those are run at once.
 ghost use Rattle.std.specs.Prelude.{◌≡◌, ℕ, ◌<◌, ◌≤◌, ◌+◌, ◌*◌, ◌↔◌, true, false, List, None, Some, IfOk, OnOk, IsTrue, MatchOption, length, map};
-ghost use Rattle.thumb_model.specs.Sides.{AreOver};
+ghost use Rattle.thumb_model.specs.Effect.{AreOver};
 ghost use Rattle.window_exec.specs.declared.state.WState.{WState as State};
-ghost use Rattle.window_exec.specs.State.{seen};
-ghost use Rattle.window_exec.specs.Seen.{Seen};
-ghost use Rattle.seq_enum.specs.Lists.{ascends_from};
-ghost use Rattle.seq_enum.specs.Alphabet.{alphabet};
+ghost use Rattle.window_exec.specs.State.{seen, Seen};
+ghost use Rattle.seq_enum.specs.Alphabet.{ascends_from, alphabet};
 ghost use Rattle.outcomes.specs.Trials.{AreTrials};
 ghost use Rattle.outcomes.specs.Tables.{AreTables, IsFor};
-ghost use Rattle.rule_table.specs.Valid.{IsTable, numbers_of};
+ghost use Rattle.rule_table.specs.Table.{IsTable, numbers_of};
 ghost use Rattle.rule_table.specs.Views.{header_in, opened_of, rule_of, table_of};
-ghost use Rattle.proof_logs.specs.Verdicts.{Answers};
+ghost use Rattle.proof_logs.specs.Proofs.{Answers};
 ghost use Rattle.table_audit.specs.declared.errors.AuditError.TheVariants.{Memory, Entry as OfEntry};
 ghost use Rattle.table_audit.specs.declared.errors.EntryFault.TheVariants.{Untold};
 ghost use Rattle.table_audit.specs.Canonical.{HasFormula};
-ghost use Rattle.table_audit.specs.Shorter.{below, IsTold, is_named};
+ghost use Rattle.table_audit.specs.Shorter.{below, IsTold, is_named, alphabet_registers};
 ghost use Rattle.table_audit.specs.Naming.{first_of};
 ghost use Rattle.table_audit.specs.Lighter.{CoverUntold};
-ghost use Rattle.table_audit.specs.Sides.{alphabet_registers};
 ghost use Rattle.table_audit.specs.Acceptance.{lengths_below, ToldVerdict};
 
 use crate::errors::{AuditError, EntryFault};

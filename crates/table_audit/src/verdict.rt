@@ -1,9 +1,9 @@
 //! The audit: its tests in order, and tables that passed it.
 ghost use Rattle.std.specs.Prelude.{◌≡◌, ◌≤◌, ◌+◌, IfOk, true, length, map, sum_by};
-ghost use Rattle.seq_enum.specs.Lists.{ascends_from};
-ghost use Rattle.rule_table.specs.Valid.{IsTable, numbers_of};
+ghost use Rattle.seq_enum.specs.Alphabet.{ascends_from};
+ghost use Rattle.rule_table.specs.Table.{IsTable, numbers_of};
 ghost use Rattle.rule_table.specs.Views.{header_in, opened_of, rule_of, table_of};
-ghost use Rattle.proof_logs.specs.Verdicts.{Answers, Then};
+ghost use Rattle.proof_logs.specs.Proofs.{Answers, Then};
 ghost use Rattle.outcomes.specs.Tables.{AreTables};
 ghost use Rattle.table_audit.specs.Naming.{first_of};
 ghost use Rattle.table_audit.specs.Canonical.{HasFormula};

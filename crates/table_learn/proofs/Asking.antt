@@ -5,32 +5,27 @@ use Rattle.std.specs.Prelude.{ℤ, Vec}
 use Rattle.std.specs.List.{list_any}
 use Rattle.std.proofs.lemmas.List.Elements.{All-nil, All-cons}
 use Rattle.thumb_instr.specs.declared.instr.Instr.{Instr}
-use Rattle.thumb_model.specs.Sides.{AreOver}
+use Rattle.thumb_model.specs.Effect.{AreOver, Values, AreWords}
 use Rattle.std.proofs.lemmas.List.{get_or_default}
-use Rattle.thumb_model.specs.Items.{Values, AreWords}
 use Rattle.table_audit.proofs.Names.{of_four}
 use Rattle.window_exec.specs.declared.state.WState.{WState}
-use Rattle.window_exec.specs.State.{values_of, seen}
-use Rattle.window_exec.specs.Seen.{Seen}
-use Rattle.clause_model.specs.Literals.{code_of, codes_of}
+use Rattle.window_exec.specs.State.{values_of, seen, Seen}
+use Rattle.clause_model.specs.Clauses.{code_of, codes_of}
 use Rattle.cnf_gates.specs.Cnf.{Cnf, AreLiteralsOf, AreClausesOf}
 use Rattle.cnf_gates.specs.Meaning.{IsModel, assigned}
 use Rattle.bit_blast.specs.Differences.{sides_formula}
-use Rattle.bit_blast.specs.Values.{start_values}
-use Rattle.bit_blast.specs.Exactness.{IsMask, IsMaskOver, SameOver}
+use Rattle.bit_blast.specs.Exactness.{start_values, IsMask, IsMaskOver, SameOver}
 use Rattle.bit_blast.proofs.Exact.{models_give_states}
 use Rattle.lrat_check.specs.declared.line.Line.{Line}
-use Rattle.lrat_check.specs.Content.{content_of}
-use Rattle.lrat_check.specs.Text.{IsLine}
+use Rattle.lrat_check.specs.Text.{content_of, IsLine}
 use Rattle.cdcl_core.specs.declared.solving.Verdict.TheVariants.{Unsat, Spent}
 use Rattle.cdcl_core.specs.Solved.{AreBelow, VerdictOf}
 use Rattle.cdcl_core.proofs.Statements.{code_below}
-use Rattle.table_learn.specs.Settings.{Settings}
-use Rattle.table_learn.specs.Learnt.{IsRefutation, IsSpentSearch}
+use Rattle.table_learn.specs.Learnt.{Settings, IsRefutation, IsSpentSearch}
 use Rattle.table_learn.specs.Tellings.{told, tells_apart}
 use Rattle.std.proofs.Common.{Result, Ok, Err}
 use Rattle.std.specs.Prelude.{IfOk}
-use Rattle.table_audit.specs.Sides.{alphabet_registers}
+use Rattle.table_audit.specs.Shorter.{alphabet_registers}
 use Rattle.std.specs.declared.alloc.AllocError.{AllocError}
 use Rattle.table_learn.specs.declared.window.Window as code
 use Rattle.table_learn.specs.declared.trying.Finding.{Finding}

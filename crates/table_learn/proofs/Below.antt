@@ -7,13 +7,12 @@ use Rattle.thumb_instr.specs.declared.instr.Instr.{Instr}
 use Rattle.seq_enum.specs.Places.{sum_below}
 use Rattle.seq_enum.specs.Alphabet.{alphabet, sequences}
 use Rattle.seq_enum.specs.Costs.{AreCosts, weight_under}
-use Rattle.table_audit.specs.Sides.{alphabet_registers, with_scratch}
-use Rattle.table_audit.specs.Shorter.{IsBelow, sequences_below, weight_in, below_at}
+use Rattle.table_audit.specs.Shorter.{alphabet_registers, with_scratch, IsBelow, sequences_below, weight_in, below_at}
 use Rattle.table_audit.specs.Acceptance.{lengths_below, width_of}
 use Rattle.table_audit.proofs.Below.{below_found, length_within}
 use Rattle.table_audit.proofs.Numbering.{below_in, below_from, length-sequences_below}
 use Rattle.table_audit.proofs.Walking.{present_at}
-use Rattle.table_learn.specs.Settings.{Settings, Window}
+use Rattle.table_learn.specs.Learnt.{Settings, Window}
 use Rattle.table_learn.specs.Given.{IsWindow}
 use Rattle.table_learn.specs.Searching.{width_at}
 use Rattle.table_learn.proofs.Monotone.{least_letters, sum_more, shorter_more}

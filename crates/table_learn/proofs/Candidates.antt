@@ -7,10 +7,8 @@ use Rattle.std.proofs.lemmas.Option.{slice_get_within, get_or_from_slice_get}
 use Rattle.thumb_instr.specs.declared.instr.Instr.{Instr}
 use Rattle.thumb_model.specs.Effect.{after_all}
 use Rattle.window_exec.specs.declared.state.WState.{WState}
-use Rattle.window_exec.specs.State.{values_of, seen}
-use Rattle.window_exec.specs.Telling.{Differ}
-use Rattle.seq_enum.specs.Lists.{ascends_from}
-use Rattle.seq_enum.specs.Alphabet.{alphabet, sequences, sequences_of}
+use Rattle.window_exec.specs.State.{values_of, seen, Differ}
+use Rattle.seq_enum.specs.Alphabet.{ascends_from, alphabet, sequences, sequences_of}
 use Rattle.seq_enum.specs.Costs.{AreCosts, weight_under}
 use Rattle.bit_blast.specs.Exactness.{IsMask}
 use Rattle.outcomes.specs.declared.trials.Trial.{Trial}
@@ -19,12 +17,11 @@ use Rattle.outcomes.specs.Outcomes.{Extent, grown_to}
 use Rattle.outcomes.specs.Candidates.{TellsFrom}
 use Rattle.outcomes.specs.Candidates as found
 use Rattle.outcomes.proofs.Choosing.{told_or_candidate}
-use Rattle.table_audit.specs.Sides.{alphabet_registers}
-use Rattle.table_audit.specs.Shorter.{sequences_below}
+use Rattle.table_audit.specs.Shorter.{alphabet_registers, sequences_below}
 use Rattle.table_audit.specs.Acceptance.{lengths_below}
 use Rattle.table_audit.proofs.Numbering.{below_in, below_from}
 use Rattle.table_audit.proofs.Walking.{present_at}
-use Rattle.table_learn.specs.Settings.{Settings, Window}
+use Rattle.table_learn.specs.Learnt.{Settings, Window}
 use Rattle.table_learn.specs.Tellings.{told}
 use Rattle.table_learn.specs.Orders.{AreInOrder, in_order, weight_at, weight_or_none}
 use Rattle.table_learn.specs.Given.{IsWindow}

@@ -11,22 +11,18 @@ use Rattle.std.specs.Option.{option_map}
 use Rattle.std.proofs.lemmas.List.Quantifiers.{Any-push}
 use Rattle.std.proofs.lemmas.Option.{slice_get-map, slice_get-get_or, slice_get_within, get_or_from_slice_get}
 use Rattle.thumb_instr.specs.declared.instr.Instr.{Instr}
-use Rattle.thumb_model.specs.Sides.{AreOver}
+use Rattle.thumb_model.specs.Effect.{AreOver}
 use Rattle.cnf_gates.specs.Cnf.{Cnf}
 use Rattle.bit_blast.specs.Differences.{sides_formula}
 use Rattle.bit_blast.proofs.Exact.{itself_ends_in_empty}
-use Rattle.clause_model.specs.Literals.{code_of, codes_of, negated}
-use Rattle.clause_model.specs.Propagation.{ReverseUnitPropagation, Refutes as Propagates, numbered}
+use Rattle.clause_model.specs.Clauses.{code_of, codes_of, negated, ReverseUnitPropagation, Refutes as Propagates, numbered}
 use Rattle.clause_model.proofs.Asserted.{asserting_new}
 use Rattle.lrat_check.specs.declared.line.Line.{Line}
 use Rattle.lrat_check.specs.declared.line.Line.TheVariants.{Addition as Adding, Deletion as Deleting}
 use Rattle.lrat_check.specs.declared.line.Addition.{Addition}
 use Rattle.lrat_check.specs.Numbers.{is_negative, IsHint}
-use Rattle.lrat_check.specs.Content.{Content, content_of}
-use Rattle.lrat_check.specs.Text.{IsLine}
-use Rattle.proof_logs.specs.Lines.{Known, started, with_clause, after_line, Accepts, AllAccepted, additions}
-use Rattle.proof_logs.specs.Logs.{IsSpentLog, EachIsNew}
-use Rattle.proof_logs.specs.Proofs.{LinesVerdict, ProofVerdict}
+use Rattle.lrat_check.specs.Text.{Content, content_of, IsLine}
+use Rattle.proof_logs.specs.Proofs.{Known, started, with_clause, after_line, Accepts, AllAccepted, additions, IsSpentLog, EachIsNew, LinesVerdict, ProofVerdict}
 use Rattle.proof_logs.proofs.Checks.{same_known}
 use Rattle.cdcl_core.specs.Solved.{RefutesTidily, Adds, literals_in, with_log, Teaches, Refutes, IsLog}
 use Rattle.cdcl_core.proofs.Logs.{asserting_some}

@@ -5,10 +5,9 @@ use Rattle.std.proofs.Math.Nat.{mul-le-mul_left, mul-le-mul_right}
 use Rattle.std.proofs.lemmas.Bool.{and_parts, leb-true}
 use Rattle.std.proofs.lemmas.List.Elements.{All-head, All-tail}
 use Rattle.std.proofs.lemmas.List.Sums.{sum_by-cons}
-use Rattle.seq_enum.specs.Lists.{ascends_from}
-use Rattle.rule_table.specs.Table.{Opened, Rule}
-use Rattle.rule_table.specs.Valid.{numbers_of}
-use Rattle.table_learn.specs.Settings.{Settings}
+use Rattle.seq_enum.specs.Alphabet.{ascends_from}
+use Rattle.rule_table.specs.Table.{Opened, Rule, numbers_of}
+use Rattle.table_learn.specs.Learnt.{Settings}
 use Rattle.table_audit.specs.Acceptance.{width_of}
 use Rattle.table_learn.specs.Failing.{learn_cost}
 use Rattle.table_learn.specs.Searching.{query_cost}

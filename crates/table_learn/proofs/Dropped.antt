@@ -4,14 +4,14 @@ use Rattle.std.proofs.lemmas.List.{map_push, length-map}
 use Rattle.std.proofs.lemmas.List.Elements.{filter-append}
 use Rattle.std.specs.Prelude.{sum_by}
 use Rattle.std.proofs.lemmas.List.Sums.{sum_by-append}
-use Rattle.window_exec.specs.Seen.{Seen}
+use Rattle.window_exec.specs.State.{Seen}
 use Rattle.rule_table.specs.declared.table.Entry.{Entry}
 use Rattle.rule_table.specs.declared.table.Open as code
 use Rattle.rule_table.specs.Table.{Opened, Rule}
 use Rattle.rule_table.specs.Views.{opened_of, rule_of}
 use Rattle.rule_table.specs.Text.{open_items, rule_items}
 use Rattle.table_learn.specs.Lengths.{lines_length, opens_length, rules_length}
-use Rattle.table_learn.specs.Settings.{Settings}
+use Rattle.table_learn.specs.Learnt.{Settings}
 use Rattle.table_learn.specs.Fitness.{without_told}
 use Rattle.table_learn.specs.Dropping.{Dropped, runs_on}
 use Rattle.table_learn.proofs.TextLengths.{opens_push, rules_push, entry_lines}

@@ -6,16 +6,14 @@ use Rattle.thumb_instr.specs.declared.instr.Instr.{Instr}
 use Rattle.thumb_instr.specs.declared.items.Mask.{Mask}
 use Rattle.window_exec.specs.State.{seen}
 use Rattle.rule_table.specs.Header.{IsHeader}
-use Rattle.rule_table.specs.Table.{Table}
-use Rattle.rule_table.specs.Valid.{IsTable}
+use Rattle.rule_table.specs.Table.{Table, IsTable}
 use Rattle.rule_table.specs.Views.{rule_of}
 use Rattle.table_audit.specs.Acceptance.{width_of}
 use Rattle.table_learn.specs.declared.window.Window as code
 use Rattle.table_learn.specs.declared.learning.Learner.{Learner}
-use Rattle.table_learn.specs.Settings.{Settings, Window}
+use Rattle.table_learn.specs.Learnt.{Settings, Window, Learnt, IsFull, learnt_from, text_length, text_limit}
 use Rattle.table_learn.specs.Given.{window_of, IsWindow, AreWindows}
 use Rattle.table_learn.specs.Found.{window_in}
-use Rattle.table_learn.specs.Learnt.{Learnt, IsFull, learnt_from, text_length, text_limit}
 use Rattle.table_learn.specs.Failing.{learn_cost}
 use Rattle.table_learn.specs.Progress.{HasLearnt, table_with, states_in, rules_in, search_cost, drop_cost}
 use Rattle.table_learn.proofs.Gains.{learnt, valid}

@@ -1,20 +1,17 @@
 -- Entries fit as more states are found, and pass the audit.
 use Rattle.std.proofs.Common.{◌≡◌, ℕ, zero, suc, ◌+◌, ◌≤◌, ◌⊎◌, ◌==◌, inl, inr, Bool, true, false, not, List, [], ◌∷◌, ◌++◌, Option, Some, None, cond, filter, length, slice_get, refl, sym, ◌∙◌, ap, subst, arith, eqb-true, zero-add, nat_le}
 use Rattle.std.proofs.lemmas.Bool.{or_cases, or_left, or_right, false≢true, true≢false, and_parts, leb-true, le-leb}
-use Rattle.seq_enum.specs.Lists.{ascends_from}
+use Rattle.seq_enum.specs.Alphabet.{ascends_from}
 use Rattle.thumb_instr.specs.declared.instr.Instr.{Instr}
-use Rattle.window_exec.specs.Seen.{Seen}
-use Rattle.rule_table.specs.Table.{Opened, Rule, Table}
-use Rattle.rule_table.specs.Valid.{numbers_of}
-use Rattle.proof_logs.specs.Verdicts.{InTurn}
+use Rattle.window_exec.specs.State.{Seen}
+use Rattle.rule_table.specs.Table.{Opened, Rule, Table, numbers_of}
+use Rattle.proof_logs.specs.Proofs.{InTurn}
 use Rattle.table_audit.specs.declared.errors.EntryFault.TheVariants.{Proof, Unfinished}
 use Rattle.table_audit.specs.declared.errors.AuditError.TheVariants.{Entry}
-use Rattle.table_audit.specs.Sides.{formula_of, formula_against}
-use Rattle.table_audit.specs.Shorter.{weight_in, below_at, is_named}
+use Rattle.table_audit.specs.Shorter.{formula_of, formula_against, weight_in, below_at, is_named}
 use Rattle.table_audit.specs.Acceptance.{EntryVerdict, IsUntold, OpenTest}
 use Rattle.table_audit.proofs.Below.{below_is}
-use Rattle.table_learn.specs.Settings.{Settings}
-use Rattle.table_learn.specs.Learnt.{KeepsOrLowers}
+use Rattle.table_learn.specs.Learnt.{Settings, KeepsOrLowers}
 use Rattle.table_learn.specs.Tellings.{told}
 use Rattle.table_learn.specs.Fitness.{IsFit, tells_number, stays_open, without_told}
 use Rattle.table_learn.specs.Progress.{table_with}

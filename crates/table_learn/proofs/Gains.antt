@@ -6,22 +6,19 @@ use Rattle.std.proofs.lemmas.List.Elements.{All-nil, All-cons, All-append}
 use Rattle.std.proofs.lemmas.Bool.{cases_lt}
 use Rattle.std.proofs.lemmas.Option.{slice_get_within, slice_get-get_or, same_Some}
 use Rattle.thumb_instr.specs.declared.instr.Instr.{Instr}
-use Rattle.thumb_model.specs.Sides.{AreOver}
+use Rattle.thumb_model.specs.Effect.{AreOver}
 use Rattle.seq_enum.specs.Costs.{AreCosts}
-use Rattle.seq_enum.specs.Pools.{is_pool}
-use Rattle.seq_enum.specs.Alphabet.{IsOver}
+use Rattle.seq_enum.specs.Alphabet.{is_pool, IsOver}
 use Rattle.seq_enum.proofs.Numbered.{get_front}
 use Rattle.std.specs.Int.{w32, rotate_right}
 use Rattle.std.proofs.Math.Nat.{div-le_self}
 use Rattle.std.proofs.lemmas.Nat.{or_of_32}
 use Rattle.rand_pcg.specs.Lcg.{Lcg}
 use Rattle.rand_pcg.specs.Pcg.{pcg32}
-use Rattle.window_exec.specs.Seen.{Seen}
+use Rattle.window_exec.specs.State.{Seen}
 use Rattle.fingerprints.specs.Seeded.{next_state, seeded_states, states_from}
-use Rattle.rule_table.specs.Table.{Opened, Rule}
-use Rattle.rule_table.specs.Valid.{IsState, IsInstr, IsOpened, IsRule, IsFamily, IsTable}
-use Rattle.table_audit.specs.Sides.{named_count, alphabet_registers, formula_against}
-use Rattle.table_audit.specs.Shorter.{sequences_below}
+use Rattle.rule_table.specs.Table.{Opened, Rule, IsState, IsInstr, IsOpened, IsRule, IsFamily, IsTable}
+use Rattle.table_audit.specs.Shorter.{named_count, alphabet_registers, formula_against, sequences_below}
 use Rattle.table_audit.specs.Acceptance.{StateTest, EntryVerdict, IsAccepted, lengths_below, width_of}
 use Rattle.table_audit.proofs.Fitting.{are_over, ordered_of}
 use Rattle.table_audit.proofs.Walking.{over_more}
@@ -29,9 +26,8 @@ use Rattle.rule_table.specs.declared.header.Field.{Field}
 use Rattle.rule_table.specs.declared.header.Field.TheVariants as field
 use Rattle.rule_table.specs.declared.header.Head.TheVariants.{Number}
 use Rattle.rule_table.specs.Header.{number_in, has_line, blank, IsWithin, IsHeader}
-use Rattle.table_learn.specs.Settings.{Settings, Window}
+use Rattle.table_learn.specs.Learnt.{Settings, Window, Learnt, TellsFirst, AreEarned, learnt_from, KeepsOrLowers, IsProvedBySolver, IsOpenBySolver, IsSpentSearch}
 use Rattle.table_learn.specs.Given.{IsVersionFor, AreInLimits}
-use Rattle.table_learn.specs.Learnt.{Learnt, TellsFirst, AreEarned, learnt_from, KeepsOrLowers, IsProvedBySolver, IsOpenBySolver, IsSpentSearch}
 use Rattle.table_learn.specs.Fitness.{IsFit, without_told}
 use Rattle.table_learn.specs.Searching.{EarnedFrom, width_at}
 use Rattle.table_learn.specs.Progress.{Progress, table_with}

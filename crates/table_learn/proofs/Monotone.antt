@@ -1,9 +1,8 @@
 -- How many sequences there are, at more registers and more instructions.
 use Rattle.std.proofs.Common.{◌≡◌, ℕ, zero, suc, ◌+◌, ◌-◌, ◌*◌, ◌^◌, ◌<◌, ◌≤◌, List, length, sym, subst, arith}
 use Rattle.std.proofs.Math.Nat.{le_refl, le_trans, mul-le-mul, pow-le-pow_left}
-use Rattle.seq_enum.specs.Lists.{held_in}
+use Rattle.seq_enum.specs.Alphabet.{held_in, alphabet}
 use Rattle.seq_enum.specs.Places.{sum_below}
-use Rattle.seq_enum.specs.Alphabet.{alphabet}
 use Rattle.seq_enum.proofs.Mnemonics.{size_formula}
 use Rattle.table_audit.specs.Shorter.{sequences_below}
 use Rattle.table_audit.proofs.Numbering.{length-sequences_below}

@@ -7,7 +7,7 @@ use Rattle.window_exec.specs.State.{seen}
 use Rattle.rule_table.specs.Table.{Rule}
 use Rattle.table_audit.specs.Shorter.{below_at}
 use Rattle.table_learn.specs.Tellings.{told, tells_apart}
-use Rattle.table_learn.specs.Settings.{Settings}
+use Rattle.table_learn.specs.Learnt.{Settings}
 use Rattle.table_learn.specs.Fitness.{tells_number}
 use Rattle.table_learn.proofs.Asking.{told_seen}
 

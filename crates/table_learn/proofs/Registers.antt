@@ -2,10 +2,10 @@
 use Rattle.std.proofs.Common.{ℕ, ◌<◌, ◌≤◌, inl, inr, List, arith}
 use Rattle.thumb_instr.specs.declared.instr.Instr.{Instr}
 use Rattle.bit_blast.specs.Exactness.{IsMaskOver}
-use Rattle.table_audit.specs.Sides.{named_count, alphabet_registers, with_scratch}
+use Rattle.table_audit.specs.Shorter.{named_count, alphabet_registers, with_scratch}
 use Rattle.table_audit.proofs.Appearing.{names_register}
 use Rattle.table_audit.proofs.Fitting.{ordered_of}
-use Rattle.table_learn.specs.Settings.{Settings, Window}
+use Rattle.table_learn.specs.Learnt.{Settings, Window}
 use Rattle.table_learn.specs.Given.{IsWindow}
 
 -- no fewer than it names

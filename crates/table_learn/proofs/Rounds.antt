@@ -4,23 +4,19 @@ use Rattle.std.proofs.Math.Seq.{drop-append_seam}
 use Rattle.std.proofs.lemmas.List.{length-map, map_push}
 use Rattle.std.proofs.lemmas.List.Elements.{All-nil, All-cons, All-append}
 use Rattle.thumb_instr.specs.declared.instr.Instr.{Instr}
-use Rattle.thumb_model.specs.Sides.{AreOver}
+use Rattle.thumb_model.specs.Effect.{AreOver}
 use Rattle.window_exec.specs.declared.state.WState.{WState}
-use Rattle.window_exec.specs.State.{seen}
-use Rattle.window_exec.specs.Seen.{Seen}
+use Rattle.window_exec.specs.State.{seen, Seen}
 use Rattle.rule_table.specs.declared.table.Entry.{Entry}
 use Rattle.rule_table.specs.Views.{rule_of}
-use Rattle.rule_table.specs.Table.{Opened, Rule}
-use Rattle.rule_table.specs.Valid.{IsState}
+use Rattle.rule_table.specs.Table.{Opened, Rule, IsState}
 use Rattle.rule_table.specs.Text.{rule_items}
-use Rattle.table_audit.specs.Sides.{named_count, alphabet_registers}
-use Rattle.table_audit.specs.Shorter.{below_at}
+use Rattle.table_audit.specs.Shorter.{named_count, alphabet_registers, below_at}
 use Rattle.table_audit.specs.Acceptance.{width_of}
 use Rattle.table_audit.proofs.Fitting.{are_over, ordered_of}
 use Rattle.table_audit.proofs.Walking.{over_more}
-use Rattle.table_learn.specs.Settings.{Settings, Window}
+use Rattle.table_learn.specs.Learnt.{Settings, Window, learnt_from, text_length}
 use Rattle.table_learn.specs.Given.{IsWindow}
-use Rattle.table_learn.specs.Learnt.{learnt_from, text_length}
 use Rattle.table_learn.specs.Fitness.{IsFit, tells_number, stays_open, without_told}
 use Rattle.table_learn.specs.Searching.{width_at, AreCandidates, IsGrown, EarnedFrom, query_cost}
 use Rattle.table_learn.specs.Lengths.{lines_length, rules_length}

@@ -6,20 +6,17 @@ use Rattle.std.proofs.lemmas.List.{take_more, take_all, drop_all, take-append-dr
 use Rattle.std.proofs.lemmas.List.Elements.{All-nil}
 use Rattle.std.proofs.lemmas.Option.{slice_get-get_or}
 use Rattle.thumb_instr.specs.declared.instr.Instr.{Instr}
-use Rattle.thumb_model.specs.Sides.{AreOver}
-use Rattle.window_exec.specs.Seen.{Seen}
+use Rattle.thumb_model.specs.Effect.{AreOver}
+use Rattle.window_exec.specs.State.{Seen}
 use Rattle.lrat_check.specs.declared.line.Line.{Line}
-use Rattle.lrat_check.specs.Content.{content_of}
-use Rattle.lrat_check.specs.Text.{IsLine}
+use Rattle.lrat_check.specs.Text.{content_of, IsLine}
 use Rattle.proof_logs.proofs.Turns.{drop_got}
 use Rattle.bit_blast.specs.Differences.{sides_formula}
 use Rattle.bit_blast.specs.Exactness.{IsMask}
 use Rattle.rule_table.specs.Table.{Opened, Rule}
-use Rattle.table_audit.specs.Sides.{alphabet_registers}
-use Rattle.table_audit.specs.Shorter.{IsBelow}
-use Rattle.table_learn.specs.Settings.{Settings, Window}
+use Rattle.table_audit.specs.Shorter.{alphabet_registers, IsBelow}
+use Rattle.table_learn.specs.Learnt.{Settings, Window, IsRefutation, learnt_from}
 use Rattle.table_learn.specs.Given.{IsWindow}
-use Rattle.table_learn.specs.Learnt.{IsRefutation, learnt_from}
 use Rattle.table_learn.specs.Fitness.{IsFit}
 use Rattle.table_learn.specs.Searching.{AreCandidates, IsSearching, is_below}
 use Rattle.table_learn.specs.Tried.{IsRightSide}

@@ -8,23 +8,19 @@ use Rattle.std.proofs.lemmas.List.{take-append-le}
 use Rattle.std.proofs.lemmas.List.Elements.{All-nil, All-push, Contains-append_left, Contains-push, Contains-push_cases, Contains-append_cases}
 use Rattle.std.proofs.lemmas.Option.{slice_get_within, same_Some}
 use Rattle.thumb_instr.specs.declared.instr.Instr.{Instr}
-use Rattle.seq_enum.specs.Lists.{ascends_from}
-use Rattle.window_exec.specs.Seen.{Seen}
+use Rattle.seq_enum.specs.Alphabet.{ascends_from}
+use Rattle.window_exec.specs.State.{Seen, Tells}
 use Rattle.lrat_check.specs.Text.{IsLine}
 use Rattle.bit_blast.specs.Exactness.{IsMask}
-use Rattle.window_exec.specs.Telling.{Tells}
 use Rattle.rule_table.specs.declared.table.Open as code
 use Rattle.rule_table.specs.Views.{opened_of}
-use Rattle.rule_table.specs.Table.{Opened, Rule}
-use Rattle.rule_table.specs.Valid.{numbers_of, IsState}
-use Rattle.table_audit.specs.Sides.{named_count, alphabet_registers}
-use Rattle.table_audit.specs.Shorter.{IsBelow, weight_in, is_named, values_in}
+use Rattle.rule_table.specs.Table.{Opened, Rule, numbers_of, IsState}
+use Rattle.table_audit.specs.Shorter.{named_count, alphabet_registers, IsBelow, weight_in, is_named, values_in}
 use Rattle.table_audit.proofs.Below.{below_is}
 use Rattle.table_audit.proofs.Numbering.{over_sequences}
 use Rattle.table_audit.proofs.Fitting.{ordered_of}
-use Rattle.table_learn.specs.Settings.{Settings, Window}
+use Rattle.table_learn.specs.Learnt.{Settings, Window, TellsFirst, IsSpentSearch, IsProvedBySolver, learnt_from}
 use Rattle.table_learn.specs.Given.{IsWindow}
-use Rattle.table_learn.specs.Learnt.{TellsFirst, IsSpentSearch, IsProvedBySolver, learnt_from}
 use Rattle.table_learn.specs.Tellings.{told, tells_apart}
 use Rattle.table_learn.specs.Fitness.{IsFit}
 use Rattle.table_learn.specs.Orders.{AreInOrder, weight_or_none}

@@ -4,10 +4,8 @@ use Rattle.std.specs.List.{list_any}
 use Rattle.std.proofs.lemmas.Bool.{cases_Bool, or_cases, or_left, or_right, true≢false}
 use Rattle.std.proofs.lemmas.List.Folds.{Any-from_list_any, list_any-from_Any, list_any-append}
 use Rattle.thumb_instr.specs.declared.instr.Instr.{Instr}
-use Rattle.thumb_model.specs.Items.{Values, one_of}
-use Rattle.thumb_model.specs.Effect.{after_all}
-use Rattle.window_exec.specs.Telling.{Differ, Tells}
-use Rattle.window_exec.specs.Seen.{Seen}
+use Rattle.thumb_model.specs.Effect.{Values, one_of, after_all}
+use Rattle.window_exec.specs.State.{Differ, Tells, Seen}
 use Rattle.bit_blast.specs.Exactness.{IsMask}
 use Rattle.table_audit.specs.Soundness.{items_in}
 use Rattle.table_audit.specs.Shorter.{values_in, IsTold}

@@ -10,26 +10,23 @@ use Rattle.std.proofs.lemmas.List.Sums.{sum_by-cons}
 use Rattle.thumb_instr.specs.declared.instr.Instr.{Instr}
 use Rattle.thumb_instr.specs.Items.{has}
 use Rattle.std.proofs.lemmas.List.{map_push, take_more}
-use Rattle.lrat_check.specs.Content.{Content, content_of}
-use Rattle.lrat_check.specs.Text.{text_of as text_of_line}
+use Rattle.lrat_check.specs.Text.{Content, content_of, text_of as text_of_line}
 use Rattle.lrat_check.specs.declared.line.Line.{Line}
 use Rattle.rule_table.specs.declared.table.Open as code
 use Rattle.rule_table.specs.Views.{opened_of}
 use Rattle.seq_enum.specs.Costs.{AreCosts}
-use Rattle.seq_enum.specs.Pools.{inside}
+use Rattle.seq_enum.specs.Alphabet.{inside}
 use Rattle.seq_enum.proofs.Bounds.{bounds}
-use Rattle.window_exec.specs.Seen.{Seen}
+use Rattle.window_exec.specs.State.{Seen}
 use Rattle.rule_table.specs.declared.header.Field.{Field}
 use Rattle.rule_table.specs.declared.header.Field.TheVariants as field
 use Rattle.rule_table.specs.declared.header.Head.{Head}
 use Rattle.rule_table.specs.declared.header.Head.TheVariants as head
 use Rattle.rule_table.specs.Header.{Header, heads, has_line, number_in, row, IsWithin, IsHeader}
-use Rattle.rule_table.specs.Table.{Opened, Rule, Table}
-use Rattle.rule_table.specs.Valid.{IsState}
+use Rattle.rule_table.specs.Table.{Opened, Rule, Table, IsState}
 use Rattle.rule_table.proofs.LinesTell.{within_small}
 use Rattle.rule_table.specs.Text.{Item, Number, Pool, Costs, State, Entry, Left, Right, Mask, Proof, Logged, Open, End, hex_of, instr_text, named, after_blanks, line_of, text_of_items, open_items, rule_items, said, cost_numbers, line_items, header_items, items_of}
-use Rattle.table_learn.specs.Settings.{Settings}
-use Rattle.table_learn.specs.Learnt.{text_length}
+use Rattle.table_learn.specs.Learnt.{Settings, text_length}
 use Rattle.table_learn.specs.Lengths.{lines_length, log_length, opens_length, rules_length, instr_length, item_length}
 use Rattle.table_learn.specs.Progress.{table_with}
 

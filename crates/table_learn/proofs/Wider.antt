@@ -6,8 +6,7 @@ use Rattle.thumb_instr.specs.declared.instr.Instr.{Instr}
 use Rattle.thumb_instr.specs.declared.instr.Instr.TheVariants as instr
 use Rattle.thumb_instr.specs.declared.kind.Kind.{Kind}
 use Rattle.thumb_instr.specs.declared.kind.Kind.TheVariants as kind
-use Rattle.seq_enum.specs.Lists.{numbers_from, held_in, grid2, grid3}
-use Rattle.seq_enum.specs.Alphabet.{rows, registers, others, wide, added, members, alphabet, IsOver}
+use Rattle.seq_enum.specs.Alphabet.{numbers_from, held_in, grid2, grid3, rows, registers, others, wide, added, members, alphabet, IsOver}
 use Rattle.table_learn.proofs.Elements.{none_in, first_or, here_in, later_in, from_flat, to_flat, from_map, to_map, from_filter, to_filter}
 
 -- each element of the one list is one of the other

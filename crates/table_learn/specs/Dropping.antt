@@ -1,10 +1,10 @@
 -- Entries before and after numbers are dropped.
 use Rattle.std.specs.Prelude.{ℕ, ◌≡◌, ◌≤◌, ◌+◌, ◌*◌, List, length, sum_by}
-use Rattle.window_exec.specs.Seen.{Seen}
-use Rattle.thumb_model.specs.Sides.{AreOver}
+use Rattle.window_exec.specs.State.{Seen}
+use Rattle.thumb_model.specs.Effect.{AreOver}
 use Rattle.rule_table.specs.Table.{Rule}
-use Rattle.table_audit.specs.Sides.{IsCanonicalSide}
-use Rattle.table_learn.specs.Settings.{Settings}
+use Rattle.table_audit.specs.Shorter.{IsCanonicalSide}
+use Rattle.table_learn.specs.Learnt.{Settings}
 use Rattle.table_learn.specs.Fitness.{without_told}
 use Rattle.table_learn.specs.Lengths.{opens_length}
 

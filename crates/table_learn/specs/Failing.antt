@@ -3,9 +3,8 @@ use Rattle.std.specs.Prelude.{ℕ, ◌≡◌, ◌<◌, ◌≤◌, ◌+◌, ◌*�
 use Rattle.rule_table.specs.Views.{table_of}
 use Rattle.table_learn.specs.declared.errors.LearnError.{LearnError}
 use Rattle.table_learn.specs.declared.errors.LearnError.TheVariants.{Wide, Full, Memory}
-use Rattle.table_learn.specs.Settings.{Settings, Window}
+use Rattle.table_learn.specs.Learnt.{Settings, Window, IsFull}
 use Rattle.table_audit.specs.Acceptance.{width_of}
-use Rattle.table_learn.specs.Learnt.{IsFull}
 
 -- when each error comes
 abbrev pub FailsAs : Settings → List Window → LearnError → Type 0

@@ -1,18 +1,14 @@
 -- Entries as they are while more states are found.
 use Rattle.std.specs.Prelude.{ℕ, ◌≡◌, ◌⊎◌, Bool, true, false, not, List, All, Option, Some, None, filter, length, slice_get}
 use Rattle.thumb_instr.specs.declared.instr.Instr.{Instr}
-use Rattle.seq_enum.specs.Lists.{ascends_from}
-use Rattle.seq_enum.specs.Alphabet.{IsOver}
-use Rattle.window_exec.specs.Seen.{Seen}
+use Rattle.seq_enum.specs.Alphabet.{ascends_from, IsOver}
+use Rattle.window_exec.specs.State.{Seen}
 use Rattle.lrat_check.specs.Text.{IsLine}
 use Rattle.bit_blast.specs.Exactness.{IsMask}
-use Rattle.rule_table.specs.Table.{Opened, Rule}
-use Rattle.rule_table.specs.Valid.{numbers_of}
-use Rattle.table_audit.specs.Sides.{alphabet_registers, formula_against}
-use Rattle.table_audit.specs.Shorter.{IsBelow, below_at, is_named}
-use Rattle.table_learn.specs.Settings.{Settings}
+use Rattle.rule_table.specs.Table.{Opened, Rule, numbers_of}
+use Rattle.table_audit.specs.Shorter.{alphabet_registers, formula_against, IsBelow, below_at, is_named}
+use Rattle.table_learn.specs.Learnt.{Settings, learnt_from, KeepsOrLowers, IsProvedBySolver, IsSpentSearch}
 use Rattle.table_learn.specs.Given.{IsWindow}
-use Rattle.table_learn.specs.Learnt.{learnt_from, KeepsOrLowers, IsProvedBySolver, IsSpentSearch}
 use Rattle.table_learn.specs.Tellings.{told}
 
 -- a number is that of a sequence below the right side, none of these states tells it, and its log is the solver's

@@ -1,17 +1,14 @@
 -- What becomes of a sequence below a window.
 use Rattle.std.specs.Prelude.{ℕ, ◌≡◌, true, false, List, All, map}
 use Rattle.thumb_instr.specs.declared.instr.Instr.{Instr}
-use Rattle.window_exec.specs.State.{seen}
-use Rattle.window_exec.specs.Seen.{Seen}
-use Rattle.lrat_check.specs.Content.{content_of}
-use Rattle.lrat_check.specs.Text.{IsLine}
+use Rattle.window_exec.specs.State.{seen, Seen}
+use Rattle.lrat_check.specs.Text.{content_of, IsLine}
 use Rattle.bit_blast.specs.Differences.{sides_formula}
-use Rattle.rule_table.specs.Valid.{IsState}
+use Rattle.rule_table.specs.Table.{IsState}
 use Rattle.table_learn.specs.declared.window.Window as code
 use Rattle.table_learn.specs.declared.trying.Finding.{Finding}
 use Rattle.table_learn.specs.declared.trying.Finding.TheVariants.{Told, State, Proof, Log}
-use Rattle.table_learn.specs.Settings.{Settings, Window}
-use Rattle.table_learn.specs.Learnt.{IsRefutation, IsSpentSearch}
+use Rattle.table_learn.specs.Learnt.{Settings, Window, IsRefutation, IsSpentSearch}
 use Rattle.table_learn.specs.Tellings.{told, tells_apart}
 use Rattle.table_learn.specs.Searching.{formula_for}
 

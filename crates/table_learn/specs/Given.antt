@@ -4,10 +4,10 @@ use Rattle.thumb_instr.specs.declared.instr.Instr.{Instr}
 use Rattle.thumb_instr.specs.declared.items.Mask.{Mask}
 use Rattle.seq_enum.specs.Alphabet.{IsOver}
 use Rattle.bit_blast.specs.Exactness.{IsMaskOver}
-use Rattle.table_audit.specs.Sides.{named_count, IsCanonicalSide}
+use Rattle.table_audit.specs.Shorter.{named_count, IsCanonicalSide}
 use Rattle.rule_table.specs.declared.header.Header as code
 use Rattle.rule_table.specs.Views.{header_of}
-use Rattle.table_learn.specs.Settings.{Settings, Window}
+use Rattle.table_learn.specs.Learnt.{Settings, Window}
 
 abbrev pub settings_of : code.Header → Settings
 settings_of s = header_of s

@@ -1,8 +1,7 @@
 -- The tables of outcomes that are kept from window to window.
 use Rattle.std.specs.Prelude.{ℕ, ◌≡◌, List, Some, slice_get}
 use Rattle.window_exec.specs.declared.state.WState.{WState}
-use Rattle.window_exec.specs.State.{seen}
-use Rattle.window_exec.specs.Seen.{Seen}
+use Rattle.window_exec.specs.State.{seen, Seen}
 use Rattle.outcomes.specs.declared.tables.Tables.{Tables}
 use Rattle.outcomes.specs.Outcomes.{Extent}
 use Rattle.outcomes.specs.Tables.{AreTables, IsFor}

@@ -1,21 +1,31 @@
--- Tables that are learnt from windows.
-use Rattle.std.specs.Global.{Global}
-use Rattle.std.specs.Prelude.{ℕ, ◌≡◌, ◌<◌, ◌≤◌, ◌⊎◌, List, Some, All, Vec, length, map, slice_get, take}
+-- Settings, and the tables learnt by them.
+use Rattle.std.specs.Prelude.{ℕ, List, ◌≡◌, ◌<◌, ◌≤◌, ◌⊎◌, Some, All, Vec, length, map, slice_get, take}
 use Rattle.thumb_instr.specs.declared.instr.Instr.{Instr}
-use Rattle.window_exec.specs.Telling.{Tells}
-use Rattle.window_exec.specs.Seen.{Seen}
+use Rattle.rule_table.specs.Header.{Header}
+use Rattle.std.specs.Global.{Global}
+use Rattle.window_exec.specs.State.{Tells, Seen}
 use Rattle.cnf_gates.specs.Cnf.{Cnf}
 use Rattle.lrat_check.specs.declared.line.Line.{Line}
-use Rattle.lrat_check.specs.Content.{Content, content_of}
+use Rattle.lrat_check.specs.Text.{Content, content_of}
 use Rattle.cdcl_core.specs.declared.solving.Verdict.TheVariants.{Unsat, Spent}
 use Rattle.cdcl_core.specs.Solved.{VerdictOf}
-use Rattle.rule_table.specs.Table.{Opened, Rule, Table}
+use Rattle.rule_table.specs.Table.{Opened, Rule, Table, IsTable}
 use Rattle.rule_table.specs.Text.{text_of}
-use Rattle.rule_table.specs.Valid.{IsTable}
-use Rattle.table_audit.specs.Sides.{formula_of, formula_against}
-use Rattle.table_audit.specs.Shorter.{IsBelow, IsTold, values_in}
+use Rattle.table_audit.specs.Shorter.{formula_of, formula_against, IsBelow, IsTold, values_in}
 use Rattle.table_audit.specs.Acceptance.{IsAccepted}
-use Rattle.table_learn.specs.Settings.{Settings, Window}
+
+-- What is learnt from, and with which limits.
+
+-- the settings are the header that the table gets
+abbrev pub Settings : Type 0
+Settings = Header
+
+-- a window, and the items that may be live after it, as the bits of their numbers
+pub record Window : Type 0 where
+  pub seq : List Instr
+  pub mask : ℕ
+
+-- Tables that are learnt from windows.
 
 -- ---- entries ----
 

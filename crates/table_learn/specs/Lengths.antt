@@ -3,7 +3,7 @@ use Rattle.std.specs.Prelude.{ℕ, ◌+◌, List, length, map, if◌then◌else�
 use Rattle.std.specs.List.{flat_map}
 use Rattle.thumb_instr.specs.declared.instr.Instr.{Instr}
 use Rattle.thumb_instr.specs.Items.{has}
-use Rattle.lrat_check.specs.Content.{Content}
+use Rattle.lrat_check.specs.Text.{Content}
 use Rattle.rule_table.specs.Table.{Opened, Rule}
 use Rattle.rule_table.specs.Text.{Item, Logged, text_of_items, instr_text, open_items, rule_items}
 

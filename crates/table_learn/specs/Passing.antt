@@ -1,17 +1,15 @@
 -- Learnt tables pass the audit.
 use Rattle.std.specs.Prelude.{◌≡◌, List, Result, Ok, IfErr}
 use Rattle.rule_table.specs.declared.table.Table as code
-use Rattle.rule_table.specs.Table.{Table}
+use Rattle.rule_table.specs.Table.{Table, IsTable}
 use Rattle.rule_table.specs.Text.{text_of}
-use Rattle.rule_table.specs.Valid.{IsTable}
 use Rattle.rule_table.specs.Views.{table_of}
 use Rattle.rule_table.specs.Reading.{Reads}
-use Rattle.proof_logs.specs.Verdicts.{Answers}
+use Rattle.proof_logs.specs.Proofs.{Answers}
 use Rattle.table_audit.specs.declared.errors.AuditError.{AuditError}
 use Rattle.table_audit.specs.declared.errors.AuditError.TheVariants.{Memory}
 use Rattle.table_audit.specs.Acceptance.{TableVerdict}
-use Rattle.table_learn.specs.Settings.{Settings, Window}
-use Rattle.table_learn.specs.Learnt.{Learnt}
+use Rattle.table_learn.specs.Learnt.{Settings, Window, Learnt}
 
 -- what the audit answers of the table that is read of a learnt table's text is no refusal
 abbrev pub LearntPass : Type 0

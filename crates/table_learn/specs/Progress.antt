@@ -1,15 +1,12 @@
 -- What holds after some windows.
 use Rattle.std.specs.Prelude.{ℕ, ◌≡◌, ◌≤◌, ◌+◌, ◌*◌, List, [], Some, All, length, map, slice_get, take}
-use Rattle.window_exec.specs.State.{seen}
-use Rattle.window_exec.specs.Seen.{Seen}
+use Rattle.window_exec.specs.State.{seen, Seen}
 use Rattle.fingerprints.specs.Seeded.{seeded_states}
-use Rattle.rule_table.specs.Table.{Rule, Table}
-use Rattle.rule_table.specs.Valid.{IsState}
+use Rattle.rule_table.specs.Table.{Rule, Table, IsState}
 use Rattle.rule_table.specs.Views.{rule_of}
 use Rattle.table_learn.specs.declared.learning.Learner.{Learner}
-use Rattle.table_learn.specs.Settings.{Settings, Window}
+use Rattle.table_learn.specs.Learnt.{Settings, Window, learnt_from, AreEarned, text_length}
 use Rattle.table_audit.specs.Acceptance.{width_of}
-use Rattle.table_learn.specs.Learnt.{learnt_from, AreEarned, text_length}
 use Rattle.table_learn.specs.Fitness.{IsFit}
 use Rattle.table_learn.specs.Keeping.{AreKept}
 

@@ -2,19 +2,15 @@
 use Rattle.std.specs.Prelude.{ℕ, ◌≡◌, ◌<◌, ◌≤◌, ◌⊎◌, ◌+◌, ◌*◌, ◌++◌, Bool, true, false, List, [], ◌∷◌, Contains, Option, Some, None, is_some, length, nat_lt, slice_get, take, if◌then◌else◌}
 use Rattle.std.specs.List.{All}
 use Rattle.thumb_instr.specs.declared.instr.Instr.{Instr}
-use Rattle.seq_enum.specs.Lists.{ascends_from}
-use Rattle.seq_enum.specs.Alphabet.{alphabet}
-use Rattle.window_exec.specs.Seen.{Seen}
+use Rattle.seq_enum.specs.Alphabet.{ascends_from, alphabet}
+use Rattle.window_exec.specs.State.{Seen}
 use Rattle.lrat_check.specs.Text.{IsLine}
-use Rattle.rule_table.specs.Table.{Opened}
-use Rattle.rule_table.specs.Valid.{numbers_of, IsState}
+use Rattle.rule_table.specs.Table.{Opened, numbers_of, IsState}
 use Rattle.cnf_gates.specs.Cnf.{Cnf}
 use Rattle.bit_blast.specs.Differences.{sides_formula}
-use Rattle.table_audit.specs.Sides.{alphabet_registers}
-use Rattle.table_audit.specs.Shorter.{IsBelow, sequences_below, below_at, is_named}
+use Rattle.table_audit.specs.Shorter.{alphabet_registers, IsBelow, sequences_below, below_at, is_named}
 use Rattle.table_audit.specs.Acceptance.{lengths_below}
-use Rattle.table_learn.specs.Settings.{Settings, Window}
-use Rattle.table_learn.specs.Learnt.{TellsFirst, IsSpentSearch}
+use Rattle.table_learn.specs.Learnt.{Settings, Window, TellsFirst, IsSpentSearch}
 use Rattle.table_learn.specs.Orders.{AreInOrder, weight_at}
 use Rattle.table_learn.specs.Tellings.{told}
 

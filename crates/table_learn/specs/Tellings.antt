@@ -2,9 +2,8 @@
 use Rattle.std.specs.Prelude.{ℕ, ◌==◌, Bool, not, List}
 use Rattle.std.specs.List.{list_any}
 use Rattle.thumb_instr.specs.declared.instr.Instr.{Instr}
-use Rattle.thumb_model.specs.Items.{Values}
-use Rattle.thumb_model.specs.Effect.{after_all}
-use Rattle.window_exec.specs.Seen.{Seen}
+use Rattle.thumb_model.specs.Effect.{Values, after_all}
+use Rattle.window_exec.specs.State.{Seen}
 use Rattle.table_audit.specs.Soundness.{items_in}
 use Rattle.table_audit.specs.Shorter.{values_in}
 

@@ -2,14 +2,12 @@
 use Rattle.std.specs.Global.{Global}
 use Rattle.std.specs.Prelude.{ℕ, ◌≡◌, ◌∷◌, ◌++◌, List, [], All, Option, Some, None, Vec, map, slice_get}
 use Rattle.thumb_instr.specs.declared.instr.Instr.{Instr}
-use Rattle.window_exec.specs.Seen.{Seen}
+use Rattle.window_exec.specs.State.{Seen}
 use Rattle.lrat_check.specs.declared.line.Line.{Line}
-use Rattle.lrat_check.specs.Content.{content_of}
-use Rattle.lrat_check.specs.Text.{IsLine}
+use Rattle.lrat_check.specs.Text.{content_of, IsLine}
 use Rattle.rule_table.specs.Table.{Opened}
 use Rattle.table_audit.specs.Shorter.{IsBelow}
-use Rattle.table_learn.specs.Settings.{Settings, Window}
-use Rattle.table_learn.specs.Learnt.{IsRefutation}
+use Rattle.table_learn.specs.Learnt.{Settings, Window, IsRefutation}
 use Rattle.table_learn.specs.Searching.{formula_for, IsSearching}
 
 -- the sequence of a number, with the solver's proof that no state tells it from the window

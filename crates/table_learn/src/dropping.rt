@@ -1,11 +1,10 @@
 //! Open numbers that a later state tells are dropped, with their logs.
 ghost use Rattle.std.specs.Prelude.{◌≡◌, ◌<◌, ◌≤◌, ◌+◌, ◌*◌, ℕ, true, All, IfOk, OnOk, filter, length, map};
 ghost use Rattle.window_exec.specs.State.{seen};
-ghost use Rattle.thumb_model.specs.Sides.{AreOver};
+ghost use Rattle.thumb_model.specs.Effect.{AreOver};
 ghost use Rattle.rule_table.specs.Table.{Rule};
 ghost use Rattle.rule_table.specs.Views.{opened_of, rule_of};
-ghost use Rattle.table_audit.specs.Sides.{alphabet_registers, IsCanonicalSide};
-ghost use Rattle.table_audit.specs.Shorter.{below_at};
+ghost use Rattle.table_audit.specs.Shorter.{alphabet_registers, IsCanonicalSide, below_at};
 ghost use Rattle.table_learn.specs.Given.{settings_of};
 ghost use Rattle.table_learn.specs.Fitness.{tells_number, stays_open, without_told};
 ghost use Rattle.table_learn.specs.Lengths.{opens_length, rules_length};

@@ -4,9 +4,9 @@
 //! The first state tells nearly all sequences, and what it leaves is run on the other listed states. So a state that is listed later needs no
 //! other table.
 ghost use Rattle.std.specs.Prelude.{◌≡◌, ◌<◌, ◌≤◌, ◌+◌, IfOk, length, map};
-ghost use Rattle.thumb_model.specs.Sides.{AreOver};
+ghost use Rattle.thumb_model.specs.Effect.{AreOver};
 ghost use Rattle.window_exec.specs.State.{seen};
-ghost use Rattle.table_audit.specs.Sides.{alphabet_registers};
+ghost use Rattle.table_audit.specs.Shorter.{alphabet_registers};
 ghost use Rattle.table_learn.specs.Given.{settings_of, IsWindow};
 ghost use Rattle.table_learn.specs.Found.{window_in};
 ghost use Rattle.table_audit.specs.Acceptance.{lengths_below};

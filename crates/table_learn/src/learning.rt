@@ -1,15 +1,14 @@
 //! A table, window by window.
 ghost use Rattle.std.specs.Prelude.{◌≡◌, ◌<◌, ◌≤◌, ◌+◌, ◌-◌, ◌^◌, ◌∷◌, ◌++◌, [], ℕ, List, true, IfErr, IfOk, drop, length, map};
-ghost use Rattle.rule_table.specs.Valid.{IsTable};
+ghost use Rattle.rule_table.specs.Table.{IsTable};
 ghost use Rattle.window_exec.specs.State.{seen};
 ghost use Rattle.rule_table.specs.Header.{IsHeader};
 ghost use Rattle.rule_table.specs.Views.{rule_of, table_of};
-ghost use Rattle.table_audit.specs.Sides.{alphabet_registers};
+ghost use Rattle.table_audit.specs.Shorter.{alphabet_registers};
 ghost use Rattle.table_audit.specs.Acceptance.{width_of};
-ghost use Rattle.table_learn.specs.Settings.{Window as Model};
+ghost use Rattle.table_learn.specs.Learnt.{Window as Model, Learnt, text_limit, text_length};
 ghost use Rattle.table_learn.specs.Given.{settings_of, window_of, AreInLimits, AreWindows, IsWindow};
 ghost use Rattle.table_learn.specs.Found.{window_in};
-ghost use Rattle.table_learn.specs.Learnt.{Learnt, text_limit, text_length};
 ghost use Rattle.table_learn.specs.Failing.{FailsAs, SpendsAs, learn_cost};
 ghost use Rattle.table_learn.specs.Progress.{HasLearnt, table_with, states_in, rules_in, search_cost, drop_cost};
 

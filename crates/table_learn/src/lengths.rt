@@ -1,6 +1,6 @@
 //! How many bytes the lines of a table's text have, without writing the whole.
 ghost use Rattle.std.specs.Prelude.{◌≡◌, ◌<◌, ◌+◌, ◌*◌, [], ◌∷◌, IfOk, length, map, sum_by, decimal};
-ghost use Rattle.lrat_check.specs.Content.{content_of};
+ghost use Rattle.lrat_check.specs.Text.{content_of};
 ghost use Rattle.rule_table.specs.Text as item;
 ghost use Rattle.rule_table.specs.Text.{rule_items, open_items};
 ghost use Rattle.rule_table.specs.Views.{rule_of, opened_of};

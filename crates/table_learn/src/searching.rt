@@ -1,12 +1,10 @@
 //! The right side of a window: the first of the sequences below it that no state tells from it.
 ghost use Rattle.std.specs.Prelude.{◌≡◌, ◌<◌, ◌≤◌, ◌+◌, ◌*◌, true, IfOk, OnOk, length, map};
 ghost use Rattle.window_exec.specs.State.{seen};
-ghost use Rattle.seq_enum.specs.Lists.{ascends_from};
-ghost use Rattle.seq_enum.specs.Alphabet.{alphabet};
-ghost use Rattle.rule_table.specs.Valid.{numbers_of};
+ghost use Rattle.seq_enum.specs.Alphabet.{ascends_from, alphabet};
+ghost use Rattle.rule_table.specs.Table.{numbers_of};
 ghost use Rattle.rule_table.specs.Views.{opened_of, rule_of};
-ghost use Rattle.table_audit.specs.Sides.{alphabet_registers};
-ghost use Rattle.table_audit.specs.Shorter.{IsBelow};
+ghost use Rattle.table_audit.specs.Shorter.{alphabet_registers, IsBelow};
 ghost use Rattle.table_learn.specs.Given.{settings_of, IsWindow};
 ghost use Rattle.table_learn.specs.Learnt.{learnt_from};
 ghost use Rattle.table_learn.specs.Fitness.{IsFit};

@@ -1,7 +1,7 @@
 //! The settings are the header that a learnt table gets, so that the audit asks with the same ones.
 ghost use Rattle.std.specs.Prelude.{◌≡◌, ◌<◌, ◌^◌, true, IfSome};
 ghost use Rattle.seq_enum.specs.Costs.{AreCosts};
-ghost use Rattle.seq_enum.specs.Pools.{is_pool};
+ghost use Rattle.seq_enum.specs.Alphabet.{is_pool};
 
 pub use rule_table::Header as Settings;
 

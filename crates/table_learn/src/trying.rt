@@ -1,10 +1,10 @@
 //! One sequence below a window: the listed states, and then the solver.
 ghost use Rattle.std.specs.Prelude.{◌≡◌, ◌<◌, ◌≤◌, ◌+◌, ◌*◌, OnOk, IfOk, length, map};
 ghost use Rattle.std.specs.List.{list_any};
-ghost use Rattle.thumb_model.specs.Sides.{AreOver};
+ghost use Rattle.thumb_model.specs.Effect.{AreOver};
 ghost use Rattle.bit_blast.specs.Exactness.{IsMaskOver};
 ghost use Rattle.window_exec.specs.State.{seen};
-ghost use Rattle.table_audit.specs.Sides.{alphabet_registers};
+ghost use Rattle.table_audit.specs.Shorter.{alphabet_registers};
 ghost use Rattle.table_learn.specs.Tellings.{tells_apart};
 ghost use Rattle.table_learn.specs.Searching.{query_cost};
 ghost use Rattle.table_learn.specs.Given.{settings_of};

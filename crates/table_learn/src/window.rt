@@ -1,8 +1,7 @@
 //! A window that is learnt.
 ghost use Rattle.std.specs.Prelude.{◌≡◌, ◌<◌, ◌≤◌, ◌-◌, IfSome, length, min};
-ghost use Rattle.thumb_model.specs.Sides.{AreOver};
-ghost use Rattle.table_audit.specs.Sides.{alphabet_registers, IsCanonicalSide};
-ghost use Rattle.table_audit.specs.Shorter.{below_at, weight_in};
+ghost use Rattle.thumb_model.specs.Effect.{AreOver};
+ghost use Rattle.table_audit.specs.Shorter.{alphabet_registers, IsCanonicalSide, below_at, weight_in};
 ghost use Rattle.table_learn.specs.Given.{settings_of};
 
 use crate::settings::Settings;

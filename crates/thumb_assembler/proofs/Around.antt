@@ -6,16 +6,15 @@ use Rattle.std.proofs.lemmas.Slice.Eq.{bytes_eq-Decides}
 use Rattle.std.proofs.Math.Bool.{and-false}
 use Rattle.thumb_instr.specs.declared.instr.Instr.{Instr}
 use Rattle.thumb_instr.specs.declared.instr.Instr.TheVariants as instr
-use Rattle.thumb_instr.specs.Distance.{bytes_of}
+use Rattle.thumb_instr.specs.Items.{bytes_of}
 use Rattle.thumb_syntax.specs.Whole.{is_whole}
 use Rattle.thumb_model.specs.Listing.{Name, Mention, Statement, Runs, Line, Place, Op, Code, places_in, places_of, labels_from, code_of, place_of, is_op_place, has_label, place_mentions, is_mentioned, is_call_instr, call_count}
 use Rattle.thumb_model.specs.Layout.{instr_size, size_at, end_of, is_among, label_address, set_address, cleared, or_else, lies_in, distance, literal_base}
-use Rattle.thumb_model.specs.Naming.{Naming, Fits, points, is_in_range}
+use Rattle.thumb_model.specs.Naming.{Naming, Fits, points, is_in_range, laid, word_by}
 use Rattle.thumb_model.specs.States.{World, Around, Inside, External}
 use Rattle.thumb_model.specs.Acts.{act}
 use Rattle.thumb_model.specs.Steps.{label_place, point_among, set_bit, landing, word_of_mention, word_of_place, word_behind, literal_word, target_at, around_of}
-use Rattle.thumb_model.specs.Laid.{laid, word_by}
-use Rattle.thumb_assembler.specs.Bytes.{lies_at, mention_lies, Aims, IsSetBy}
+use Rattle.thumb_assembler.specs.Bytes.{lies_at, mention_lies, Aims, IsSetBy, lies_nowhere, branch_lost, flaw_of, flaws_from, or_first}
 use Rattle.thumb_model.proofs.Tied.{TargetTied}
 use Rattle.listing_parser.specs.TableWords.{words_from}
 use Rattle.listing_parser.specs.Targets.{from_label, reaches, is_literal, is_code_label, is_label}
@@ -25,9 +24,7 @@ use Rattle.label_layout.proofs.Sums.{at_end}
 use Rattle.thumb_assembler.specs.declared.errors.Flaw.{Flaw}
 use Rattle.thumb_assembler.specs.declared.errors.Flaw.TheVariants as flaw
 use Rattle.thumb_assembler.specs.Fair.{label_in, is_fair}
-use Rattle.thumb_assembler.specs.Refusals.{lies_nowhere, branch_lost, flaw_of, flaws_from, or_first}
-use Rattle.thumb_assembler.specs.Runs.{Loaded, word_at, is_code_address, aim_from, goes_to, target_in, literal_in, following, around_in, lands_at}
-use Rattle.thumb_assembler.specs.Following.{IsAssembled, loaded}
+use Rattle.thumb_assembler.specs.Runs.{Loaded, word_at, is_code_address, aim_from, goes_to, target_in, literal_in, following, around_in, lands_at, IsAssembled, loaded}
 use Rattle.thumb_assembler.proofs.Places.{no_plus, unlabelled}
 use Rattle.thumb_assembler.proofs.Loose.{LandingLoose, LooksLoose}
 use Rattle.thumb_assembler.proofs.Pushed.{aims_size}

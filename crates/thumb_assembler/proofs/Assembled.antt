@@ -4,14 +4,13 @@ use Rattle.std.proofs.lemmas.Bool.{and_parts}
 use Rattle.thumb_model.specs.Listing.{Name, Line}
 use Rattle.thumb_model.specs.Layout.{Fault, Layable, size_at, end_of, lies_in, fault_at, faults_from}
 use Rattle.thumb_model.specs.Layout as layout
-use Rattle.thumb_assembler.specs.Bytes.{AreLineBytes, IsSetBy, AreImage}
+use Rattle.thumb_assembler.specs.Bytes.{AreLineBytes, IsSetBy, AreImage, flaw_of, flaws_from, first_flaw, or_first}
 use Rattle.std.proofs.Math.ListN.{drop_of_length-le}
 use Rattle.listing_parser.specs.declared.line.Line.{Line as Lines}
 use Rattle.listing_parser.specs.Views.{line_view}
 use Rattle.label_layout.proofs.Sums.{at_end, next_line}
 use Rattle.thumb_assembler.specs.declared.errors.Flaw.{Flaw}
 use Rattle.thumb_assembler.specs.Fair.{is_fair, are_fair}
-use Rattle.thumb_assembler.specs.Refusals.{flaw_of, flaws_from, first_flaw, or_first}
 use Rattle.thumb_assembler.specs.Pushes.{placed, PushedLaid}
 use Rattle.thumb_assembler.proofs.Places.{size_even}
 

@@ -9,16 +9,14 @@ use Rattle.thumb_instr.specs.declared.operation.Hint.TheVariants as hint
 use Rattle.thumb_table.specs.Table.{width, packed, pieces, row_of, code_of, Encodes}
 use Rattle.thumb_model.specs.Listing.{Name, Mention, Value, Number, OfName, Statement, Nothing, Runs, Words, Aligns, Sets, Line, Place, Word, places_in, places_of}
 use Rattle.thumb_model.specs.Layout.{instr_size, padding, size_at, end_of}
-use Rattle.thumb_model.specs.Naming.{Naming}
+use Rattle.thumb_model.specs.Naming.{Naming, laid}
 use Rattle.thumb_model.specs.Steps.{word_of_value}
-use Rattle.thumb_model.specs.Laid.{laid}
 use Rattle.thumb_assembler.specs.Bytes.{Laid, Aims, mention_lies, half_bytes, word_bytes, words_bytes, nops, IsInstrBytes, IsEncoded, IsStatementBytes, AreLineBytes, IsSetBy}
 use Rattle.listing_parser.specs.Targets.{onward, reaches}
 use Rattle.label_layout.proofs.Sums.{at_end}
 use Rattle.thumb_assembler.specs.Fair.{is_fair, are_fair}
 use Rattle.thumb_assembler.specs.Pushes.{placed}
-use Rattle.thumb_assembler.specs.Runs.{Loaded, byte_at, half_at, word_at, IsFetched}
-use Rattle.thumb_assembler.specs.Following.{IsAssembled, loaded}
+use Rattle.thumb_assembler.specs.Runs.{Loaded, byte_at, half_at, word_at, IsFetched, IsAssembled, loaded}
 use Rattle.thumb_assembler.proofs.Fairness.{listed_fair}
 use Rattle.thumb_assembler.proofs.Places.{padding_even}
 use Rattle.thumb_assembler.proofs.Codes.{eight_bits}

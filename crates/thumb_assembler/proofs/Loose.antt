@@ -6,12 +6,12 @@ use Rattle.thumb_instr.specs.declared.instr.Instr.{Instr}
 use Rattle.thumb_instr.specs.declared.instr.Instr.TheVariants as instr
 use Rattle.thumb_instr.specs.Items.{has}
 use Rattle.thumb_instr.specs.Shape.{registers_in}
-use Rattle.thumb_model.specs.Items.{sp}
+use Rattle.thumb_model.specs.Effect.{sp}
 use Rattle.thumb_model.specs.States.{World, Event, Astray, Around, Act, Landing, Goes, Leaves, Strays, Over}
 use Rattle.thumb_model.specs.Accesses.{device_words, load_events}
 use Rattle.thumb_model.specs.Acts.{branches, with_pc, pops, calls_by, popped_word, act}
 use Rattle.thumb_model.proofs.Tied.{TargetTied, LandingTied, ActTied, act_tied}
-use Rattle.thumb_assembler.specs.Following.{ends_in_loss}
+use Rattle.thumb_assembler.specs.Runs.{ends_in_loss}
 
 -- the run ends where no code is
 pub record IsLostAct (a : Act) : Type 0 where

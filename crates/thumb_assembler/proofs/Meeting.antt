@@ -5,19 +5,17 @@ use Rattle.thumb_model.proofs.Follow.{alike_on}
 use Rattle.thumb_instr.specs.declared.instr.Instr.{Instr}
 use Rattle.thumb_instr.specs.declared.instr.Instr.TheVariants as instr
 use Rattle.thumb_instr.specs.declared.operation.Hint.TheVariants as hint
-use Rattle.thumb_model.specs.Items.{assigned}
+use Rattle.thumb_model.specs.Effect.{assigned}
 use Rattle.thumb_model.specs.Listing.{Name, Mention, Runs, Line, Place, Op, Word, Code, places_in, places_of, code_of, place_of, is_op_place}
 use Rattle.thumb_model.specs.Layout.{instr_size, size_at, end_of}
-use Rattle.thumb_model.specs.Naming.{Naming, Fits}
+use Rattle.thumb_model.specs.Naming.{Naming, Fits, laid}
 use Rattle.thumb_model.specs.States.{Answer, World, Event, Fell, Act, Next, On, Stay, To, Over, At, Here, Ended, State, Around}
 use Rattle.thumb_model.specs.Acts.{act}
 use Rattle.thumb_model.specs.Steps.{around_of, arrives, does, falls, step, step_at, step_on, times}
-use Rattle.thumb_model.specs.Laid.{laid}
 use Rattle.thumb_model.specs.Same.{Alike, has_ended, here_or_ended, begun}
 use Rattle.thumb_model.proofs.Tied.{NextTied, ActTied}
 use Rattle.thumb_assembler.specs.Bytes.{IsSetBy}
-use Rattle.thumb_assembler.specs.Runs.{Loaded, around_in, following, ImageStep, acts, ImageSteps, none, more}
-use Rattle.thumb_assembler.specs.Following.{IsAssembled, loaded, ends_in_loss, IsLost, Meets, begun_in, Follows}
+use Rattle.thumb_assembler.specs.Runs.{Loaded, around_in, following, ImageStep, acts, ImageSteps, none, more, IsAssembled, loaded, ends_in_loss, IsLost, Meets, begun_in, Follows}
 use Rattle.thumb_assembler.specs.Promises.{ImagesFollow, ImagesFollowGiven}
 use Rattle.thumb_assembler.proofs.Loose.{IsLostAct, ends_behind, act_loose}
 use Rattle.thumb_assembler.proofs.Cuts.{next_end, next_places, next_cut, two_or_four}

@@ -10,13 +10,11 @@ use Rattle.thumb_instr.specs.declared.instr.Instr.{Instr}
 use Rattle.thumb_instr.specs.declared.instr.Instr.TheVariants as instr
 use Rattle.thumb_model.specs.Listing.{Name, Mention, Statement, Nothing, Runs, Words, Aligns, Sets, Line, Place, Label, places_in, places_of, labels_at, labels_from, place_among, place_of, code_of}
 use Rattle.thumb_model.specs.Layout.{less, distance, branch_base, instr_fault, instr_size, padding, size_at, is_among, label_address, set_address, cleared, or_else, lies_in, literal_base, branch_fault, literal_fault, aim_fault, Fault, Range, Align}
-use Rattle.thumb_model.specs.Naming.{Naming}
-use Rattle.thumb_model.specs.Laid.{word_by, laid}
-use Rattle.thumb_assembler.specs.Bytes.{lies_at, mention_lies, IsSetBy}
+use Rattle.thumb_model.specs.Naming.{Naming, word_by, laid}
+use Rattle.thumb_assembler.specs.Bytes.{lies_at, mention_lies, IsSetBy, lies_nowhere, may_leave}
 use Rattle.listing_parser.specs.Targets.{from_label, reaches, is_literal, is_code_label, is_aimed}
 use Rattle.thumb_machine.specs.Words.{fixed_by, fixed_word}
 use Rattle.thumb_assembler.specs.Fair.{label_in, keeps_even, is_fair, are_fair}
-use Rattle.thumb_assembler.specs.Refusals.{lies_nowhere, may_leave}
 
 -- ---- words of names ----
 

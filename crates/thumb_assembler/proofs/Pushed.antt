@@ -6,13 +6,12 @@ use Rattle.thumb_instr.specs.declared.instr.Instr.TheVariants as instr
 use Rattle.thumb_model.specs.Listing.{Name, Mention, Value, Number, OfName, Nothing, Runs, Words, Aligns, Sets, Line}
 use Rattle.thumb_model.specs.Layout.{instr_size, padding, lies_in}
 use Rattle.thumb_model.specs.Steps.{word_of_value}
-use Rattle.thumb_model.specs.Laid.{laid}
-use Rattle.thumb_assembler.specs.Bytes.{nops, word_bytes, words_bytes, Aims, IsSetBy}
+use Rattle.thumb_model.specs.Naming.{laid}
+use Rattle.thumb_assembler.specs.Bytes.{nops, word_bytes, words_bytes, Aims, IsSetBy, lies_inside, may_leave, branch_lost, value_lost, values_lost, flaw_of}
 use Rattle.thumb_machine.specs.Words.{fixed_word}
 use Rattle.thumb_assembler.specs.declared.errors.Flaw.{Flaw}
 use Rattle.thumb_assembler.specs.declared.errors.Flaw.TheVariants as flaw
 use Rattle.thumb_assembler.specs.Fair.{is_fair}
-use Rattle.thumb_assembler.specs.Refusals.{lies_inside, may_leave, branch_lost, value_lost, values_lost, flaw_of}
 use Rattle.thumb_assembler.specs.Pushes.{PushedCode, PushedLaid, Pushes, PushedValue, PushedValues, PushesValues}
 use Rattle.thumb_assembler.proofs.Codes.{nops_length}
 use Rattle.thumb_assembler.proofs.Places.{word_is, word_lost, word_found, lies_there, lost_leaves, padding_even}

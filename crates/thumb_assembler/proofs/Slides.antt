@@ -11,16 +11,14 @@ use Rattle.thumb_instr.specs.declared.instr.Instr.TheVariants as instr
 use Rattle.thumb_instr.specs.declared.operation.Hint.TheVariants as hint
 use Rattle.thumb_model.specs.Listing.{Name, Mention, Value, Statement, Runs, Words, Aligns, Line, Place, Op, Word, Label, Code, places_in, places_of, labels_at, labels_from, code_of, place_of, is_op_place, is_code, is_call_instr, call_count}
 use Rattle.thumb_model.specs.Layout.{instr_size, padding, size_at, end_of, is_among, label_address}
-use Rattle.thumb_model.specs.Naming.{Naming, Fits, points_of, returns_from, points, is_odd, is_in_range}
+use Rattle.thumb_model.specs.Naming.{Naming, Fits, points_of, returns_from, points, is_odd, is_in_range, laid, word_by}
 use Rattle.thumb_model.specs.Steps.{label_place, least_or, point_among, landing}
-use Rattle.thumb_model.specs.Laid.{laid, word_by}
 use Rattle.listing_parser.proofs.LabelLemmas.{one_label, code_place}
 use Rattle.label_layout.specs.Addresses.{addresses_in, addresses_from}
 use Rattle.label_layout.proofs.Calls.{return_point}
 use Rattle.thumb_assembler.specs.Bytes.{IsSetBy}
 use Rattle.thumb_assembler.specs.Fair.{is_fair}
-use Rattle.thumb_assembler.specs.Runs.{Loaded, IsFetched, lands_at, is_code_address}
-use Rattle.thumb_assembler.specs.Following.{IsAssembled, loaded}
+use Rattle.thumb_assembler.specs.Runs.{Loaded, IsFetched, lands_at, is_code_address, IsAssembled, loaded}
 use Rattle.thumb_assembler.proofs.Places.{padding_even}
 use Rattle.thumb_assembler.proofs.Loose.{LandingLoose}
 use Rattle.thumb_assembler.proofs.Cuts.{next_end, next_places, next_cut, places_append, first_behind, address_behind, places_taken, label_cut, no_label, first_label, first_place}

@@ -1,9 +1,7 @@
 pub mod Bytes
-pub mod Sizes
-pub mod Refusals
 pub mod Fair
+pub mod Machines
+pub mod Promises
 pub mod Pushes
 pub mod Runs
-pub mod Following
-pub mod Promises
-pub mod Machines
+pub mod Sizes

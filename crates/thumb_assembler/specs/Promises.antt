@@ -1,13 +1,11 @@
 -- What holds of each image: a run of it is determined, and meets the listing's.
 use Rattle.std.specs.Prelude.{◌≡◌, ℕ, ◌<◌, List}
-use Rattle.thumb_model.specs.Naming.{Fits}
+use Rattle.thumb_model.specs.Naming.{Fits, laid}
 use Rattle.thumb_model.specs.States.{State}
 use Rattle.thumb_model.specs.Listing.{Name, Line, code_of}
-use Rattle.thumb_model.specs.Laid.{laid}
 use Rattle.thumb_model.specs.Same.{Same}
 use Rattle.thumb_assembler.specs.Bytes.{IsSetBy}
-use Rattle.thumb_assembler.specs.Runs.{Loaded, ImageSteps, byte_at}
-use Rattle.thumb_assembler.specs.Following.{IsAssembled, Follows}
+use Rattle.thumb_assembler.specs.Runs.{Loaded, ImageSteps, byte_at, IsAssembled, Follows}
 
 -- its bytes are bytes
 abbrev pub HasBytes : Loaded → Type 0

@@ -4,11 +4,10 @@ use Rattle.thumb_instr.specs.declared.instr.Instr.{Instr}
 use Rattle.thumb_model.specs.Listing.{Name, Value, Statement, Line}
 use Rattle.thumb_model.specs.Layout.{instr_size, size_at}
 use Rattle.thumb_model.specs.Steps.{word_of_value}
-use Rattle.thumb_model.specs.Laid.{laid}
-use Rattle.thumb_assembler.specs.Bytes.{Laid, word_bytes, words_bytes, IsInstrBytes, IsStatementBytes, IsSetBy}
+use Rattle.thumb_model.specs.Naming.{laid}
+use Rattle.thumb_assembler.specs.Bytes.{Laid, word_bytes, words_bytes, IsInstrBytes, IsStatementBytes, IsSetBy, flaw_of, value_lost, values_lost}
 use Rattle.thumb_assembler.specs.declared.errors.Flaw.{Flaw}
 use Rattle.thumb_assembler.specs.declared.errors.Flaw.TheVariants as flaw
-use Rattle.thumb_assembler.specs.Refusals.{flaw_of, value_lost, values_lost}
 use Rattle.thumb_assembler.specs.declared.errors.ImageError.{ImageError}
 use Rattle.thumb_assembler.specs.declared.errors.ImageError.TheVariants as error
 

@@ -2,7 +2,7 @@
 ghost use Rattle.std.specs.Prelude.{◌≡◌, ◌+◌, ◌*◌, ◌%◌, ◌<◌, ◌≤◌, ◌^◌, Some, None};
 ghost use Rattle.thumb_model.specs.Layout.{aim_fault, branch_fault, distance as distance_of, literal_base, literal_fault};
 ghost use Rattle.thumb_assembler.specs.Bytes.{Aims};
-ghost use Rattle.thumb_instr.specs.Distance.{bytes_of};
+ghost use Rattle.thumb_instr.specs.Items.{bytes_of};
 
 use thumb_instr::{Byte, Distance, Instr};
 

@@ -3,9 +3,8 @@ ghost use Rattle.std.specs.Prelude.{◌≡◌, ◌+◌, ◌%◌, IfOk, MatchResu
 ghost use Rattle.thumb_model.specs.Layout.{Layable};
 ghost use Rattle.listing_parser.specs.Parsing.{IsListing, text_of_lines};
 ghost use Rattle.label_layout.specs.Addresses.{AreAddresses};
-ghost use Rattle.thumb_assembler.specs.Bytes.{AreImage};
-ghost use Rattle.thumb_assembler.specs.Refusals.{first_flaw, IsRefusal};
-ghost use Rattle.thumb_assembler.specs.Following.{IsAssembled};
+ghost use Rattle.thumb_assembler.specs.Bytes.{AreImage, first_flaw, IsRefusal};
+ghost use Rattle.thumb_assembler.specs.Runs.{IsAssembled};
 
 use crate::errors::ImageError;
 use crate::pushing::push_statement;

@@ -9,7 +9,7 @@ use Rattle.thumb_instr.specs.declared.distance.Distance.{Distance}
 use Rattle.thumb_instr.specs.declared.within.NotBothSp.{NotBothSp}
 use Rattle.thumb_instr.specs.declared.within.NotBothLow.{NotBothLow}
 use Rattle.thumb_instr.specs.declared.within.Stored.{Stored}
-use Rattle.thumb_instr.specs.Renaming.{widened}
+use Rattle.thumb_instr.specs.Window.{widened}
 
 -- a low register has the same number as a register
 pub widened_number : (r : Within 0 8) → (widened r).number ≡ r.number

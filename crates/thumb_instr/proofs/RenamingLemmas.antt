@@ -8,8 +8,7 @@ use Rattle.thumb_instr.specs.declared.kind.Parts.{Parts}
 use Rattle.thumb_instr.specs.declared.role.Operands.{Operands}
 use Rattle.thumb_instr.specs.Parts.{parts_of}
 use Rattle.thumb_instr.specs.Roles.{roles}
-use Rattle.thumb_instr.specs.Renaming.{Low, Reg, named_by, named_in, named, AreBelow, wide_or, low_under, reg_under, both_under, renamed, number_or, item_under}
-use Rattle.thumb_instr.specs.Window.{is_in_window}
+use Rattle.thumb_instr.specs.Window.{Low, Reg, named_by, named_in, named, AreBelow, wide_or, low_under, reg_under, both_under, renamed, number_or, item_under, is_in_window}
 use Rattle.thumb_instr.proofs.Registers.{widened_number}
 
 low_below : (d : Low) → d.number < 8

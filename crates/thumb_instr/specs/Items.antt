@@ -1,6 +1,8 @@
--- Items: the registers r0 to r12, sp, lr and the flags N, Z, C, V, by number, and sets of them as the bits of a word.
-use Rattle.std.specs.Prelude.{ℕ, ◌<◌, ◌==◌, ◌&&◌, ◌||◌, nat_lt, nat_le, Bool, false, List, [], ◌∷◌}
+-- The items by number, sets of them as the bits of a word, and how far branches and loads reach.
+use Rattle.std.specs.Prelude.{ℕ, ◌<◌, ◌==◌, ◌&&◌, ◌||◌, nat_lt, nat_le, Bool, false, List, [], ◌∷◌, ◌≡◌, ◌+◌, ◌-◌, ◌*◌, ◌%◌, ℤ, pos, negsuc, if◌then◌else◌}
 use Rattle.std.specs.Int.{bit_at}
+
+-- Items: the registers r0 to r12, sp, lr and the flags N, Z, C, V, by number, and sets of them as the bits of a word.
 
 abbrev pub sp : ℕ
 sp = 13
@@ -37,3 +39,14 @@ has w x = bit_at w x == 1
 -- r0 to r3 and the flags
 abbrev pub is_in_masks : ℕ → Bool
 is_in_masks x = nat_lt x 4 || (nat_le 15 x && nat_lt x 19)
+
+-- The distance of a branch, and the field of its encoding.
+
+-- SignExtend(field:'0'): twice the field, read in two's complement below 2 * half
+abbrev pub bytes_of : ℕ → ℕ → ℤ
+bytes_of half field = if nat_lt field half then pos (field * 2) else negsuc ((2 * half - 1 - field) * 2 + 1)
+
+-- an even number from - 2 * half to below 2 * half
+abbrev pub IsDistance : ℕ → ℤ → Type 0
+IsDistance half (pos n) = (n % 2 ≡ 0) × (n < 2 * half)
+IsDistance half (negsuc n) = (n % 2 ≡ 1) × (n < 2 * half)

@@ -1,7 +1,5 @@
-pub mod Distance
 pub mod Items
 pub mod Parts
-pub mod Renaming
 pub mod Roles
 pub mod Shape
 pub mod Window

@@ -1,14 +1,107 @@
--- Which instructions may stand in a window, and the one that stands for both encodings of an effect.
-use Rattle.std.specs.Prelude.{◌==◌, ◌&&◌, nat_lt, Bool, true, false, if◌then◌else◌}
-use Rattle.std.proofs.Common.{lit≤}
-use Rattle.std.proofs.Math.Nat.{lt_of_lt_of_le}
+-- The registers that an instruction names, with others in their place, which instructions may stand in a window, and the one for both encodings of an effect.
+use Rattle.std.specs.Prelude.{◌≡◌, ℕ, ◌<◌, List, [], ◌∷◌, ◌++◌, Option, Some, None, slice_get, unwrap_or, ◌==◌, ◌&&◌, nat_lt, Bool, true, false, if◌then◌else◌}
+use Rattle.std.proofs.Common.{lit≤, subst}
+use Rattle.std.proofs.Math.Nat.{lt_of_lt_of_le, lt_irrefl}
 use Rattle.thumb_instr.specs.declared.instr.Instr.{Instr}
+use Rattle.thumb_instr.specs.declared.instr.Instr.TheVariants as instr
+use Rattle.thumb_instr.specs.declared.kind.Parts.{Parts}
+use Rattle.thumb_instr.specs.declared.role.Role.{Role}
+use Rattle.thumb_instr.specs.declared.role.Role.TheVariants.{Register}
+use Rattle.thumb_instr.specs.declared.role.Operands.{Operands}
+use Rattle.thumb_instr.specs.declared.within.Within.{Within}
+use Rattle.thumb_instr.specs.declared.within.NotBothSp.{NotBothSp}
+use Rattle.thumb_instr.specs.Parts.{parts_of}
+use Rattle.thumb_instr.specs.Roles.{roles}
 use Rattle.thumb_instr.specs.declared.instr.Instr.TheVariants.{Mov, Three, Two, Movs, ShiftLeft, ShiftRight, ThreeNumber, TwoNumber, Add, Extend, Reverse}
 use Rattle.thumb_instr.specs.declared.operation.Sum.{Sum}
 use Rattle.thumb_instr.specs.declared.operation.Sum.TheVariants as sum
 use Rattle.thumb_instr.specs.declared.operation.ByteOperation.{ByteOperation}
 use Rattle.thumb_instr.specs.declared.operation.ByteOperation.TheVariants as byte
-use Rattle.thumb_instr.specs.declared.within.Within.{Within}
+
+-- The registers that an instruction names, and renaming them.
+
+-- a low register, and a register but pc
+abbrev pub Low : Type 0
+Low = Within 0 8
+
+abbrev pub Reg : Type 0
+Reg = Within 0 15
+
+-- ---- names ----
+
+abbrev pub named_by : Role → ℕ → List ℕ
+named_by (Register u c) n = n ∷ []
+named_by r n = []
+
+abbrev pub named_in : Operands → Parts → List ℕ
+named_in r p = named_by r.first p.first ++ (named_by r.second p.second ++ named_by r.third p.third)
+
+-- the registers that an instruction names one by one, in the order of its canonical text
+abbrev pub named : Instr → List ℕ
+named i = named_in (roles (parts_of i).kind) (parts_of i)
+
+abbrev pub AreBelow : ℕ → List ℕ → Type 0
+AreBelow k [] = Unit {0}
+AreBelow k (x ∷ xs) = (x < k) × AreBelow k xs
+
+-- ---- renaming ----
+
+-- a low register as a register
+unfoldable pub widened : Low → Reg
+widened r = record { number = r.number; least = r.least; below = lt_of_lt_of_le r.below (lit≤ tt) }
+
+abbrev pub wide_or : Option Low → Reg → Reg
+wide_or None x = x
+wide_or (Some r) x = widened r
+
+-- only sp itself gives sp
+pub sp_of : (o : Option Low) (x : Reg) → (wide_or o x).number ≡ 13 → x.number ≡ 13
+unfolding widened
+sp_of None x e = e
+sp_of (Some r) x e = absurd (lt_irrefl 13 (lt_of_lt_of_le (subst (λ (n : ℕ). n < 8) e r.below) (lit≤ tt)))
+
+-- the registers of a sum with low ones in their place
+abbrev pub sum_under : (Reg → Option Low) → NotBothSp → NotBothSp
+sum_under f r = record {
+  target = wide_or (f r.target) r.target;
+  source = wide_or (f r.source) r.source;
+  one_other = λ e g. r.one_other (sp_of (f r.target) r.target e) (sp_of (f r.source) r.source g);
+}
+
+-- the register that a map gives in place of one: the map has those for r0, r1 and so on, and each other register stays
+abbrev pub low_under : List Low → Low → Low
+low_under registers x = unwrap_or (slice_get registers x.number) x
+
+abbrev pub reg_under : List Low → Reg → Reg
+reg_under registers x = wide_or (slice_get registers x.number) x
+
+abbrev pub both_under : List Low → NotBothSp → NotBothSp
+both_under registers r = sum_under (λ x. slice_get registers x.number) r
+
+-- an instruction that may stand in a window, with the registers of the map
+abbrev pub renamed : List Low → Instr → Instr
+renamed registers (instr.Mov d m) = instr.Mov (reg_under registers d) (reg_under registers m)
+renamed registers (instr.Three s d n m) = instr.Three s (low_under registers d) (low_under registers n) (low_under registers m)
+renamed registers (instr.Two o d m) = instr.Two o (low_under registers d) (low_under registers m)
+renamed registers (instr.Movs d m) = instr.Movs (low_under registers d) (low_under registers m)
+renamed registers (instr.ShiftLeft d m i) = instr.ShiftLeft (low_under registers d) (low_under registers m) i
+renamed registers (instr.ShiftRight s d m i) = instr.ShiftRight s (low_under registers d) (low_under registers m) i
+renamed registers (instr.ThreeNumber s d n i) = instr.ThreeNumber s (low_under registers d) (low_under registers n) i
+renamed registers (instr.TwoNumber o d i) = instr.TwoNumber o (low_under registers d) i
+renamed registers (instr.Add r) = instr.Add (both_under registers r)
+renamed registers (instr.Extend e d m) = instr.Extend e (low_under registers d) (low_under registers m)
+renamed registers (instr.Reverse r d m) = instr.Reverse r (low_under registers d) (low_under registers m)
+renamed registers i = i
+
+-- the item in place of an item: a register of the map, and each other item itself
+abbrev pub number_or : Option Low → ℕ → ℕ
+number_or None x = x
+number_or (Some r) x = r.number
+
+abbrev pub item_under : List Low → ℕ → ℕ
+item_under registers x = number_or (slice_get registers x) x
+
+-- Which instructions may stand in a window, and the one that stands for both encodings of an effect.
 
 -- the instruction goes on to the next place, touches no memory and no state but registers and flags, and names low registers alone
 abbrev pub is_in_window : Instr → Bool

@@ -1,5 +1,5 @@
 ghost use Rattle.std.specs.Prelude.{◌≡◌, ◌<◌, ◌≤◌, ◌*◌, ◌^◌, ◌↔◌, IsSome, IfSome};
-ghost use Rattle.thumb_instr.specs.Distance.{bytes_of, IsDistance};
+ghost use Rattle.thumb_instr.specs.Items.{bytes_of, IsDistance};
 
 /// The distance of a branch in bytes, from the address of its instruction and 4: an even number from -2 HALF to below 2 HALF.
 /// The field is half of it as the encoding holds it, in two's complement below 2 HALF.

@@ -1,7 +1,6 @@
 //! The registers that an instruction names, and renaming them.
 ghost use Rattle.std.specs.Prelude.{◌≡◌, ◌+◌, ◌<◌, ◌≤◌, ◌++◌, true, length, map, slice_get};
-ghost use Rattle.thumb_instr.specs.Renaming.{named_by, named, AreBelow, low_under, wide_or, reg_under, both_under, renamed};
-ghost use Rattle.thumb_instr.specs.Window.{is_in_window};
+ghost use Rattle.thumb_instr.specs.Window.{named_by, named, AreBelow, low_under, wide_or, reg_under, both_under, renamed, is_in_window};
 
 use crate::apart::parts;
 use crate::instr::Instr;

@@ -7,7 +7,7 @@ use Rattle.std.proofs.lemmas.Bool.{cases_Bool}
 use Rattle.std.proofs.lemmas.List.{map-append}
 use Rattle.thumb_machine.specs.declared.event.Event.{Event}
 use Rattle.thumb_machine.specs.Outside.{event_of, events_of}
-use Rattle.thumb_model.specs.Items.{Values, assigned, one_of}
+use Rattle.thumb_model.specs.Effect.{Values, assigned, one_of}
 use Rattle.thumb_model.proofs.Law.{keys, keys_words, assigned_agree, assigned_other}
 use Rattle.thumb_model.specs.States.{Answer, Load}
 use Rattle.thumb_model.specs.Accesses.{behind, device_words, is_device, left_at, left_from, load_events, next_word, stored, stored_words, word_at, words_from}

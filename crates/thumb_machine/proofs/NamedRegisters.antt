@@ -2,7 +2,7 @@
 use Rattle.std.proofs.Common.{◌≡◌, ◌<◌, true, arith}
 use Rattle.thumb_instr.specs.declared.instr.Instr.{Instr}
 use Rattle.thumb_instr.specs.declared.instr.Instr.TheVariants as instr
-use Rattle.thumb_instr.specs.Renaming.{Low, Reg, named, AreBelow}
+use Rattle.thumb_instr.specs.Window.{Low, Reg, named, AreBelow}
 use Rattle.window_exec.specs.Computes.{computes}
 
 low_there : (d : Low) → d.number < 15

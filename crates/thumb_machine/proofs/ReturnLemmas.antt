@@ -5,7 +5,7 @@ use Rattle.std.proofs.lemmas.Bool.{cases_Bool}
 use Rattle.thumb_instr.specs.declared.instr.Instr.{Instr}
 use Rattle.thumb_model.specs.Listing.{Line, Mention, Place, Op, call_count, is_call, is_call_instr, places_of}
 use Rattle.thumb_model.specs.Layout.{end_of, instr_size}
-use Rattle.thumb_model.specs.Laid.{last_is_call, return_address, IsCutAtCall}
+use Rattle.thumb_model.specs.Naming.{last_is_call, return_address, IsCutAtCall}
 use Rattle.thumb_model.proofs.Returns.{call_within, laid_behind}
 use Rattle.label_layout.specs.Addresses.{Addresses, AreAddresses}
 use Rattle.label_layout.proofs.Calls.{return_point}

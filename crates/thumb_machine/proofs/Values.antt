@@ -1,7 +1,7 @@
 -- Numbers as bytes, the lowest first.
 use Rattle.std.proofs.Common.{◌≡◌, ℕ, suc, ◌+◌, ◌*◌, ◌/◌, ◌%◌, ◌^◌, ◌<◌, ◌≤◌, [], ◌∷◌, refl, arith}
 use Rattle.std.proofs.Math.Nat.{pow-succ'}
-use Rattle.thumb_model.specs.Items.{assigned}
+use Rattle.thumb_model.specs.Effect.{assigned}
 use Rattle.thumb_model.specs.Accesses.{with_value}
 
 -- the lowest byte is put over the others

@@ -4,8 +4,7 @@ use Rattle.std.specs.List.{list_all}
 use Rattle.std.proofs.lemmas.Bool.{cases_Bool}
 use Rattle.std.proofs.lemmas.List.Folds.{list_all-append}
 use Rattle.thumb_model.specs.Listing.{Value, Word, Statement, Nothing, Runs, Words, Aligns, Sets, Line, Place, call_count, code_of, is_call, labels_at, labels_from, places_in, places_of}
-use Rattle.thumb_model.specs.Laid.{ends_in_call}
-use Rattle.thumb_model.specs.Naming.{Naming, points, points_of, returns_from}
+use Rattle.thumb_model.specs.Naming.{ends_in_call, Naming, points, points_of, returns_from}
 use Rattle.thumb_model.proofs.Moved.{returns_append}
 use Rattle.thumb_model.proofs.Returns.{statement_calls}
 use Rattle.thumb_machine.specs.Walking.{all_pass, points_from}

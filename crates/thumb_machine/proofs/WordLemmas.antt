@@ -13,7 +13,7 @@ use Rattle.std.proofs.lemmas.Slice.Eq.{bytes_eq-Decides}
 use Rattle.indexmap.specs.IndexMap.{insert_entry}
 use Rattle.thumb_model.specs.Listing.{Name, Statement, Sets, Line, Place, code_of, place_of, places_of}
 use Rattle.thumb_model.specs.Layout.{cleared, is_among, label_address, lies_in, or_else, set_address, set_in, size_at}
-use Rattle.thumb_model.specs.Laid.{word_by}
+use Rattle.thumb_model.specs.Naming.{word_by}
 use Rattle.listing_parser.proofs.LabelLemmas.{among_append}
 use Rattle.label_layout.proofs.Labels.{or_none}
 use Rattle.listing_parser.specs.Targets.{defined_in, set_names}

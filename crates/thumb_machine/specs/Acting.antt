@@ -15,7 +15,7 @@ use Rattle.thumb_machine.specs.Registers.{values_of}
 use Rattle.thumb_machine.specs.Memory.{memory_of}
 use Rattle.thumb_machine.specs.Outside.{events_of, answers_of}
 use Rattle.thumb_machine.specs.Stages.{end_of}
-use Rattle.thumb_model.specs.Items.{assigned}
+use Rattle.thumb_model.specs.Effect.{assigned}
 use Rattle.thumb_model.specs.States.{Act}
 use Rattle.thumb_model.specs.States as model
 

@@ -4,8 +4,7 @@ use Rattle.std.specs.List.{filter, filter_map}
 use Rattle.std.specs.Str.{bytes_eq}
 use Rattle.thumb_model.specs.Listing.{Name, Mention, Value, Number, OfName, Place, Op, Word, Line, places_of}
 use Rattle.thumb_model.specs.Layout.{end_of, lies_in, or_else, set_address}
-use Rattle.thumb_model.specs.Naming.{Naming}
-use Rattle.thumb_model.specs.Laid.{laid, IsCutAtCall}
+use Rattle.thumb_model.specs.Naming.{Naming, laid, IsCutAtCall}
 
 -- ---- external names without an address ----
 

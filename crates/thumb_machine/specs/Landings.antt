@@ -1,6 +1,6 @@
 -- What a POP with pc adds by where its word lands.
 use Rattle.std.specs.Prelude.{ℕ, List, [], ◌∷◌, map}
-use Rattle.thumb_model.specs.Items.{Values}
+use Rattle.thumb_model.specs.Effect.{Values}
 use Rattle.thumb_model.specs.States.{Event, Left, Astray, Landing, Goes, Leaves, Strays, Next, To, Over, registers_left}
 
 abbrev pub landed_events : Landing → ℕ → Values → List Event

@@ -4,7 +4,7 @@ use Rattle.std.specs.Int.{bit_at}
 use Rattle.thumb_machine.specs.declared.event.Event.{Event}
 use Rattle.thumb_machine.specs.declared.event.Event.TheVariants as event
 use Rattle.thumb_machine.specs.declared.answers.Answer.{Answer}
-use Rattle.thumb_model.specs.Items.{Values, lr, n_flag, z_flag, c_flag, v_flag}
+use Rattle.thumb_model.specs.Effect.{Values, lr, n_flag, z_flag, c_flag, v_flag}
 use Rattle.thumb_model.specs.States.{Load, Store, Call, Sys, Left, Fault, Astray, Fell}
 use Rattle.thumb_model.specs.States as model
 

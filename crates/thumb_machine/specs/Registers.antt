@@ -2,7 +2,7 @@
 use Rattle.std.specs.Prelude.{◌==◌, slice_index, if◌then◌else◌}
 use Rattle.std.specs.Int.{bit_at}
 use Rattle.thumb_machine.specs.declared.registers.Registers.{Registers}
-use Rattle.thumb_model.specs.Items.{Values, n_flag, z_flag, c_flag, v_flag}
+use Rattle.thumb_model.specs.Effect.{Values, n_flag, z_flag, c_flag, v_flag}
 
 -- r0 to r12, sp and lr, and the flags N, Z, C, V as bits 3 to 0; every other item is 0
 abbrev pub values_of : Registers → Values

@@ -1,7 +1,7 @@
 -- The words of the return points of calls.
 use Rattle.std.specs.Prelude.{◌≡◌, ℕ, ◌+◌, ◌<◌, Bool, false, List, length, Option, Some, None, slice_index}
 use Rattle.thumb_model.specs.Listing.{Line, Place, is_call}
-use Rattle.thumb_model.specs.Laid.{return_address}
+use Rattle.thumb_model.specs.Naming.{return_address}
 
 abbrev pub is_call_place : Option Place → Bool
 is_call_place None = false

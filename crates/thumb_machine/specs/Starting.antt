@@ -6,7 +6,7 @@ use Rattle.thumb_machine.specs.declared.machine.Machine.{Machine}
 use Rattle.thumb_machine.specs.declared.machine.At.TheVariants as at
 use Rattle.thumb_machine.specs.Registers.{values_of}
 use Rattle.thumb_machine.specs.Memory.{memory_of}
-use Rattle.thumb_model.specs.Items.{Values, sp, lr, n_flag, z_flag, c_flag, v_flag}
+use Rattle.thumb_model.specs.Effect.{Values, sp, lr, n_flag, z_flag, c_flag, v_flag}
 use Rattle.thumb_model.specs.States.{with_bytes}
 
 -- what each item holds; every other number is 0

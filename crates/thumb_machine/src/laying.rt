@@ -1,7 +1,7 @@
 //! The naming that a listing is laid out with.
 ghost use Rattle.std.specs.Prelude.{◌≡◌, ◌<◌, ◌≤◌, ◌+◌, ◌^◌, ◌++◌, ◌∷◌, [], ℕ, true, false, List, Some, map, length, take, option_map, slice_get, IfOk, OnOk, MatchOption};
 ghost use Rattle.thumb_model.specs.Listing.{Line as ListingLine, Name, call_count, places_of};
-ghost use Rattle.thumb_model.specs.Laid.{last_is_call, return_address};
+ghost use Rattle.thumb_model.specs.Naming.{last_is_call, return_address};
 ghost use Rattle.listing_parser.specs.Views.{line_view, place_view, statement_view};
 ghost use Rattle.listing_parser.specs.Targets.{defined_in, set_names};
 ghost use Rattle.label_layout.specs.Addresses.{AreAddresses};

@@ -2,7 +2,7 @@
 ghost use Rattle.std.specs.Prelude.{◌≡◌, ◌<◌, ◌≤◌, ◌+◌, ◌*◌, [], ◌∷◌, ◌++◌, List, filter, true, length, map, if◌then◌else◌};
 ghost use Rattle.thumb_instr.specs.Items.{has};
 ghost use Rattle.thumb_instr.specs.Shape.{registers_in, pushed};
-ghost use Rattle.thumb_model.specs.Items.{assigned, one_of, sp};
+ghost use Rattle.thumb_model.specs.Effect.{assigned, one_of, sp};
 ghost use Rattle.thumb_model.specs.Accesses.{behind, below, device_words, left_from, load_events, next_word, store_events, stored_words, stores_many, is_device, left_at, word_at, words_from};
 ghost use Rattle.thumb_model.specs.Acts.{with_pc};
 ghost use Rattle.thumb_machine.specs.declared.answers.Answer.{Answer};

@@ -1,6 +1,6 @@
 //! Memory as the map that the model has, changed in place.
 ghost use Rattle.std.specs.Prelude.{◌≡◌, ◌<◌, ◌≤◌, ◌+◌, ◌^◌, [], ◌∷◌, length, false, OnOk, ℕ};
-ghost use Rattle.thumb_model.specs.Items.{assigned};
+ghost use Rattle.thumb_model.specs.Effect.{assigned};
 ghost use Rattle.thumb_model.specs.States.{with_bytes};
 ghost use Rattle.thumb_model.specs.Accesses.{value_at, with_value, stored, is_device};
 ghost use Rattle.thumb_machine.specs.Memory.{memory_of, room_of};

@@ -2,7 +2,7 @@
 ghost use Rattle.std.specs.Prelude.{◌≡◌, ◌<◌, ◌≤◌, ◌+◌, ◌++◌, ◌∷◌, [], length, nat_le, true, if◌then◌else◌};
 ghost use Rattle.thumb_instr.specs.Items.{has};
 ghost use Rattle.thumb_instr.specs.Shape.{registers_in};
-ghost use Rattle.thumb_model.specs.Items.{assigned, one_of, sp, written_to};
+ghost use Rattle.thumb_model.specs.Effect.{assigned, one_of, sp, written_to};
 ghost use Rattle.thumb_model.specs.Accesses.{behind, device_words, left_from, loads_many, many_outputs};
 ghost use Rattle.thumb_model.specs.Acts.{popped_word, pops, pops_to, with_pc};
 ghost use Rattle.thumb_machine.specs.Registers.{values_of};

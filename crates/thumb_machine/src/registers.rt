@@ -1,7 +1,7 @@
 //! The registers of a machine; computing on them is shared with windows.
 ghost use Rattle.std.specs.Prelude.{◌≡◌, ◌<◌, ◌≤◌, [], ◌∷◌};
 ghost use Rattle.std.specs.Int.{bit_at, from_bool};
-ghost use Rattle.thumb_model.specs.Items.{assigned, written_to, n_flag, z_flag, c_flag, v_flag};
+ghost use Rattle.thumb_model.specs.Effect.{assigned, written_to, n_flag, z_flag, c_flag, v_flag};
 ghost use Rattle.thumb_model.specs.States.{all_at, answered, served};
 ghost use Rattle.thumb_model.specs.Acts.{holds};
 ghost use Rattle.thumb_machine.specs.Registers.{values_of};

@@ -1,6 +1,6 @@
 //! Instructions that only the system sees: each is one event with a code.
 ghost use Rattle.std.specs.Prelude.{◌≡◌, ◌<◌, ◌≤◌, [], ◌∷◌, ◌++◌, List, length, map};
-ghost use Rattle.thumb_model.specs.Items.{sp};
+ghost use Rattle.thumb_model.specs.Effect.{sp};
 ghost use Rattle.thumb_model.specs.States.{Sys, Call, answered, answers_with, handed, served, takes, tells};
 ghost use Rattle.thumb_model.specs.Acts.{calls, calls_by, calls_out, hints, interrupts_code, barrier_code, reads_special, special_code};
 ghost use Rattle.thumb_machine.specs.declared.answers.Answer.{Answer};

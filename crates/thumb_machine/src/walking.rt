@@ -1,8 +1,7 @@
 //! Tests of all code points of a listing, one after another in the order of its lines, without memory.
 ghost use Rattle.std.specs.Prelude.{◌≡◌, ◌&&◌, ◌++◌, ◌+◌, ◌<◌, ◌^◌, ℕ, List, map, length};
 ghost use Rattle.thumb_model.specs.Listing.{call_count, labels_at, places_in, places_of};
-ghost use Rattle.thumb_model.specs.Laid.{ends_in_call};
-ghost use Rattle.thumb_model.specs.Naming.{points_of, returns_from};
+ghost use Rattle.thumb_model.specs.Naming.{ends_in_call, points_of, returns_from};
 ghost use Rattle.listing_parser.specs.Views.{line_view, statement_view};
 ghost use Rattle.thumb_machine.specs.Naming.{naming_of};
 ghost use Rattle.thumb_machine.specs.Walking.{all_pass, name_points, points_from};

@@ -4,7 +4,7 @@ use Rattle.std.proofs.lemmas.Bool.{cases_Bool, ne_eqb}
 use Rattle.std.proofs.lemmas.List.{length-append}
 use Rattle.thumb_instr.specs.declared.instr.Instr.{Instr}
 use Rattle.thumb_model.specs.Listing.{Statement, Nothing, Runs, Words, Aligns, Sets, Line, places_in, places_of}
-use Rattle.thumb_model.specs.ReplacedLines.{is_op, labels_kept, new_line, replaced_lines, without}
+use Rattle.thumb_model.specs.Replaced.{is_op, labels_kept, new_line, replaced_lines, without}
 use Rattle.thumb_model.specs.Cuts.{op_count, others}
 
 pub without_none : (ls : List Line) → without 0 ls ≡ ls

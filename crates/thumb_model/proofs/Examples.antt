@@ -13,10 +13,9 @@ use Rattle.thumb_instr.specs.declared.operation.Access.TheVariants as access
 use Rattle.thumb_instr.specs.declared.operation.OffsetAccess.TheVariants as offset
 use Rattle.thumb_instr.specs.declared.within.NotBothSp.{NotBothSp}
 use Rattle.thumb_instr.specs.Shape.{registers_in}
-use Rattle.thumb_model.specs.Items.{Values}
+use Rattle.thumb_model.specs.Effect.{Values, after}
 use Rattle.thumb_model.specs.States.{World, Answer, Around, External, Goes, Leaves, Strays, Stay, Load, Store, Call, Sys, Left, Fault}
 use Rattle.thumb_model.specs.Acts.{act}
-use Rattle.thumb_model.specs.Effect.{after}
 
 abbrev within : (a b n : ℕ) → nat_le a n ≡ true → nat_lt n b ≡ true → Within a b
 within a b n h k = record { number = n; least = leb-true a n h; below = ltb-true n b k }

@@ -4,8 +4,7 @@ use Rattle.std.specs.Prelude.{slice_get}
 use Rattle.std.specs.Option.{option_map}
 use Rattle.std.proofs.lemmas.Bool.{cases_eq}
 use Rattle.thumb_instr.specs.declared.instr.Instr.{Instr}
-use Rattle.thumb_model.specs.Items.{Values, AreWords, assigned}
-use Rattle.thumb_model.specs.Effect.{after_all}
+use Rattle.thumb_model.specs.Effect.{Values, AreWords, assigned, after_all}
 use Rattle.thumb_model.specs.Listing.{Name, Mention, Place, Op, Word, plain, Code, place_of, label_places, return_places, IsPoint}
 use Rattle.thumb_model.specs.Naming.{Naming, Fits, is_odd, is_in_range, points}
 use Rattle.thumb_model.specs.States.{World, IsWorld, Around, Act, Event, Fell, Leaves, Strays, Next, On, Stay, To, Over, At, Here, Ended, State}

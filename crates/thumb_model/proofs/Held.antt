@@ -18,12 +18,11 @@ use Rattle.thumb_instr.specs.declared.operation.Hint.TheVariants as hint
 use Rattle.thumb_instr.specs.declared.within.Within.{Within}
 use Rattle.thumb_instr.specs.Items.{has}
 use Rattle.thumb_instr.specs.Shape.{registers_in, pushed}
-use Rattle.thumb_model.specs.Items.{Values, AreWords, assigned, one_of, sp, lr, written_to, n_flag, z_flag, c_flag, v_flag}
-use Rattle.thumb_model.specs.Effect.{outputs, complement, result_flags, sum_flags, result_outputs, shift_outputs, sum_outputs, product, two_outputs, byte_outputs}
+use Rattle.thumb_model.specs.Effect.{Values, AreWords, assigned, one_of, sp, lr, written_to, n_flag, z_flag, c_flag, v_flag, outputs, complement, result_flags, sum_flags, result_outputs, shift_outputs, sum_outputs, product, two_outputs, byte_outputs}
 use Rattle.thumb_model.specs.States.{with_bytes, World, IsWorld, Answer, AreAnswers, AreBytes, Target, Inside, External, Landing, Goes, Leaves, Strays, Around, Act, Event, Fault, Next, On, Stay, To, Over, puts, ends, tells, takes, aligned, answered, served, all_at, answers_with}
 use Rattle.thumb_model.specs.Accesses.{is_device, access_size, value_at, with_value, stored, loaded, gets, loads, stores, accesses, next_word, behind, stored_words, stores_many, word_at, left_at, words_from, left_from, device_words, enough, many_outputs, loads_many}
 use Rattle.thumb_model.specs.Acts.{act, branches, jumps, calls_out, calls, calls_by, with_pc, popping, pops_to, pops, hints}
-use Rattle.thumb_instr.specs.Renaming.{AreBelow}
+use Rattle.thumb_instr.specs.Window.{AreBelow}
 use Rattle.thumb_model.proofs.Small.{registers_low}
 use Rattle.thumb_model.proofs.Bounds.{sum_small, shift_small, sign_small_8, sign_small_16, extension_small, reversal_small, and_small, or_small, xor_small}
 

@@ -16,8 +16,7 @@ use Rattle.thumb_instr.specs.declared.operation.Hint.TheVariants as hint
 use Rattle.thumb_instr.specs.declared.within.Within.{Within}
 use Rattle.thumb_instr.specs.Items.{has}
 use Rattle.thumb_instr.specs.Shape.{registers_in, pushed, two_uses, two_writes, byte_uses, byte_writes, access_uses, access_writes, offset_access, word_access, condition_uses, uses_of, writes_of}
-use Rattle.thumb_model.specs.Items.{Values, assigned, one_of, sp, lr, c_flag}
-use Rattle.thumb_model.specs.Effect.{outputs, two_outputs, byte_outputs}
+use Rattle.thumb_model.specs.Effect.{Values, assigned, one_of, sp, lr, c_flag, outputs, two_outputs, byte_outputs}
 use Rattle.thumb_model.specs.States.{World, Answer, Target, Inside, External, Landing, Goes, Leaves, Strays, Around, Act, Event, Call, Sys, Left, Fault, Astray, Next, On, Stay, To, Over, puts, ends, registers_left, tells, takes, aligned, handed, answered, served, answers_with}
 use Rattle.thumb_model.specs.Accesses.{is_device, access_size, value_at, gets, loads, stores, accesses, behind, below, stores_many, words_from, left_at, next_word, device_words, enough, many_outputs, loads_many}
 use Rattle.thumb_model.specs.Acts.{act, branches, jumps, calls_out, calls, calls_by, with_pc, popped_word, popping, pops_to, pops, holds, hints, interrupts_code, barrier_code, special_code, reads_special, offset}

@@ -5,8 +5,7 @@ use Rattle.std.proofs.lemmas.List.{map-append}
 use Rattle.thumb_instr.specs.declared.instr.Instr.{Instr}
 use Rattle.thumb_model.specs.Listing.{Name, Value, Statement, Runs, Words, Line, Place, Op, Word, plain, Label, Code, places_in, places_of, labels_at, labels_from, code_of}
 use Rattle.thumb_model.proofs.Lists.{length_map, take_back, drop_back}
-use Rattle.thumb_model.specs.Replaced.{moved, move_label, replaced}
-use Rattle.thumb_model.specs.ReplacedLines.{is_op, without, labels_kept, new_line, replaced_lines}
+use Rattle.thumb_model.specs.Replaced.{moved, move_label, replaced, is_op, without, labels_kept, new_line, replaced_lines}
 use Rattle.thumb_model.specs.Cuts.{AreOps}
 
 abbrev append : List Place → List Place → List Place

@@ -6,7 +6,7 @@ use Rattle.std.proofs.lemmas.Bool.{cases_lt}
 use Rattle.std.proofs.lemmas.Option.{same_Some}
 use Rattle.std.specs.Option.{option_map}
 use Rattle.thumb_instr.specs.declared.instr.Instr.{Instr}
-use Rattle.thumb_model.specs.Items.{one_of}
+use Rattle.thumb_model.specs.Effect.{one_of}
 use Rattle.thumb_model.specs.Listing.{Name, Mention, Place, Op, Word, plain, Label, Code, is_op_place, is_code, place_among, place_of, has_label, place_mentions, is_mentioned, is_call, call_count, return_places}
 use Rattle.thumb_model.specs.Naming.{Naming, Fits, points_of, points, returns_from}
 use Rattle.thumb_model.specs.Steps.{label_place, least_or, point_among}

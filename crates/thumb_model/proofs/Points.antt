@@ -3,7 +3,7 @@ use Rattle.std.proofs.Common.{◌≡◌, Bool, not, ℕ, suc, ◌+◌, ◌==◌,
 use Rattle.std.specs.Prelude.{slice_get}
 use Rattle.std.specs.Str.{bytes_eq}
 use Rattle.std.proofs.lemmas.Bool.{cases_lt}
-use Rattle.thumb_model.specs.Items.{one_of}
+use Rattle.thumb_model.specs.Effect.{one_of}
 use Rattle.thumb_model.specs.Listing.{Name, Place, Label, Code, is_code, place_among, is_call, label_places, return_places, IsPoint}
 use Rattle.thumb_model.specs.Naming.{Naming, is_odd, is_in_range, returns_from, points_of, points}
 use Rattle.thumb_model.specs.States.{Goes, Leaves, Strays}

@@ -2,7 +2,7 @@
 use Rattle.std.proofs.Common.{◌≡◌, inl, inr, ℕ, ◌+◌, ◌-◌, ◌*◌, ◌/◌, ◌%◌, ◌<◌, ◌≤◌, ◌==◌, ◌&&◌, true, false, Some, None, refl, arith, eqb-true, eq-eqb, ltb-true, leb-true}
 use Rattle.std.specs.Prelude.{nat_le, nat_lt, pos, negsuc}
 use Rattle.std.proofs.lemmas.Bool.{cases_Bool, and_parts, and_from, le-leb, lt-ltb, leb-false}
-use Rattle.thumb_instr.specs.Distance.{IsDistance}
+use Rattle.thumb_instr.specs.Items.{IsDistance}
 use Rattle.thumb_model.specs.Layout.{Range, Align, branch_fault, branch_base, distance, less, literal_base, literal_fault}
 use Rattle.thumb_model.specs.Reaches.{BranchesReach, LiteralsReach, ReachesAreFields}
 

@@ -5,8 +5,7 @@ use Rattle.std.proofs.lemmas.Bool.{cases_Bool}
 use Rattle.std.proofs.lemmas.List.Elements.{Contains-append_right, Contains-append_cases}
 use Rattle.thumb_model.specs.Listing.{Value, Statement, Nothing, Runs, Words, Aligns, Sets, Line, Place, Word, is_call, call_count, places_in, places_of}
 use Rattle.thumb_model.specs.Layout.{end_of, size_at}
-use Rattle.thumb_model.specs.Laid.{ends_in_call, return_address, IsCutAtCall}
-use Rattle.thumb_model.specs.Naming.{Naming, returns_from}
+use Rattle.thumb_model.specs.Naming.{ends_in_call, return_address, IsCutAtCall, Naming, returns_from}
 use Rattle.thumb_model.specs.Returns.{LaidReturnsLieBehind, IsReturnPoint, ReturnPointsStandBehind, ReturnsAreCuts}
 use Rattle.thumb_model.proofs.Moved.{count_append, returns_append}
 

@@ -17,12 +17,12 @@ use Rattle.thumb_instr.specs.Items.{has}
 use Rattle.thumb_instr.specs.Shape.{registers_in, pushed, two_uses, byte_uses, access_uses, offset_access, word_access, condition_uses}
 use Rattle.thumb_instr.specs.declared.within.Within.{Within}
 use Rattle.thumb_instr.specs.declared.within.General.{General}
-use Rattle.thumb_model.specs.Items.{one_of, sp, lr}
+use Rattle.thumb_model.specs.Effect.{one_of, sp, lr}
 use Rattle.thumb_model.specs.Listing.{Place, Op, Word, Code}
 use Rattle.thumb_model.specs.States.{registers_left, handed}
 use Rattle.thumb_model.specs.Steps.{aim_of}
 use Rattle.thumb_model.specs.Flow.{Way, way, Onward, AnyPoint, Out, jump_way, call_way, left_but, ways, ways_on, ways_of, Reads, now, later, LiveAfter}
-use Rattle.thumb_instr.specs.Renaming.{AreBelow}
+use Rattle.thumb_instr.specs.Window.{AreBelow}
 
 -- an item of a list of items below k is below k
 pub below_in : (k x : ℕ) (xs : List ℕ) → AreBelow k xs → one_of x xs ≡ true → x < k

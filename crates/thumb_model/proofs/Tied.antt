@@ -8,7 +8,7 @@ use Rattle.thumb_instr.specs.declared.operation.Hint.{Hint}
 use Rattle.thumb_instr.specs.declared.operation.Hint.TheVariants as hint
 use Rattle.thumb_instr.specs.Items.{has}
 use Rattle.thumb_instr.specs.Shape.{registers_in}
-use Rattle.thumb_model.specs.Items.{sp}
+use Rattle.thumb_model.specs.Effect.{sp}
 use Rattle.thumb_model.specs.States.{World, Answer, Fault, Around, Act, Target, Inside, External, Landing, Goes, Leaves, Strays, Next, On, Stay, To, Over, puts, ends, takes, aligned}
 use Rattle.thumb_model.specs.Accesses.{is_device, access_size, value_at, gets, loads, stores, accesses, stores_many, device_words, enough, loads_many}
 use Rattle.thumb_model.specs.Acts.{branches, jumps, calls_out, calls, calls_by, popped_word, pops_to, pops, holds, hints, act}

@@ -14,18 +14,15 @@ use Rattle.thumb_instr.specs.declared.operation.Operation.TheVariants as operati
 use Rattle.thumb_instr.specs.declared.operation.ByteOperation.{ByteOperation}
 use Rattle.thumb_instr.specs.declared.operation.ByteOperation.TheVariants as byte
 use Rattle.thumb_instr.specs.declared.within.NotBothSp.{NotBothSp}
-use Rattle.thumb_instr.specs.Window.{is_in_window, byte_sum, byte_of}
+use Rattle.thumb_instr.specs.Window.{is_in_window, byte_sum, byte_of, Low, Reg, named, renamed, low_under, reg_under, both_under, number_or, item_under, AreBelow}
 use Rattle.thumb_instr.proofs.RenamingLemmas.{low_number, reg_number}
-use Rattle.thumb_instr.specs.Renaming.{Low, Reg, named, renamed, low_under, reg_under, both_under, number_or, item_under, AreBelow}
-use Rattle.thumb_model.specs.Items.{Values, AreWords, assigned, one_of, sp, written_to, n_flag, z_flag, c_flag, v_flag}
-use Rattle.thumb_model.specs.Effect.{outputs, result_flags, sum_flags, result_outputs, shift_outputs, sum_outputs, three_sum, right_shift, extension_of, reversal_of, two_outputs, byte_outputs, after, after_all}
+use Rattle.thumb_model.specs.Effect.{Values, AreWords, assigned, one_of, sp, written_to, n_flag, z_flag, c_flag, v_flag, outputs, result_flags, sum_flags, result_outputs, shift_outputs, sum_outputs, three_sum, right_shift, extension_of, reversal_of, two_outputs, byte_outputs, after, after_all, IsOneToOne, AreOver, Equal, normalised}
 use Rattle.thumb_model.specs.Listing.{Mention, Place, Op, plain, Code, IsPoint}
 use Rattle.thumb_model.specs.Naming.{Naming}
 use Rattle.thumb_model.specs.States.{World, Landing, Goes, Around, Act, Here, State, Next, On, Stay, To, Over, puts}
 use Rattle.thumb_model.specs.Acts.{act}
 use Rattle.thumb_model.specs.Steps.{around_of, aim_of, target_at, step, times}
 use Rattle.thumb_model.specs.Flow.{ways_on, ways_of, ways, Leads, Onward, ToPlace, AnyPoint, Follows, Reads, now, later}
-use Rattle.thumb_model.specs.Sides.{IsOneToOne, AreOver, Equal, normalised}
 use Rattle.thumb_model.proofs.Lists.{present_at}
 use Rattle.thumb_model.proofs.Law.{keys, AgreeOn, assigned_agree, assigned_other, inside_of, Matches, Taken, AlikeBut, law, ap_two}
 use Rattle.thumb_model.proofs.Held.{values_of, are_held, AreHeld}

@@ -3,7 +3,7 @@ use Rattle.std.specs.Prelude.{ℕ, zero, suc, ◌+◌, ◌-◌, ◌*◌, ◌/◌
 use Rattle.word_bits.specs.Word.{sign_extended}
 use Rattle.thumb_instr.specs.declared.operation.Access.{Access}
 use Rattle.thumb_instr.specs.declared.operation.Access.TheVariants as access
-use Rattle.thumb_model.specs.Items.{assigned, written_to}
+use Rattle.thumb_model.specs.Effect.{assigned, written_to}
 use Rattle.thumb_model.specs.States.{Event, Load, Store, Answer, World, On, Stay, Act, puts, takes, aligned}
 
 -- from 0x40000000 up there are devices

@@ -14,8 +14,7 @@ use Rattle.thumb_instr.specs.declared.operation.Special.{Special}
 use Rattle.thumb_instr.specs.declared.operation.Special.TheVariants as special
 use Rattle.thumb_instr.specs.Items.{has}
 use Rattle.thumb_instr.specs.Shape.{registers_in, pushed, offset_access, word_access}
-use Rattle.thumb_model.specs.Items.{Values, assigned, sp, lr, n_flag, z_flag, c_flag, v_flag}
-use Rattle.thumb_model.specs.Effect.{outputs}
+use Rattle.thumb_model.specs.Effect.{Values, assigned, sp, lr, n_flag, z_flag, c_flag, v_flag, outputs}
 use Rattle.thumb_model.specs.States.{Event, Call, Sys, Left, Astray, Answer, World, Target, Inside, External, Landing, Goes, Leaves, Strays, Around, Next, On, To, Over, Act, registers_left, puts, ends, tells, takes, aligned, handed, answered, served, answers_with}
 use Rattle.thumb_model.specs.Accesses.{access_size, accesses, behind, below, stores_many, word_at, left_from, load_events, enough, many_outputs, loads_many}
 

@@ -2,7 +2,7 @@
 use Rattle.std.specs.Prelude.{◌≡◌, ℕ, zero, suc, ◌+◌, List, [], ◌∷◌, ◌++◌, length, map, true, if◌then◌else◌}
 use Rattle.thumb_instr.specs.declared.instr.Instr.{Instr}
 use Rattle.thumb_model.specs.Listing.{Line, Place, Op, Word, places_of}
-use Rattle.thumb_model.specs.ReplacedLines.{is_op, labels_kept, new_line, replaced_lines}
+use Rattle.thumb_model.specs.Replaced.{is_op, labels_kept, new_line, replaced_lines}
 
 -- the first n places are instructions
 abbrev pub AreOps : ℕ → List Place → Type 0

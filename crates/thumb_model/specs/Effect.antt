@@ -1,5 +1,6 @@
--- What each instruction that goes on writes, by the ARM manual's pseudocode.
-use Rattle.std.specs.Prelude.{ℕ, true, false, Bool, List, [], ◌∷◌, ◌-◌, ◌*◌, ◌%◌, ◌^◌, ◌==◌, bit_and, bit_or, bit_xor}
+-- The items and what they hold, what each instruction that goes on writes, by the ARM manual's pseudocode, and when two sequences leave the same.
+use Rattle.std.specs.Prelude.{ℕ, ◌<◌, ◌^◌, ◌/◌, ◌*◌, ◌≤◌, ◌==◌, List, [], ◌∷◌, if◌then◌else◌, true, false, Bool, ◌-◌, ◌%◌, bit_and, bit_or, bit_xor, ◌≡◌, ◌+◌, ◌||◌, max, Some, slice_get}
+pub use Rattle.thumb_instr.specs.Items.{sp, lr, n_flag, z_flag, c_flag, v_flag, one_of}
 use Rattle.std.specs.Int.{bit_at, from_bool}
 use Rattle.word_bits.specs.declared.Sum.{Sum as WordSum}
 use Rattle.word_bits.specs.declared.Shift.{Shift as WordShift}
@@ -19,7 +20,29 @@ use Rattle.thumb_instr.specs.declared.operation.Extension.{Extension}
 use Rattle.thumb_instr.specs.declared.operation.Extension.TheVariants as extension
 use Rattle.thumb_instr.specs.declared.operation.Reversal.{Reversal}
 use Rattle.thumb_instr.specs.declared.operation.Reversal.TheVariants as reversal
-use Rattle.thumb_model.specs.Items.{Values, assigned, written_to, sp, n_flag, z_flag, c_flag, v_flag}
+use Rattle.thumb_instr.specs.Window.{Low, named, AreBelow, is_in_window, normal_of}
+
+-- Items: the registers r0 to r12, sp, lr and the flags N, Z, C, V, by number, and what they hold.
+
+-- what each item holds
+abbrev pub Values : Type 0
+Values = ℕ → ℕ
+
+-- a register holds a word, and a flag 0 or 1
+pub record AreWords (v : Values) : Type 0 where
+  pub register : (x : ℕ) → x < 15 → v x < 2 ^ 32
+  pub flag : (x : ℕ) → 15 ≤ x → v x < 2
+
+-- the values after new ones were given to some items, the first of which counts
+abbrev pub assigned : List (ℕ × ℕ) → Values → Values
+assigned [] v = v
+assigned (o ∷ os) v = λ x. if x == o.0 then o.1 else assigned os v x
+
+-- what a register holds after a word was written to it: the two low bits of sp stay zero
+abbrev pub written_to : ℕ → ℕ → ℕ
+written_to x word = if x == sp then word / 4 * 4 else word
+
+-- What each instruction that goes on writes, by the ARM manual's pseudocode.
 
 -- N and Z of a result: its highest bit, and whether it is zero
 abbrev pub result_flags : ℕ → List (ℕ × ℕ)
@@ -121,3 +144,36 @@ after i v = assigned (outputs i v) v
 abbrev pub after_all : List Instr → Values → Values
 after_all [] v = v
 after_all (i ∷ is) v = after_all is (after i v)
+
+-- Sequences of window instructions: what they name, and when two of them leave the same.
+
+-- from every state, each item of the mask is the same after both
+abbrev pub Equal : List Instr → List Instr → List ℕ → Type 0
+Equal left right mask = (v : Values) → AreWords v → (x : ℕ) → one_of x mask ≡ true → after_all left v x ≡ after_all right v x
+
+-- no two of them are the same
+pub record IsOneToOne (registers : List Low) : Type 0 where
+  pub distinct : (j k : ℕ) (r : Low) → slice_get registers j ≡ Some r → (s : Low) → slice_get registers k ≡ Some s → r.number ≡ s.number → j ≡ k
+
+-- each instruction may stand in a window, and names registers below k alone
+abbrev pub AreOver : ℕ → List Instr → Type 0
+AreOver k [] = Unit {0}
+AreOver k (i ∷ is) = (is_in_window i ≡ true) × AreBelow k (named i) × AreOver k is
+
+-- whether some instruction names the register
+abbrev pub is_named : ℕ → List Instr → Bool
+is_named x [] = false
+is_named x (i ∷ is) = one_of x (named i) || is_named x is
+
+-- how many registers instructions name where they name each one below the greatest: the least number that is above all that they name
+abbrev pub above : List ℕ → ℕ
+above [] = 0
+above (x ∷ xs) = max (x + 1) (above xs)
+
+abbrev pub register_count : List Instr → ℕ
+register_count [] = 0
+register_count (i ∷ is) = max (above (named i)) (register_count is)
+
+-- the instruction that stands for both encodings of one effect
+abbrev pub normalised : Instr → Instr
+normalised i = normal_of i

@@ -4,7 +4,7 @@ use Rattle.thumb_instr.specs.declared.instr.Instr.{Instr}
 use Rattle.thumb_instr.specs.declared.instr.Instr.TheVariants as instr
 use Rattle.thumb_instr.specs.Items.{has}
 use Rattle.thumb_instr.specs.Shape.{registers_in, uses_of, writes_of, condition_uses}
-use Rattle.thumb_model.specs.Items.{one_of, sp, lr}
+use Rattle.thumb_model.specs.Effect.{one_of, sp, lr}
 use Rattle.thumb_model.specs.Listing.{Place, Op, Word, Code, IsPoint}
 use Rattle.thumb_model.specs.States.{registers_left, handed, answered}
 use Rattle.thumb_model.specs.Steps.{aim_of}

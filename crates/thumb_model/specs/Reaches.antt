@@ -1,6 +1,6 @@
 -- What the layout lets through is what an encoding's field holds.
 use Rattle.std.specs.Prelude.{◌≡◌, ◌↔◌, ℕ, ◌+◌, ◌*◌, ◌%◌, ◌<◌, Some, None}
-use Rattle.thumb_instr.specs.Distance.{IsDistance}
+use Rattle.thumb_instr.specs.Items.{IsDistance}
 use Rattle.thumb_model.specs.Layout.{branch_fault, distance, literal_base, literal_fault}
 
 -- a branch has no fault exactly where its distance has a field

@@ -2,8 +2,7 @@
 use Rattle.std.specs.Prelude.{◌≡◌, ◌↔◌, ℕ, ◌+◌, ◌<◌, true, List, [], ◌∷◌, ◌++◌, length, Contains}
 use Rattle.thumb_model.specs.Listing.{Name, Line, Place, places_of, is_call, call_count}
 use Rattle.thumb_model.specs.Layout.{end_of}
-use Rattle.thumb_model.specs.Laid.{IsCutAtCall, laid}
-use Rattle.thumb_model.specs.Naming.{Naming, returns_from}
+use Rattle.thumb_model.specs.Naming.{IsCutAtCall, laid, Naming, returns_from}
 
 -- each call's number has a cut
 abbrev pub EachCallIsACut : Type 0

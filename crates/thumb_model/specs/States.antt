@@ -1,6 +1,6 @@
 -- What a machine holds and what can be seen of it, and what an instruction may do to it.
 use Rattle.std.specs.Prelude.{◌≡◌, ℕ, ◌%◌, ◌<◌, ◌==◌, List, [], ◌∷◌, if◌then◌else◌}
-use Rattle.thumb_model.specs.Items.{Values, AreWords, assigned, sp, lr, n_flag, z_flag, c_flag, v_flag}
+use Rattle.thumb_model.specs.Effect.{Values, AreWords, assigned, sp, lr, n_flag, z_flag, c_flag, v_flag}
 
 -- ---- states ----
 

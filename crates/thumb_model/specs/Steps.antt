@@ -3,7 +3,7 @@ use Rattle.std.specs.Prelude.{ℕ, zero, suc, ◌+◌, ◌*◌, ◌/◌, ◌%◌
 use Rattle.std.specs.Str.{bytes_eq}
 use Rattle.thumb_instr.specs.declared.instr.Instr.{Instr}
 use Rattle.thumb_instr.specs.declared.instr.Instr.TheVariants as instr
-use Rattle.thumb_model.specs.Items.{assigned}
+use Rattle.thumb_model.specs.Effect.{assigned}
 use Rattle.thumb_model.specs.Listing.{Name, Mention, Value, Number, OfName, Place, Op, Word, Label, Code, place_of, call_count}
 use Rattle.thumb_model.specs.Naming.{Naming, is_odd, is_in_range, points}
 use Rattle.thumb_model.specs.States.{Fell, At, Here, Ended, State, Target, Inside, External, Landing, Goes, Leaves, Strays, Around, Next, On, Stay, To, Over, Act}

@@ -7,7 +7,7 @@ use Rattle.std.proofs.lemmas.Bool.Decides.{nat_tests}
 use Rattle.std.proofs.lemmas.List.{take_more, take-take, take_all}
 use Rattle.std.proofs.lemmas.List.Elements.{All-tail, All-head, recursion_from_All, Contains-push_cases}
 use Rattle.std.proofs.lemmas.Map.Steps.{length-le_from_distinct_below}
-use Rattle.clause_model.specs.Literals.{negated}
+use Rattle.clause_model.specs.Clauses.{negated}
 use Rattle.clause_arena.specs.Contents.{Content, Watches}
 use Rattle.unit_propagation.specs.Watching.{IsOtherTrue, RuleUpTo, Rule, IsLater}
 use Rattle.unit_propagation.proofs.Steps.{later_after}

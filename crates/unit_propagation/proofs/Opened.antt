@@ -2,8 +2,7 @@
 use Rattle.std.proofs.Common.{ℕ, ◌<◌, ◌⊎◌, List, [], ◌∷◌, length, inl, inr, subst, arith, suc}
 use Rattle.std.specs.Prelude.{Contains, Any}
 use Rattle.std.proofs.lemmas.Bool.{cases_eq}
-use Rattle.clause_model.specs.Literals.{negated}
-use Rattle.clause_model.specs.Clauses.{IsOpen}
+use Rattle.clause_model.specs.Clauses.{negated, IsOpen}
 use Rattle.clause_arena.specs.Contents.{Content, IsWhole, literals_of}
 use Rattle.unit_propagation.specs.Watching.{IsWatched, IsOtherTrue, Rule}
 use Rattle.unit_propagation.proofs.Steps.{Contains-first, Contains-cases, one_watched}

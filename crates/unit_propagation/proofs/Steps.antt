@@ -5,8 +5,7 @@ use Rattle.std.proofs.Math.ListN.{set}
 use Rattle.std.proofs.lemmas.Bool.{cases_eq, cases_lt}
 use Rattle.std.proofs.lemmas.List.{length-set, get_or-set_same, get_or-set_other, take-append-le, take_at, take_all, take-append-drop, take-take, get_or_push, get_or-take}
 use Rattle.std.proofs.lemmas.List.Elements.{Contains-append_left, Contains-append_right, All-weaker, All-push}
-use Rattle.clause_model.specs.Literals.{negated}
-use Rattle.clause_model.specs.Clauses.{IsConsistent, IsFalse, IsUnit}
+use Rattle.clause_model.specs.Clauses.{negated, IsConsistent, IsFalse, IsUnit}
 use Rattle.clause_arena.specs.Contents.{Clause, Content, HasClause, HasLiteral, Watches, IsWhole, IsAfter, chain_of, literals_of, literals_in, clause_among, watched, with_chain}
 use Rattle.unit_propagation.specs.Watching.{IsWatched, IsAttached, IsOtherTrue, RuleUpTo, Rule, IsLater, IsMoved, IsReason, Due}
 

@@ -4,7 +4,7 @@ use Rattle.std.specs.Prelude.{Contains, slice_get, ◌&&◌}
 use Rattle.std.proofs.lemmas.Bool.{cases_eq}
 use Rattle.std.proofs.lemmas.Bool.Decides.{nat_tests}
 use Rattle.std.proofs.lemmas.List.Elements.{Contains-append_left, Contains-append_right}
-use Rattle.clause_model.specs.Literals.{negated}
+use Rattle.clause_model.specs.Clauses.{negated}
 use Rattle.clause_arena.specs.Contents.{Clause, Content, HasLiteral, Watches, IsWhole, IsBetween, IsAfter, chain_of, literals_in, clause_among}
 use Rattle.unit_propagation.specs.Watching.{IsKnown, IsOtherTrue, RuleUpTo, IsLater, IsMoved, Due}
 use Rattle.unit_propagation.proofs.Steps.{Contains-first, due_true, later_after, later_same, part_of_longer}

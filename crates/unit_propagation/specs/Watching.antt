@@ -1,7 +1,6 @@
 -- The rule of watches.
 use Rattle.std.specs.Prelude.{ℕ, false, [], ◌≡◌, ◌≢◌, ◌-◌, ◌<◌, ◌≤◌, ◌⊎◌, List, ◌∷◌, ◌++◌, Contains, All, take, length, Option, Some, slice_get, get_or}
-use Rattle.clause_model.specs.Literals.{negated}
-use Rattle.clause_model.specs.Clauses.{IsUnit}
+use Rattle.clause_model.specs.Clauses.{negated, IsUnit}
 use Rattle.clause_arena.specs.Contents.{Content, HasClause, HasLiteral, Watches, IsAfter, literals_of, chain_of}
 
 -- the clause's slots watch two different literals of it

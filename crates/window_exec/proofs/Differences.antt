@@ -2,8 +2,8 @@
 use Rattle.std.proofs.Common.{◌≡◌, ℕ, zero, suc, ◌+◌, ◌-◌, ◌<◌, ◌≤◌, ◌↔◌, ◌==◌, ◌&&◌, ◌||◌, not, Bool, true, IsTrue, inl, inr, refl, subst, arith, nat_lt, nat_le, eq-eqb}
 use Rattle.std.proofs.lemmas.Bool.{cases_Bool, and_parts, or_cases, or_left, or_right, eqb-true, ltb-true, leb-true}
 use Rattle.thumb_instr.specs.Items.{has, is_in_masks}
-use Rattle.thumb_model.specs.Items.{Values}
-use Rattle.window_exec.specs.Telling.{Differ}
+use Rattle.thumb_model.specs.Effect.{Values}
+use Rattle.window_exec.specs.State.{Differ}
 
 -- whether an item is in the mask and differs
 abbrev pub differs_at : ℕ → Values → Values → ℕ → Bool

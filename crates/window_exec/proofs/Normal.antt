@@ -6,8 +6,7 @@ use Rattle.thumb_instr.specs.declared.operation.Sum.{Sum}
 use Rattle.thumb_instr.specs.declared.operation.Sum.TheVariants as sum
 use Rattle.thumb_instr.specs.declared.within.Within.{Within}
 use Rattle.thumb_instr.specs.Window.{normal_of, byte_of, byte_sum}
-use Rattle.thumb_model.specs.Items.{Values, assigned}
-use Rattle.thumb_model.specs.Effect.{after, outputs, sum_outputs, three_sum}
+use Rattle.thumb_model.specs.Effect.{Values, assigned, after, outputs, sum_outputs, three_sum}
 
 sums_agree : (s : Sum) (d n k : Within 0 8) (v : Values) → d.number ≡ n.number → outputs (instr.TwoNumber (byte_sum s) d (byte_of k)) v ≡ outputs (instr.ThreeNumber s d n k) v
 sums_agree sum.Add d n k v e = ap (λ x. sum_outputs d.number (three_sum sum.Add (v x) k.number)) e

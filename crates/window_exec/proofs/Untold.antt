@@ -4,10 +4,8 @@ use Rattle.std.specs.Prelude.{◌↔◌}
 use Rattle.std.proofs.lemmas.Bool.{cases_Bool}
 use Rattle.thumb_instr.specs.declared.instr.Instr.{Instr}
 use Rattle.thumb_instr.specs.Items.{has, one_of}
-use Rattle.thumb_model.specs.Items.{Values, AreWords}
-use Rattle.thumb_model.specs.Effect.{after_all}
-use Rattle.thumb_model.specs.Sides.{Equal}
-use Rattle.window_exec.specs.Telling.{Tells}
+use Rattle.thumb_model.specs.Effect.{Values, AreWords, after_all, Equal}
+use Rattle.window_exec.specs.State.{Tells}
 
 pub equal_is_untold : (left right : List Instr) (items : List ℕ) (mask : ℕ) → ((x : ℕ) → has mask x ≡ one_of x items) → Equal left right items ↔ ((v : Values) → AreWords v → Tells v left right mask → ⊥)
 equal_is_untold left right items mask same = (

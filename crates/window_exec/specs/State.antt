@@ -1,9 +1,19 @@
--- What a state of a window holds, item by item.
-use Rattle.std.specs.Prelude.{◌==◌, slice_index, if◌then◌else◌}
+-- States of a window, what each holds item by item, and what tells two sequences apart.
+use Rattle.std.specs.Prelude.{ℕ, List, ◌==◌, slice_index, if◌then◌else◌, ◌≡◌, ◌≢◌, true}
 use Rattle.std.specs.Int.{bit_at}
 use Rattle.window_exec.specs.declared.state.WState.{WState}
-use Rattle.thumb_model.specs.Items.{Values, n_flag, z_flag, c_flag, v_flag}
-use Rattle.window_exec.specs.Seen.{Seen}
+use Rattle.thumb_model.specs.Effect.{Values, n_flag, z_flag, c_flag, v_flag, after_all}
+use Rattle.thumb_instr.specs.declared.instr.Instr.{Instr}
+use Rattle.thumb_instr.specs.Items.{has}
+
+-- States of a window.
+
+-- what a state holds: r0 to r3, and the flags with N as 8, Z as 4, C as 2 and V as 1
+pub record Seen : Type 0 where
+  pub r : List ℕ
+  pub nzcv : ℕ
+
+-- What a state of a window holds, item by item.
 
 -- r0 to r3, and the flags N, Z, C, V as bits 3 to 0; every other item is 0
 abbrev pub values_of : WState → Values
@@ -17,3 +27,13 @@ values_of s = λ x.
 -- what a state holds
 abbrev pub seen : WState → Seen
 seen s = record { r = s.r; nzcv = s.nzcv }
+
+-- What tells two sequences apart.
+
+-- some item of the mask has another value
+abbrev pub Differ : Values → Values → ℕ → Type 0
+Differ v w mask = (x : ℕ) × (has mask x ≡ true) × (v x ≢ w x)
+
+-- some item of the mask differs after the two
+abbrev pub Tells : Values → List Instr → List Instr → ℕ → Type 0
+Tells v left right mask = Differ (after_all left v) (after_all right v) mask

@@ -2,9 +2,8 @@
 use Rattle.std.specs.Prelude.{◌≡◌, ◌↔◌, ℕ, List}
 use Rattle.thumb_instr.specs.declared.instr.Instr.{Instr}
 use Rattle.thumb_instr.specs.Items.{has, one_of}
-use Rattle.thumb_model.specs.Items.{Values, AreWords}
-use Rattle.thumb_model.specs.Sides.{Equal}
-use Rattle.window_exec.specs.Telling.{Tells}
+use Rattle.thumb_model.specs.Effect.{Values, AreWords, Equal}
+use Rattle.window_exec.specs.State.{Tells}
 
 -- a mask as a list of items, by which equality is said, and as a word, by which states tell
 abbrev pub EqualIsUntold : Type 0

@@ -1,9 +1,8 @@
 //! What an instruction that looks at registers and flags alone does to any file of registers.
 ghost use Rattle.std.specs.Prelude.{◌≡◌, ℕ, ◌<◌, ◌≤◌, true, false};
 ghost use Rattle.word_bits.specs.Word.{shift_of};
-ghost use Rattle.thumb_instr.specs.Renaming.{named, AreBelow};
-ghost use Rattle.thumb_model.specs.Items.{assigned, written_to, c_flag};
-ghost use Rattle.thumb_model.specs.Effect.{result_outputs, shift_outputs, sum_outputs, three_sum, right_shift, extension_of, reversal_of, two_outputs, byte_outputs, after};
+ghost use Rattle.thumb_instr.specs.Window.{named, AreBelow};
+ghost use Rattle.thumb_model.specs.Effect.{assigned, written_to, c_flag, result_outputs, shift_outputs, sum_outputs, three_sum, right_shift, extension_of, reversal_of, two_outputs, byte_outputs, after};
 ghost use Rattle.window_exec.specs.Computes.{computes};
 
 use crate::register_file::RegisterFile;

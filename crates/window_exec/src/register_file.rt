@@ -1,8 +1,7 @@
 //! What the computation of an instruction asks of registers and flags.
 ghost use Rattle.std.specs.Prelude.{◌≡◌, ℕ, ◌<◌, ◌==◌, [], ◌∷◌};
 ghost use Rattle.std.specs.Int.{bit_at, from_bool};
-ghost use Rattle.thumb_model.specs.Items.{Values, assigned, c_flag};
-ghost use Rattle.thumb_model.specs.Effect.{result_flags, sum_flags};
+ghost use Rattle.thumb_model.specs.Effect.{Values, assigned, c_flag, result_flags, sum_flags};
 
 use crate::words::Word;
 

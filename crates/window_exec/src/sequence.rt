@@ -1,10 +1,8 @@
 //! Sequences of instructions on one state, and whether a state tells two of them apart: what an audit and a learner ask most.
 ghost use Rattle.std.specs.Prelude.{◌≡◌, ◌<◌, ◌≤◌, ◌↔◌, ◌==◌, ◌&&◌, not, IsTrue};
 ghost use Rattle.thumb_instr.specs.Items.{has};
-ghost use Rattle.thumb_model.specs.Effect.{after_all};
-ghost use Rattle.thumb_model.specs.Sides.{AreOver};
-ghost use Rattle.window_exec.specs.State.{values_of};
-ghost use Rattle.window_exec.specs.Telling.{Differ, Tells};
+ghost use Rattle.thumb_model.specs.Effect.{after_all, AreOver};
+ghost use Rattle.window_exec.specs.State.{values_of, Differ, Tells};
 
 use crate::state::WState;
 use crate::stepping::step;

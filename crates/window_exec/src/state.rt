@@ -1,7 +1,7 @@
 //! A window's state is small: four registers and the flags, as no rule names more.
 ghost use Rattle.std.specs.Prelude.{◌≡◌, ◌<◌, ◌≤◌, ◌==◌};
 ghost use Rattle.std.specs.Int.{from_bool};
-ghost use Rattle.thumb_model.specs.Items.{v_flag};
+ghost use Rattle.thumb_model.specs.Effect.{v_flag};
 ghost use Rattle.window_exec.specs.State.{values_of};
 
 use crate::register_file::{RegisterFile, flags};

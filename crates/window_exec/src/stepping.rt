@@ -1,7 +1,6 @@
 //! One instruction on one state.
 ghost use Rattle.std.specs.Prelude.{◌≡◌, ◌<◌, true};
-ghost use Rattle.thumb_instr.specs.Window.{is_in_window};
-ghost use Rattle.thumb_instr.specs.Renaming.{named, AreBelow};
+ghost use Rattle.thumb_instr.specs.Window.{is_in_window, named, AreBelow};
 ghost use Rattle.thumb_model.specs.Effect.{after};
 ghost use Rattle.window_exec.specs.State.{values_of};
 

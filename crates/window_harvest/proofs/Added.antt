@@ -3,7 +3,7 @@ use Rattle.std.proofs.Common.{◌≡◌, ℕ, zero, suc, ◌+◌, ◌-◌, ◌<�
 use Rattle.std.specs.Prelude.{Contains}
 use Rattle.std.specs.List.{flat_map}
 use Rattle.thumb_model.specs.Listing.{Line}
-use Rattle.seq_enum.specs.Lists.{numbers_from}
+use Rattle.seq_enum.specs.Alphabet.{numbers_from}
 use Rattle.window_harvest.specs.Harvest.{Pair, Limits, Spot, IsPairAt, ArePairs, none, passed, given, AreFirsts, ended, known, new, spot_of, spots_at, spots, AreAdded}
 use Rattle.window_harvest.specs.Keys.{IsPut}
 

@@ -3,8 +3,7 @@ use Rattle.std.proofs.Common.{◌≡◌, ℕ, zero, suc, ◌+◌, ◌<◌, ◌�
 use Rattle.std.specs.Prelude.{slice_get, map, Contains}
 use Rattle.std.proofs.lemmas.Option.{same_Some}
 use Rattle.thumb_instr.specs.declared.instr.Instr.{Instr}
-use Rattle.seq_enum.specs.Lists.{numbers_from, held_in, grid2, grid3}
-use Rattle.seq_enum.specs.Alphabet.{rows, members, alphabet, words, sequences_of, sequences, IsOver}
+use Rattle.seq_enum.specs.Alphabet.{numbers_from, held_in, grid2, grid3, rows, members, alphabet, words, sequences_of, sequences, IsOver}
 use Rattle.seq_enum.proofs.Numbered.{flat_map_from, numbers_at}
 use Rattle.seq_enum.proofs.Words.{words_parts}
 use Rattle.window_harvest.proofs.Lists.{In, contains_in, in_contains, in_map, in_lists, Each, each_all, all_each, each_append}

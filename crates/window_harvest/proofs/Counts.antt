@@ -9,10 +9,9 @@ use Rattle.std.proofs.lemmas.List.{map-append}
 use Rattle.std.proofs.lemmas.List.{length-map}
 use Rattle.std.proofs.lemmas.Option.{slice_get-map}
 use Rattle.thumb_instr.specs.declared.instr.Instr.{Instr}
-use Rattle.thumb_instr.specs.Window.{is_in_window, normal_of}
-use Rattle.thumb_instr.specs.Renaming.{Low, named, renamed, AreBelow, item_under, number_or}
+use Rattle.thumb_instr.specs.Window.{is_in_window, normal_of, Low, named, renamed, AreBelow, item_under, number_or}
 use Rattle.thumb_instr.proofs.RenamingLemmas.{named_renamed, below_parts}
-use Rattle.thumb_model.specs.Sides.{above, register_count}
+use Rattle.thumb_model.specs.Effect.{above, register_count}
 use Rattle.rule_table.specs.Canonical.{has, with_first, firsts, numbers_of, appearing, IsRenamable, IsCanonical}
 use Rattle.window_harvest.proofs.Once.{AreDistinct, distinct_firsts, or_false, or_parts, has_append, has_at, name_at}
 use Rattle.window_harvest.proofs.Pairs.{seq_letters}

@@ -12,8 +12,7 @@ use Rattle.std.proofs.lemmas.List.Folds.{list_any-append}
 use Rattle.thumb_instr.specs.declared.instr.Instr.{Instr}
 use Rattle.thumb_instr.specs.declared.instr.Instr.TheVariants as instr
 use Rattle.thumb_instr.specs.Items.{has as has_item}
-use Rattle.thumb_instr.specs.Window.{is_in_window, normal_of}
-use Rattle.thumb_instr.specs.Renaming.{Low, named, renamed, AreBelow, item_under, number_or}
+use Rattle.thumb_instr.specs.Window.{is_in_window, normal_of, Low, named, renamed, AreBelow, item_under, number_or}
 use Rattle.thumb_instr.proofs.Registers.{same_number}
 use Rattle.thumb_instr.proofs.RenamingLemmas.{below_parts}
 use Rattle.rule_table.specs.Canonical.{has, with_first, firsts, name_in, numbers_of, appearing, masked, IsCanonical}

@@ -4,8 +4,7 @@ use Rattle.std.specs.List.{list_all}
 use Rattle.std.proofs.lemmas.List.{length-map}
 use Rattle.thumb_instr.specs.declared.instr.Instr.{Instr}
 use Rattle.thumb_instr.specs.Items.{has as has_item}
-use Rattle.thumb_instr.specs.Window.{is_in_window}
-use Rattle.thumb_instr.specs.Renaming.{Low}
+use Rattle.thumb_instr.specs.Window.{is_in_window, Low}
 use Rattle.thumb_model.specs.Listing.{plain, Line, places_of}
 use Rattle.rule_table.specs.Canonical.{IsRenamable, IsCanonical}
 use Rattle.rule_table.proofs.Backs.{windows_normal}

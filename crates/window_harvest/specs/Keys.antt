@@ -2,9 +2,8 @@
 use Rattle.std.specs.Prelude.{◌≡◌, ◌≤◌, ◌==◌, ◌&&◌, ℕ, Bool, true, List, [], ◌∷◌, ◌++◌, Some, Contains, ◌⊎◌, ◌↔◌}
 use Rattle.std.specs.List.{list_any}
 use Rattle.thumb_instr.specs.declared.instr.Instr.{Instr}
-use Rattle.thumb_model.specs.Sides.{register_count}
-use Rattle.seq_enum.specs.Lists.{IsPlace}
-use Rattle.seq_enum.specs.Alphabet.{sequences, IsOver}
+use Rattle.thumb_model.specs.Effect.{register_count}
+use Rattle.seq_enum.specs.Alphabet.{IsPlace, sequences, IsOver}
 use Rattle.window_harvest.specs.Harvest.{Pair}
 use Rattle.window_harvest.specs.declared.keys.Key.{Key}
 

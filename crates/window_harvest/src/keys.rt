@@ -1,6 +1,6 @@
 //! Keys of pairs, by which a pair that was seen is found again.
 ghost use Rattle.std.specs.Prelude.{◌≡◌, ◌≤◌, ◌<◌, length, MatchOption};
-ghost use Rattle.thumb_model.specs.Sides.{register_count};
+ghost use Rattle.thumb_model.specs.Effect.{register_count};
 ghost use Rattle.window_harvest.specs.Keys.{IsKey, Lies};
 ghost use Rattle.window_harvest.specs.Numberings.{AreNumberings};
 

@@ -7,13 +7,12 @@ use Rattle.std.proofs.lemmas.Option.{slice_get_within}
 use Rattle.std.proofs.lemmas.Bool.{cases_lt, eqb-true, ltb-true, lt-ltb}
 use Rattle.thumb_instr.specs.declared.instr.Instr.{Instr}
 use Rattle.thumb_instr.specs.Items.{has}
-use Rattle.thumb_instr.specs.Window.{is_in_window}
-use Rattle.thumb_instr.specs.Renaming.{Low}
+use Rattle.thumb_instr.specs.Window.{is_in_window, Low}
 use Rattle.thumb_model.specs.Listing.{plain, Place, Label, Line, places_of, labels_from, code_of}
 use Rattle.rule_model.specs.Rules.{Rule, IsSoundRule, alone, rule_at}
 use Rattle.rule_model.specs.Rewriting.{Setting, Replacement, NoneApplies, used_rule, left_length, left_length_of}
 use Rattle.rule_model.proofs.Alone.{alone_is}
-use Rattle.thumb_model.specs.ReplacedLines.{are_joined_from}
+use Rattle.thumb_model.specs.Replaced.{are_joined_from}
 use Rattle.thumb_model.specs.Flow.{LiveAfter}
 use Rattle.thumb_model.proofs.Lists.{length_map, take_all, take_short, length_drop}
 use Rattle.thumb_model.proofs.Window.{AreStraight}
@@ -27,7 +26,7 @@ use Rattle.window_runs.specs.Runs.{run}
 use Rattle.window_runs.proofs.Joined.{run_window, window_in_run}
 use Rattle.window_rewrite.specs.declared.choice.Choice.{Choice}
 use Rattle.window_rewrite.specs.Rewriting.{setting_by}
-use Rattle.table_audit.specs.Sides.{IsCanonicalSide}
+use Rattle.table_audit.specs.Shorter.{IsCanonicalSide}
 use Rattle.window_rewrite.specs.Rules.{rules_in, left_forms, side_length, is_marked, AreFit, AreLed, first_with}
 use Rattle.window_rewrite.specs.Forms.{form_of}
 use Rattle.window_rewrite.specs.Fitting.{left_registers, NoneStands, Lightens, Stands, StandsThere}

@@ -5,12 +5,10 @@ use Rattle.std.specs.Option.{option_map}
 use Rattle.std.proofs.lemmas.Option.{slice_get-map}
 use Rattle.kept_places.specs.Marks.{is_gone, rank}
 use Rattle.thumb_instr.specs.declared.instr.Instr.{Instr}
-use Rattle.thumb_instr.specs.Window.{is_in_window}
-use Rattle.thumb_instr.specs.Renaming.{Low}
+use Rattle.thumb_instr.specs.Window.{is_in_window, Low}
 use Rattle.thumb_model.specs.Listing.{plain, Place, Code, Line, code_of, places_of, labels_from}
 use Rattle.thumb_model.specs.Flow.{Reads, LiveAfter}
-use Rattle.thumb_model.specs.Replaced.{moved, replaced}
-use Rattle.thumb_model.specs.ReplacedLines.{are_joined_from, replaced_lines}
+use Rattle.thumb_model.specs.Replaced.{moved, replaced, are_joined_from, replaced_lines}
 use Rattle.thumb_model.specs.Cuts.{AreOps}
 use Rattle.thumb_model.proofs.Lists.{get_drop, get_take}
 use Rattle.thumb_model.proofs.LinesReplaced.{ops_of, outside_of}

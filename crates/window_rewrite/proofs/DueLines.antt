@@ -3,7 +3,7 @@ use Rattle.std.proofs.Common.{◌≡◌, ℕ, zero, suc, ◌+◌, ◌-◌, ◌<�
 use Rattle.std.proofs.lemmas.Bool.{eqb-true}
 use Rattle.thumb_instr.specs.declared.instr.Instr.{Instr}
 use Rattle.thumb_model.specs.Listing.{Name, Statement, Nothing, Runs, Words, Aligns, Sets, Line, Place, places_in, places_of}
-use Rattle.thumb_model.specs.ReplacedLines.{is_op, is_align, without, labels_kept, new_line, replaced_lines, are_joined, are_joined_from}
+use Rattle.thumb_model.specs.Replaced.{is_op, is_align, without, labels_kept, new_line, replaced_lines, are_joined, are_joined_from}
 use Rattle.thumb_model.specs.Cuts.{AreOps}
 
 -- ---- the places of a line ----

@@ -4,8 +4,7 @@ use Rattle.kept_places.specs.Marks.{is_gone, rank}
 use Rattle.thumb_instr.specs.declared.instr.Instr.{Instr}
 use Rattle.thumb_model.specs.Listing.{Code, Line, code_of, places_of}
 use Rattle.thumb_model.specs.Flow.{Reads}
-use Rattle.thumb_model.specs.Replaced.{moved}
-use Rattle.thumb_model.specs.ReplacedLines.{replaced_lines}
+use Rattle.thumb_model.specs.Replaced.{moved, replaced_lines}
 use Rattle.rule_model.specs.Rules.{Rule, weight, IsSoundRule}
 use Rattle.rule_model.specs.Rewriting.{Setting, Replacement, used_rule, AppliesIn}
 use Rattle.rule_model.proofs.LinesKept.{some_left}

@@ -8,7 +8,7 @@ use Rattle.kept_places.proofs.Ranks.{marked_other, marked_replicate, marked_set,
 use Rattle.thumb_instr.specs.declared.instr.Instr.{Instr}
 use Rattle.thumb_instr.specs.Items.{has}
 use Rattle.thumb_model.specs.Listing.{Code, Line, Place, code_of, labels_from, places_of}
-use Rattle.thumb_model.specs.ReplacedLines.{replaced_lines}
+use Rattle.thumb_model.specs.Replaced.{replaced_lines}
 use Rattle.thumb_model.proofs.Lists.{length_map, take_all}
 use Rattle.thumb_model.proofs.LinesReplaced.{ops_of}
 use Rattle.rule_model.specs.Rewriting.{Setting, Replacement, lines_after, left_length_of, AppliesIn, IsFirst, NoneApplies}

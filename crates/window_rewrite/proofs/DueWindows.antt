@@ -5,7 +5,7 @@ use Rattle.std.specs.Option.{option_map}
 use Rattle.std.proofs.lemmas.Bool.{cases_lt}
 use Rattle.std.proofs.lemmas.Option.{slice_get-map}
 use Rattle.thumb_instr.specs.declared.instr.Instr.{Instr}
-use Rattle.thumb_instr.specs.Renaming.{Low, renamed}
+use Rattle.thumb_instr.specs.Window.{Low, renamed}
 use Rattle.thumb_model.specs.Listing.{plain, Label, Place, Code, is_code, is_op_place}
 use Rattle.thumb_model.specs.Flow.{LiveAfter}
 use Rattle.thumb_model.specs.Replaced.{moved, move_label, replaced}

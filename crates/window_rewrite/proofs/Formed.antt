@@ -15,17 +15,15 @@ use Rattle.thumb_instr.specs.declared.role.Role.TheVariants.{Register}
 use Rattle.thumb_instr.specs.Items.{has, is_in_masks}
 use Rattle.thumb_instr.specs.Parts.{parts_of}
 use Rattle.thumb_instr.specs.Roles.{roles}
-use Rattle.thumb_instr.specs.Window.{is_in_window}
-use Rattle.thumb_instr.specs.Renaming.{Low, named, named_by, renamed, AreBelow, item_under, number_or}
+use Rattle.thumb_instr.specs.Window.{is_in_window, Low, named, named_by, renamed, AreBelow, item_under, number_or}
 use Rattle.thumb_instr.proofs.PartLemmas.{same_parts, same_fields}
 use Rattle.thumb_instr.proofs.RenamingLemmas.{below_parts}
-use Rattle.thumb_model.specs.Items.{one_of}
+use Rattle.thumb_model.specs.Effect.{one_of, register_count}
 use Rattle.rule_model.specs.Rules.{Rule, IsSoundRule}
-use Rattle.thumb_model.specs.Sides.{register_count}
 use Rattle.rule_table.specs.Binding.{number_under}
 use Rattle.rule_table.specs.Canonical.{numbers_of, register_has, masked, IsRenamable, IsCanonical}
 use Rattle.rule_table.proofs.Renamings.{renamed_parts}
-use Rattle.table_audit.specs.Sides.{IsCanonicalSide}
+use Rattle.table_audit.specs.Shorter.{IsCanonicalSide}
 use Rattle.table_audit.proofs.CanonicalForms.{form_is_side}
 use Rattle.window_rewrite.specs.declared.forms.Form.{Form}
 use Rattle.window_rewrite.specs.Fitting.{Stands, Fits, IsForm}

@@ -6,8 +6,7 @@ use Rattle.std.proofs.lemmas.Bool.{cases_lt, lt-ltb, ltb-true}
 use Rattle.std.proofs.lemmas.Option.{same_Some, slice_get_within, slice_get-map}
 use Rattle.thumb_instr.specs.declared.instr.Instr.{Instr}
 use Rattle.thumb_instr.specs.declared.instr.Instr.TheVariants as instr
-use Rattle.thumb_instr.specs.Window.{normal_of}
-use Rattle.thumb_instr.specs.Renaming.{Low, renamed}
+use Rattle.thumb_instr.specs.Window.{normal_of, Low, renamed}
 use Rattle.rule_model.specs.Rules.{Rule, alone, rule_among, rule_at}
 use Rattle.rule_model.proofs.Alone.{alone_at, alone_is}
 use Rattle.seq_enum.specs.Costs.{weight_under}

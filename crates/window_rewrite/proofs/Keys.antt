@@ -7,7 +7,7 @@ use Rattle.std.proofs.lemmas.List.{length-set}
 use Rattle.std.proofs.lemmas.Nat.{mod_below}
 use Rattle.std.proofs.lemmas.Option.{slice_get_within, slice_get-map}
 use Rattle.thumb_instr.specs.declared.instr.Instr.{Instr}
-use Rattle.thumb_instr.specs.Renaming.{Low}
+use Rattle.thumb_instr.specs.Window.{Low}
 use Rattle.rule_model.specs.Rules.{Rule}
 use Rattle.thumb_model.proofs.Lists.{get_drop, length_drop}
 use Rattle.rule_table.specs.Table as tables

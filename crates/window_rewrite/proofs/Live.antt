@@ -6,8 +6,8 @@ use Rattle.std.specs.List.{list_any}
 use Rattle.std.proofs.lemmas.Bool.{and_parts, and_from, cases_lt, eq-eqb, eqb-true, le-ltb, or_cases}
 use Rattle.std.proofs.lemmas.Nat.Bits.{bit_at-lt, bit_at-zero, bit_at_ones, bit_at_ones_above, same_from_bits}
 use Rattle.thumb_instr.specs.Items.{has}
-use Rattle.thumb_instr.specs.Renaming.{Low, item_under}
-use Rattle.thumb_model.specs.Items.{one_of}
+use Rattle.thumb_instr.specs.Window.{Low, item_under}
+use Rattle.thumb_model.specs.Effect.{one_of}
 use Rattle.table_audit.specs.Soundness.{items_in}
 use Rattle.window_rewrite.specs.Fitting.{is_allowed}
 

@@ -7,12 +7,10 @@ use Rattle.std.proofs.Common.{lit≤, lit<}
 use Rattle.std.proofs.lemmas.Bool.{and_parts, cases_Bool, cases_lt}
 use Rattle.std.proofs.lemmas.Option.{slice_get_within}
 use Rattle.thumb_instr.specs.declared.instr.Instr.{Instr}
-use Rattle.thumb_instr.specs.Window.{is_in_window}
-use Rattle.thumb_instr.specs.Renaming.{Low, named, renamed, AreBelow, number_or}
+use Rattle.thumb_instr.specs.Window.{is_in_window, Low, named, renamed, AreBelow, number_or}
 use Rattle.thumb_instr.proofs.RenamingLemmas.{below_parts}
-use Rattle.thumb_model.specs.Items.{one_of}
+use Rattle.thumb_model.specs.Effect.{one_of, register_count, is_named}
 use Rattle.rule_model.specs.Rules.{Rule, IsSoundRule}
-use Rattle.thumb_model.specs.Sides.{register_count, is_named}
 use Rattle.thumb_model.proofs.Lists.{get_front, get_take, take_all}
 use Rattle.rule_table.specs.Canonical.{has}
 use Rattle.rule_table.proofs.Renamings.{AllNamed, IsSameUnder, renamed_alike}

@@ -1,10 +1,10 @@
 -- The numbers of sequences that a rule leaves open don't matter where it is used.
 use Rattle.std.proofs.Common.{◌≡◌, ℕ, Bool, true, List, length, map, Option, Some, sym, subst}
 use Rattle.thumb_instr.specs.declared.instr.Instr.{Instr}
-use Rattle.thumb_instr.specs.Renaming.{Low, renamed}
+use Rattle.thumb_instr.specs.Window.{Low, renamed}
 use Rattle.thumb_model.specs.Layout.{Layable}
 use Rattle.thumb_model.specs.Listing.{Line, labels_from, places_of}
-use Rattle.thumb_model.specs.ReplacedLines.{replaced_lines}
+use Rattle.thumb_model.specs.Replaced.{replaced_lines}
 use Rattle.rule_model.specs.Rules.{Rule, IsSoundRule}
 use Rattle.rule_model.specs.Rewriting.{Replacement, used_rule}
 use Rattle.listing_parser.specs.Parsing.{own_line}

@@ -3,11 +3,9 @@ use Rattle.std.proofs.Common.{◌≡◌, ℕ, suc, ◌+◌, ◌-◌, ◌<◌, �
 use Rattle.std.specs.Prelude.{slice_get}
 use Rattle.std.specs.List.{list_all}
 use Rattle.thumb_instr.specs.declared.instr.Instr.{Instr}
-use Rattle.thumb_instr.specs.Renaming.{Low, renamed}
-use Rattle.thumb_instr.specs.Window.{is_in_window}
+use Rattle.thumb_instr.specs.Window.{Low, renamed, is_in_window}
 use Rattle.thumb_model.specs.Listing.{Label, Line, Code, code_of, places_of, labels_from, is_code, is_op_place}
-use Rattle.thumb_model.specs.Replaced.{moved, move_label, replaced}
-use Rattle.thumb_model.specs.ReplacedLines.{replaced_lines}
+use Rattle.thumb_model.specs.Replaced.{moved, move_label, replaced, replaced_lines}
 use Rattle.thumb_model.proofs.Lists.{length_map}
 use Rattle.thumb_model.proofs.LinesReplaced.{outside_of, before}
 use Rattle.thumb_model.proofs.Window.{AreStraight}

@@ -11,7 +11,7 @@ use Rattle.thumb_instr.specs.Window.{is_in_window}
 use Rattle.thumb_model.specs.Listing.{Place, plain, Label, Line, Code, is_op_place, code_of, places_of, labels_from}
 use Rattle.thumb_model.specs.Flow.{Reads, LiveAfter}
 use Rattle.thumb_model.specs.Layout.{Layable}
-use Rattle.thumb_model.specs.ReplacedLines.{replaced_lines}
+use Rattle.thumb_model.specs.Replaced.{replaced_lines}
 use Rattle.thumb_model.proofs.Lists.{get_drop, get_take, length_map, present_at}
 use Rattle.thumb_model.proofs.Lists.{take_all as take_many}
 use Rattle.thumb_model.proofs.LinesReplaced.{before, outside_of}

@@ -8,8 +8,7 @@ use Rattle.thumb_instr.specs.declared.instr.Instr.{Instr}
 use Rattle.thumb_instr.specs.declared.instr.Instr.TheVariants as instr
 use Rattle.thumb_instr.specs.Window.{is_in_window}
 use Rattle.thumb_model.specs.Listing.{Place, plain, Label, Line, Code, is_code, is_op_place, code_of, places_of, labels_from}
-use Rattle.thumb_model.specs.Replaced.{move_label, replaced}
-use Rattle.thumb_model.specs.ReplacedLines.{replaced_lines}
+use Rattle.thumb_model.specs.Replaced.{move_label, replaced, replaced_lines}
 use Rattle.thumb_model.proofs.LinesReplaced.{ops_of, outside_of}
 use Rattle.rule_model.proofs.AsMany.{code_replaced_by}
 use Rattle.listing_parser.specs.Parsing.{own_line}

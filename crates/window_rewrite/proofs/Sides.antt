@@ -5,15 +5,14 @@ use Rattle.std.specs.List.{flat_map, list_all}
 use Rattle.std.proofs.lemmas.Bool.{and_parts, cases_Bool}
 use Rattle.std.proofs.lemmas.List.{length-map, map-append}
 use Rattle.thumb_instr.specs.declared.instr.Instr.{Instr}
-use Rattle.thumb_instr.specs.Window.{is_in_window, normal_of}
-use Rattle.thumb_instr.specs.Renaming.{Low, named, renamed, AreBelow, item_under, number_or}
+use Rattle.thumb_instr.specs.Window.{is_in_window, normal_of, Low, named, renamed, AreBelow, item_under, number_or}
 use Rattle.thumb_instr.proofs.Registers.{low_is}
 use Rattle.thumb_instr.proofs.RenamingLemmas.{named_renamed}
 use Rattle.rule_model.specs.Rules.{Rule, IsSoundRule}
-use Rattle.thumb_model.specs.Sides.{IsOneToOne, AreOver, register_count, normalised}
-use Rattle.seq_enum.specs.Lists.{numbers_from}
+use Rattle.thumb_model.specs.Effect.{IsOneToOne, AreOver, register_count, normalised}
+use Rattle.seq_enum.specs.Alphabet.{numbers_from}
 use Rattle.rule_table.specs.Canonical.{has, with_first, firsts, numbers_of, appearing}
-use Rattle.table_audit.specs.Sides.{IsCanonicalSide, named_count}
+use Rattle.table_audit.specs.Shorter.{IsCanonicalSide, named_count}
 use Rattle.table_audit.proofs.Names.{count_same}
 use Rattle.window_rewrite.specs.Fitting.{Stands}
 

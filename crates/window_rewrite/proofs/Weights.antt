@@ -8,9 +8,8 @@ use Rattle.thumb_instr.specs.declared.instr.Instr.TheVariants as instr
 use Rattle.thumb_instr.specs.declared.operation.ByteOperation.TheVariants as byte
 use Rattle.thumb_instr.specs.declared.operation.Sum.TheVariants as sum
 use Rattle.thumb_instr.specs.Parts.{parts_of}
-use Rattle.thumb_instr.specs.Renaming.{Low, renamed}
-use Rattle.thumb_instr.specs.Window.{byte_of}
-use Rattle.thumb_model.specs.Sides.{normalised}
+use Rattle.thumb_instr.specs.Window.{Low, renamed, byte_of}
+use Rattle.thumb_model.specs.Effect.{normalised}
 use Rattle.rule_model.specs.Rules.{Rule, weight}
 use Rattle.rule_model.specs.Laws.{CostsAreKept, CostsOne}
 use Rattle.rule_model.proofs.Costs.{lowers_some, weight_is_length}

@@ -4,9 +4,8 @@ use Rattle.std.specs.Prelude.{slice_get, slice_set}
 use Rattle.std.proofs.lemmas.Bool.{cases_Bool, cases_lt, or_cases}
 use Rattle.std.proofs.lemmas.Option.{slice_get_within, slice_get_past, same_Some}
 use Rattle.thumb_instr.specs.Items.{has}
-use Rattle.thumb_instr.specs.Renaming.{Low, renamed, item_under, number_or}
-use Rattle.thumb_model.specs.Items.{one_of}
-use Rattle.thumb_model.specs.Sides.{IsOneToOne, register_count}
+use Rattle.thumb_instr.specs.Window.{Low, renamed, item_under, number_or}
+use Rattle.thumb_model.specs.Effect.{one_of, IsOneToOne, register_count}
 use Rattle.thumb_model.proofs.Lists.{get_back, get_take, take_all, take_short}
 use Rattle.rule_model.specs.Rules.{Rule, rule_registers, IsSoundRule}
 use Rattle.rule_table.specs.Scratch.{has_register, is_free, IsLeastFree}

@@ -2,12 +2,12 @@
 use Rattle.std.specs.Prelude.{◌≡◌, ℕ, ◌+◌, ◌<◌, ◌≤◌, ◌==◌, nat_lt, max, Bool, true, List, [], ◌∷◌, ◌++◌, length, drop, map, slice_get, Option, Some}
 use Rattle.std.specs.Int.{from_bool}
 use Rattle.thumb_instr.specs.declared.instr.Instr.{Instr}
-use Rattle.thumb_instr.specs.Renaming.{Low}
+use Rattle.thumb_instr.specs.Window.{Low}
 use Rattle.thumb_model.specs.Listing.{Line, code_of}
 use Rattle.thumb_model.specs.Layout.{Layable}
 use Rattle.rule_model.specs.Rules.{Rule, weight, alone, rule_at, Applies}
 use Rattle.rule_model.specs.Rewriting.{Setting, Replacement, used_rule, AppliesIn, IsFirst, lines_after, left_length}
-use Rattle.thumb_model.specs.ReplacedLines.{are_joined_from, replaced_lines}
+use Rattle.thumb_model.specs.Replaced.{are_joined_from, replaced_lines}
 use Rattle.window_runs.specs.Windows.{IsWindow}
 use Rattle.window_rewrite.specs.declared.choice.Choice.{Choice}
 use Rattle.window_rewrite.specs.declared.finding.Rules.{Rules}

@@ -2,14 +2,13 @@
 use Rattle.std.specs.Prelude.{◌≡◌, ℕ, ◌+◌, ◌-◌, ◌<◌, ◌≤◌, ◌↔◌, ◌||◌, ◌&&◌, not, nat_lt, Bool, true, false, List, length, map, take, Option, Some, slice_get, ◌⊎◌}
 use Rattle.thumb_instr.specs.declared.instr.Instr.{Instr}
 use Rattle.thumb_instr.specs.Items.{has}
-use Rattle.thumb_instr.specs.Renaming.{Low, renamed, item_under}
+use Rattle.thumb_instr.specs.Window.{Low, renamed, item_under}
 use Rattle.thumb_model.specs.Flow.{LiveAfter}
-use Rattle.thumb_model.specs.Items.{one_of}
+use Rattle.thumb_model.specs.Effect.{one_of, IsOneToOne, register_count, normalised}
 use Rattle.thumb_model.specs.Listing.{Line, code_of}
 use Rattle.rule_model.specs.Rules.{Rule, rule_at, rule_registers, IsSoundRule}
 use Rattle.seq_enum.specs.Costs.{weight_under}
-use Rattle.thumb_model.specs.Sides.{IsOneToOne, register_count, normalised}
-use Rattle.table_audit.specs.Sides.{IsCanonicalSide}
+use Rattle.table_audit.specs.Shorter.{IsCanonicalSide}
 use Rattle.window_runs.specs.Windows.{IsWindow}
 use Rattle.window_rewrite.specs.declared.forms.Form.{Form}
 use Rattle.window_rewrite.specs.declared.marks.Marks.{Marks}

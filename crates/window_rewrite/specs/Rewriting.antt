@@ -1,14 +1,13 @@
 -- What rewriting a listing by a table gives, as the code holds it.
 use Rattle.std.specs.Prelude.{◌≡◌, ℕ, zero, suc, ◌≤◌, ◌-◌, ◌+◌, ◌*◌, List, [], ◌∷◌, length, Option, Some, None}
-use Rattle.thumb_instr.specs.Renaming.{Low}
+use Rattle.thumb_instr.specs.Window.{Low}
 use Rattle.thumb_model.specs.Listing.{Line, places_of}
 use Rattle.rule_model.specs.Rules.{Rule}
 use Rattle.rule_model.specs.Rewriting.{Setting, Replacement}
 use Rattle.seq_enum.specs.Costs.{cost_under}
 use Rattle.rule_table.specs.Table.{Table}
 use Rattle.table_audit.specs.Soundness.{numbers_of}
-use Rattle.label_layout.specs.Refusals.{fault_of}
-use Rattle.label_layout.specs.Faults.{first_fault}
+use Rattle.label_layout.specs.Refusals.{fault_of, first_fault}
 use Rattle.listing_parser.specs.Grammar.{most_lines}
 use Rattle.listing_parser.specs.Parsing.{own_line}
 use Rattle.window_rewrite.specs.declared.choice.Replacement.{Replacement as Made}

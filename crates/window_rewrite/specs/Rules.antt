@@ -5,13 +5,13 @@ use Rattle.thumb_instr.specs.declared.instr.Instr.{Instr}
 use Rattle.rule_model.specs.Rules.{Rule, alone, rule_at, IsSoundRule}
 use Rattle.seq_enum.specs.Costs.{weight_under}
 use Rattle.rule_model.specs.Rewriting.{left_length_of}
-use Rattle.thumb_model.specs.Sides.{register_count}
+use Rattle.thumb_model.specs.Effect.{register_count}
 use Rattle.rule_table.specs.declared.table.Entry.{Entry}
 use Rattle.rule_table.specs.Views.{rule_of}
 use Rattle.rule_table.specs.Table as tables
 use Rattle.table_audit.specs.Families.{entry_at, is_hole}
 use Rattle.table_audit.specs.Soundness.{instances_of, rewriting_rule}
-use Rattle.table_audit.specs.Sides.{IsCanonicalSide}
+use Rattle.table_audit.specs.Shorter.{IsCanonicalSide}
 use Rattle.window_rewrite.specs.declared.chains.Chains.{Chains}
 use Rattle.window_rewrite.specs.declared.index.Index.{Index}
 use Rattle.window_rewrite.specs.declared.marks.Marks.{Marks}

@@ -2,8 +2,7 @@
 ghost use Rattle.std.specs.Prelude.{◌≡◌, ◌+◌, ◌-◌, ◌<◌, ◌≤◌, ◌↔◌, max, List, length, true, false, ◌==◌, is_some, IfOk, OnOk, IfSome, IfNone, OnSome};
 ghost use Rattle.std.specs.Int.{from_bool};
 ghost use Rattle.std.specs.List.{list_all};
-ghost use Rattle.thumb_instr.specs.Renaming.{Low};
-ghost use Rattle.thumb_instr.specs.Window.{is_in_window};
+ghost use Rattle.thumb_instr.specs.Window.{Low, is_in_window};
 ghost use Rattle.listing_parser.specs.Grammar.{most_lines};
 ghost use Rattle.window_runs.specs.Windows.{IsWindow};
 ghost use Rattle.step_ledger.specs.Counts.{RisesByAtLeast};

@@ -1,10 +1,9 @@
 //! Whether an entry fits a window, as far as the window and the live items tell.
 ghost use Rattle.std.specs.Prelude.{◌≡◌, List, length, true, MatchOption};
 ghost use Rattle.std.specs.List.{list_all};
-ghost use Rattle.thumb_instr.specs.Renaming.{Low};
-ghost use Rattle.thumb_instr.specs.Window.{is_in_window};
+ghost use Rattle.thumb_instr.specs.Window.{Low, is_in_window};
 ghost use Rattle.rule_model.specs.Rules.{IsSoundRule};
-ghost use Rattle.table_audit.specs.Sides.{IsCanonicalSide};
+ghost use Rattle.table_audit.specs.Shorter.{IsCanonicalSide};
 ghost use Rattle.window_rewrite.specs.Rewriting.{map_of, registers_of};
 ghost use Rattle.window_rewrite.specs.Rules.{entry_rule};
 ghost use Rattle.window_rewrite.specs.Fitting.{FitsWhole, IsScratchLeast};

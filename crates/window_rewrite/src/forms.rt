@@ -2,12 +2,11 @@
 ghost use Rattle.std.specs.Prelude.{◌≡◌, ◌<◌, ℕ, List, map, true, IfOk, IfSome, IfNone};
 ghost use Rattle.std.specs.List.{list_all};
 ghost use Rattle.thumb_instr.specs.Items.{has};
-ghost use Rattle.thumb_instr.specs.Renaming.{Low};
-ghost use Rattle.thumb_instr.specs.Window.{is_in_window};
+ghost use Rattle.thumb_instr.specs.Window.{Low, is_in_window};
 ghost use Rattle.rule_model.specs.Rules.{Rule, IsSoundRule};
 ghost use Rattle.rule_table.specs.Views.{family_of, rule_of};
 ghost use Rattle.table_audit.specs.Families.{entry_at};
-ghost use Rattle.table_audit.specs.Sides.{IsCanonicalSide};
+ghost use Rattle.table_audit.specs.Shorter.{IsCanonicalSide};
 ghost use Rattle.window_rewrite.specs.Fitting.{IsForm, Stands};
 ghost use Rattle.window_rewrite.specs.Forms.{form_of, letter_number, next_form};
 ghost use Rattle.window_rewrite.specs.Rules.{left_forms, raised_form, raised_forms, rules_in};

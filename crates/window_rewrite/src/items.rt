@@ -1,8 +1,8 @@
 //! Whether the items that are live after a window may be.
 ghost use Rattle.std.specs.Prelude.{◌≡◌, ℕ, ◌+◌, ◌<◌, ◌≤◌, ◌==◌, ◌&&◌, nat_lt, [], ◌∷◌, ◌++◌, length, map, true, ◌↔◌};
 ghost use Rattle.thumb_instr.specs.Items.{has};
-ghost use Rattle.thumb_instr.specs.Renaming.{item_under};
-ghost use Rattle.thumb_model.specs.Items.{one_of};
+ghost use Rattle.thumb_instr.specs.Window.{item_under};
+ghost use Rattle.thumb_model.specs.Effect.{one_of};
 ghost use Rattle.table_audit.specs.Soundness.{items_in};
 ghost use Rattle.window_rewrite.specs.Rewriting.{registers_of};
 ghost use Rattle.window_rewrite.specs.Fitting.{is_allowed};

@@ -16,7 +16,7 @@ impl KnownLayout {
     ghost use Rattle.std.specs.Prelude.{◌≡◌, ℕ, length, List, IfOk, OnOk, IfSome};
     ghost use Rattle.thumb_model.specs.Layout.{Layable};
     ghost use Rattle.thumb_model.specs.Listing.{Line as Listed};
-    ghost use Rattle.thumb_model.specs.ReplacedLines.{replaced_lines};
+    ghost use Rattle.thumb_model.specs.Replaced.{replaced_lines};
     ghost use Rattle.listing_parser.specs.Parsing.{own_line};
     ghost use Rattle.kept_layout.specs.Kept.{IsLaid};
     ghost use Rattle.window_rewrite.specs.Layouts.{is_steady, Allows, HasLayout, StandsNear};

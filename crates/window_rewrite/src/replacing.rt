@@ -1,6 +1,6 @@
 //! What an entry puts in place of a window.
 ghost use Rattle.std.specs.Prelude.{◌≡◌, ◌≤◌, length, map};
-ghost use Rattle.thumb_instr.specs.Renaming.{renamed};
+ghost use Rattle.thumb_instr.specs.Window.{renamed};
 
 use thumb_instr::{Instr, Low, Seq, renamed};
 

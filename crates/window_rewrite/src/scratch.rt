@@ -1,7 +1,7 @@
 //! The scratch register that an entry's right side may use beside those of its left side.
 ghost use Rattle.std.specs.Prelude.{◌≡◌, List, length, MatchOption};
-ghost use Rattle.thumb_instr.specs.Renaming.{named, named_by, Low};
-ghost use Rattle.thumb_model.specs.Sides.{above, register_count};
+ghost use Rattle.thumb_instr.specs.Window.{named, named_by, Low};
+ghost use Rattle.thumb_model.specs.Effect.{above, register_count};
 ghost use Rattle.rule_model.specs.Rules.{IsSoundRule};
 ghost use Rattle.window_rewrite.specs.Rewriting.{map_of, registers_of};
 ghost use Rattle.window_rewrite.specs.Rules.{entry_rule, needs_scratch};

@@ -4,7 +4,7 @@ use Rattle.std.specs.List.{list_all}
 use Rattle.thumb_instr.specs.declared.instr.Instr.{Instr}
 use Rattle.thumb_instr.specs.Window.{is_in_window}
 use Rattle.thumb_model.specs.Listing.{plain, Label, Line, places_of, labels_from}
-use Rattle.thumb_model.specs.ReplacedLines.{are_joined_from}
+use Rattle.thumb_model.specs.Replaced.{are_joined_from}
 
 -- consecutive instructions from a place on that may stand in a window, with no label and no alignment line between them
 pub record IsWindow (lines : List Line) (place : ℕ) (window : List Instr) : Type 0 where

@@ -1,5 +1,5 @@
 use Rattle.std.proofs.Common.{◌∙◌, List, ℕ, subst}
-use Rattle.audit_cli.specs.Steps.{IsUnread}
+use Rattle.audit_cli.specs.Printed.{IsUnread}
 use Rattle.audit_cli.proofs.StepLemmas.{not_read}
 use Rattle.audit_cli.proofs.DemoLemmas.{never_unread}
 use Rattle.audit_cli.proofs.demo.demo_listing.Goals as goal

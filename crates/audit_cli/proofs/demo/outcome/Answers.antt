@@ -1,6 +1,6 @@
 use Rattle.std.proofs.Common.{subst, sym}
 use Rattle.rule_table.specs.Views.{table_of}
-use Rattle.table_learn.specs.Settings.{Settings}
+use Rattle.table_learn.specs.Learnt.{Settings}
 use Rattle.table_learn.specs.Given.{AreInLimits, settings_of}
 use Rattle.command_runs.specs.Outcomes.{outcome_view}
 use Rattle.audit_cli.specs.Learn.{IsLearnt, IsUnlearnt}

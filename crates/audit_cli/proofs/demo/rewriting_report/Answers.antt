@@ -1,8 +1,7 @@
 use Rattle.std.proofs.Common.{◌≡◌, ◌∙◌, rules, map, length, Some, ap}
 use Rattle.std.proofs.lemmas.List.{length-map}
 use Rattle.rule_model.proofs.LinesKept.{still_layable}
-use Rattle.label_layout.specs.Refusals.{fault_of}
-use Rattle.label_layout.specs.Faults.{first_fault}
+use Rattle.label_layout.specs.Refusals.{fault_of, first_fault}
 use Rattle.rule_table.specs.Views.{table_of}
 use Rattle.table_audit.proofs.Sound.{accepted_sound}
 use Rattle.window_rewrite.specs.Rewriting.{replacement_of, setting}

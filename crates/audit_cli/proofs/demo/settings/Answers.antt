@@ -1,6 +1,5 @@
 use Rattle.std.proofs.Common.{[], ◌∷◌, IsTrue, refl, sym, true≢false}
-use Rattle.seq_enum.specs.Lists.{ascends_from}
-use Rattle.seq_enum.specs.Pools.{is_pool}
+use Rattle.seq_enum.specs.Alphabet.{ascends_from, is_pool}
 use Rattle.audit_cli.proofs.demo.settings.Goals as goal
 
 is_demo_pool : IsTrue (is_pool (1 ∷ 24 ∷ []))

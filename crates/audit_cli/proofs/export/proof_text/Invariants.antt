@@ -1,5 +1,5 @@
 use Rattle.std.proofs.Common.{◌≡◌, take, map}
-use Rattle.lrat_check.specs.Content.{content_of}
+use Rattle.lrat_check.specs.Text.{content_of}
 use Rattle.audit_cli.specs.Tables.{proof_text}
 use Rattle.audit_cli.proofs.export.proof_text.Given as goal
 

@@ -1,5 +1,5 @@
 use Rattle.std.proofs.Common.{subst, map}
-use Rattle.lrat_check.specs.Content.{content_of}
+use Rattle.lrat_check.specs.Text.{content_of}
 use Rattle.window_exec.specs.State.{values_of}
 use Rattle.audit_cli.specs.Generalise.{FailsFor, no_entry, unraisable}
 use Rattle.audit_cli.proofs.GeneraliseLemmas.{unraised_differ, unraised_spent}

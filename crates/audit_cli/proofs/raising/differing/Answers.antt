@@ -1,6 +1,6 @@
 use Rattle.std.proofs.Common.{◌≡◌, ◌≤◌, ◌+◌, ◌∙◌, rules, arith, ap, length, min}
 use Rattle.rule_table.specs.Views.{family_of, header_in, rule_of, table_of}
-use Rattle.table_audit.specs.Sides.{alphabet_registers}
+use Rattle.table_audit.specs.Shorter.{alphabet_registers}
 use Rattle.audit_cli.proofs.GeneraliseLemmas.{differs}
 use Rattle.audit_cli.proofs.raising.differing.Goals as goal
 

@@ -1,6 +1,6 @@
 use Rattle.std.proofs.Common.{◌≡◌, ◌↔◌, subst, map, Err}
 use Rattle.std.specs.Prelude.{IfErr}
-use Rattle.lrat_check.specs.Content.{content_of}
+use Rattle.lrat_check.specs.Text.{content_of}
 use Rattle.rule_table.specs.declared.table.Table.{Table as Held}
 use Rattle.rule_table.specs.Table.{Family}
 use Rattle.rule_table.specs.Views.{table_of}

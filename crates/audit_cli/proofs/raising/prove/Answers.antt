@@ -1,5 +1,5 @@
 use Rattle.std.proofs.Common.{◌≡◌, rules, refl, subst, map}
-use Rattle.lrat_check.specs.Content.{content_of}
+use Rattle.lrat_check.specs.Text.{content_of}
 use Rattle.rule_table.specs.Views.{family_of, header_in, rule_of}
 use Rattle.cdcl_core.specs.Solved.{VerdictOf}
 use Rattle.cdcl_core.specs.declared.solving.Verdict.TheVariants.{Unsat, Spent}

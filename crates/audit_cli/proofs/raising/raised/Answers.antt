@@ -1,5 +1,5 @@
 use Rattle.std.proofs.Common.{◌≡◌, ◌∙◌, ◌<◌, ◌^◌, rules, ap, sym, map, Some, option_map}
-use Rattle.lrat_check.specs.Content.{content_of}
+use Rattle.lrat_check.specs.Text.{content_of}
 use Rattle.rule_table.specs.Views.{family_of, rule_of, table_of}
 use Rattle.table_audit.specs.Families.{entry_of}
 use Rattle.table_audit.proofs.Raising.{raised_fits}

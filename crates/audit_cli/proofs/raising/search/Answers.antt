@@ -1,6 +1,6 @@
 use Rattle.std.proofs.Common.{◌≤◌, ◌+◌, arith, subst, length}
 use Rattle.cnf_gates.specs.Cnf.{Cnf, AreClausesOf}
-use Rattle.clause_model.specs.Literals.{codes_of}
+use Rattle.clause_model.specs.Clauses.{codes_of}
 use Rattle.cdcl_core.specs.Solved.{AreBelow, VerdictOf}
 use Rattle.table_learn.proofs.Asking.{clauses_below}
 use Rattle.audit_cli.proofs.raising.search.Goals as goal

@@ -2,8 +2,7 @@ use Rattle.std.proofs.Common.{◌≡◌, ◌∙◌, rules, map, length, Some, ap
 use Rattle.std.proofs.lemmas.List.{length-map}
 use Rattle.thumb_model.specs.Layout.{Layable}
 use Rattle.rule_model.proofs.LinesKept.{still_layable}
-use Rattle.label_layout.specs.Refusals.{fault_of}
-use Rattle.label_layout.specs.Faults.{first_fault}
+use Rattle.label_layout.specs.Refusals.{fault_of, first_fault}
 use Rattle.listing_parser.specs.Parsing.{text_of_lines}
 use Rattle.rule_table.specs.Views.{table_of}
 use Rattle.window_rewrite.specs.Rewriting.{replacement_of, setting}

@@ -2,7 +2,7 @@ use Rattle.std.proofs.Common.{◌≡◌, rules}
 use Rattle.rule_table.specs.Views.{table_of}
 use Rattle.table_audit.specs.declared.errors.AuditError.TheVariants as audit
 use Rattle.table_audit.specs.Acceptance.{TableVerdict}
-use Rattle.audit_cli.specs.Steps.{other_state, too_wide, bad_entry, bad_family}
+use Rattle.audit_cli.specs.Printed.{other_state, too_wide, bad_entry, bad_family}
 use Rattle.audit_cli.proofs.StepLemmas.{refused_verdict}
 use Rattle.audit_cli.proofs.steps.audited.Goals as goal
 

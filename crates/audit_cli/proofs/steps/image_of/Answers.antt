@@ -1,6 +1,6 @@
 use Rattle.std.proofs.Common.{rules}
 use Rattle.thumb_assembler.specs.declared.errors.ImageError.TheVariants as image
-use Rattle.thumb_assembler.specs.Refusals.{IsRefusal}
+use Rattle.thumb_assembler.specs.Bytes.{IsRefusal}
 use Rattle.audit_cli.proofs.StepLemmas.{is_no_address, is_inside}
 use Rattle.audit_cli.proofs.steps.image_of.Goals as goal
 

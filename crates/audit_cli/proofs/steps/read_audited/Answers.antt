@@ -1,5 +1,5 @@
 use Rattle.rule_table.specs.Views.{table_of}
-use Rattle.audit_cli.specs.Steps.{no_table}
+use Rattle.audit_cli.specs.Printed.{no_table}
 use Rattle.audit_cli.proofs.StepLemmas.{not_listed}
 use Rattle.audit_cli.proofs.steps.read_audited.Goals as goal
 

@@ -1,6 +1,5 @@
 use Rattle.std.proofs.Common.{◌≡◌, ◌∙◌, [], ◌∷◌, rules, ℕ, Some, ap}
-use Rattle.label_layout.specs.Refusals.{fault_of}
-use Rattle.label_layout.specs.Faults.{first_fault}
+use Rattle.label_layout.specs.Refusals.{fault_of, first_fault}
 use Rattle.command_runs.specs.Outcomes.{outcome_view}
 use Rattle.command_runs.specs.Plans.{Does}
 use Rattle.listing_parser.specs.Parsing.{text_of_lines}

@@ -8,7 +8,7 @@ use Rattle.command_runs.specs.Plans.{Plan}
 use Rattle.command_runs.specs.Runs.{Runs}
 use Rattle.audit_cli.specs.Rewrite.{RewriteComesTo}
 use Rattle.audit_cli.specs.Tables.{AuditComesTo, ExportComesTo}
-use Rattle.table_learn.specs.Settings.{Settings}
+use Rattle.table_learn.specs.Learnt.{Settings}
 use Rattle.audit_cli.specs.Learn.{LearnComesTo, LearnByCostsComesTo}
 use Rattle.audit_cli.specs.Trace.{TraceComesTo}
 use Rattle.audit_cli.specs.Demo.{DemoComesTo}

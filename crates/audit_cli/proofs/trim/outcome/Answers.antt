@@ -3,7 +3,7 @@ use Rattle.rule_table.specs.declared.table.Table.{Table as Held}
 use Rattle.rule_table.specs.Text.{text_of}
 use Rattle.rule_table.specs.Views.{table_of}
 use Rattle.command_runs.specs.Outcomes.{outcome_view}
-use Rattle.audit_cli.specs.Steps.{IsAudited}
+use Rattle.audit_cli.specs.Printed.{IsAudited}
 use Rattle.audit_cli.specs.Trim.{Trims, unaudited, accepted, lines_in}
 use Rattle.audit_cli.proofs.StepLemmas.{is_audited, not_audited, refused_so}
 use Rattle.audit_cli.proofs.TableTexts.{proofs_within}

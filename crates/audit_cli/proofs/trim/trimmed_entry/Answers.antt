@@ -1,9 +1,8 @@
 use Rattle.std.proofs.Common.{refl, subst, map, List}
-use Rattle.clause_model.specs.Literals.{codes_of}
+use Rattle.clause_model.specs.Clauses.{codes_of}
 use Rattle.cnf_gates.specs.Cnf.{Cnf}
-use Rattle.lrat_check.specs.Content.{content_of}
+use Rattle.lrat_check.specs.Text.{content_of, IsTrimmed}
 use Rattle.lrat_check.specs.declared.line.Line.{Line}
-use Rattle.lrat_check.specs.Trimmed.{IsTrimmed}
 use Rattle.audit_cli.proofs.trim.trimmed_entry.Goals as goal
 
 pub returns : goal.returns

@@ -1,12 +1,11 @@
 use Rattle.std.proofs.Common.{◌≡◌, ◌∙◌, refl, ap, sym, subst, map, List, Some}
 use Rattle.std.specs.Option.{option_map}
 use Rattle.std.proofs.lemmas.Option.{same_Some}
-use Rattle.clause_model.specs.Literals.{codes_of}
+use Rattle.clause_model.specs.Clauses.{codes_of}
 use Rattle.cnf_gates.specs.Cnf.{Cnf}
-use Rattle.lrat_check.specs.Content.{content_of}
+use Rattle.lrat_check.specs.Text.{content_of, IsTrimmed}
 use Rattle.lrat_check.specs.declared.line.Line.{Line}
 use Rattle.lrat_check.specs.Runs.{IsRefutation}
-use Rattle.lrat_check.specs.Trimmed.{IsTrimmed}
 use Rattle.rule_table.specs.Table.{Rule}
 use Rattle.rule_table.specs.Views.{rule_of, family_of, header_in, table_of}
 use Rattle.table_audit.specs.Families.{entry_of, raised_formula}

@@ -3,7 +3,7 @@ use Rattle.std.specs.Prelude.{All}
 use Rattle.std.specs.List.{AllZip}
 use Rattle.std.proofs.lemmas.List.{map_push}
 use Rattle.std.proofs.lemmas.List.Elements.{All-head, All-tail, AllZip-push}
-use Rattle.clause_model.specs.Literals.{codes_of}
+use Rattle.clause_model.specs.Clauses.{codes_of}
 use Rattle.lrat_check.specs.Runs.{IsRefutation}
 use Rattle.rule_table.specs.declared.table.Entry.{Entry}
 use Rattle.rule_table.specs.declared.table.Family.{Family}
@@ -11,7 +11,7 @@ use Rattle.rule_table.specs.Header.{Header}
 use Rattle.rule_table.specs.Table.{Rule}
 use Rattle.rule_table.specs.Views.{family_of, header_in, rule_of, table_of}
 use Rattle.table_audit.specs.Canonical.{HasFormula}
-use Rattle.table_audit.specs.Sides.{formula_of}
+use Rattle.table_audit.specs.Shorter.{formula_of}
 use Rattle.audit_cli.specs.Ready.{IsRaised}
 use Rattle.audit_cli.specs.Trim.{IsTrimmedRule}
 use Rattle.audit_cli.proofs.TrimLemmas.{IsReady, all_ready, all_raised}

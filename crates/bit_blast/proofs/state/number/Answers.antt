@@ -2,7 +2,7 @@ use Rattle.std.proofs.Common.{◌≡◌, ◌<◌, ◌+◌, ◌*◌, ◌^◌, ◌
 use Rattle.std.specs.Int.{from_bool}
 use Rattle.cnf_gates.specs.Meaning.{assigned}
 use Rattle.bit_blast.specs.Differences.{variables_from}
-use Rattle.bit_blast.specs.Values.{number_of}
+use Rattle.bit_blast.specs.Exactness.{number_of}
 use Rattle.bit_blast.proofs.Read.{one_bit, number_fits}
 use Rattle.bit_blast.proofs.state.number.Goals as goal
 

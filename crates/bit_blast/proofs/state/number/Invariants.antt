@@ -1,7 +1,7 @@
 use Rattle.std.proofs.Common.{◌≡◌}
 use Rattle.cnf_gates.specs.Meaning.{assigned}
 use Rattle.bit_blast.specs.Differences.{variables_from}
-use Rattle.bit_blast.specs.Values.{number_of}
+use Rattle.bit_blast.specs.Exactness.{number_of}
 use Rattle.bit_blast.proofs.state.number.Given as goal
 
 -- the number of the first bits

@@ -9,7 +9,7 @@ use Rattle.rule_table.specs.declared.header.Head.TheVariants.{Number, Costs}
 use Rattle.rule_table.specs.Header.{has_line, IsWithin}
 use Rattle.rule_table.specs.Table.{Table}
 use Rattle.rule_table.specs.Views.{header_in}
-use Rattle.table_learn.specs.Settings.{Settings}
+use Rattle.table_learn.specs.Learnt.{Settings}
 use Rattle.table_learn.specs.Given.{settings_of, window_of, IsVersionFor, AreInLimits, AreWindows, IsWindow}
 use Rattle.cases.proofs.learning.lesson.Goals as goal
 

@@ -1,7 +1,7 @@
 use Rattle.std.proofs.Common.{◌≡◌, ◌⊎◌, [], ◌∷◌, ◌++◌, inl, inr, refl}
 use Rattle.std.specs.Prelude.{Contains}
 use Rattle.std.proofs.lemmas.List.Elements.{All-push, All-weaker, All-contains, All-contains_itself, Contains-push, Contains-append_left}
-use Rattle.clause_model.specs.Literals.{negated}
+use Rattle.clause_model.specs.Clauses.{negated}
 use Rattle.clause_model.proofs.Scans.{never}
 use Rattle.cdcl_core.proofs.analysis.see_one.Goals as goal
 

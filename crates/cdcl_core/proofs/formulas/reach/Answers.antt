@@ -1,7 +1,7 @@
 use Rattle.std.proofs.Common.{ℤ, List, subst, sym, arith}
 use Rattle.std.specs.Prelude.{All}
 use Rattle.std.proofs.lemmas.List.{take_all}
-use Rattle.clause_model.specs.Literals.{codes_of}
+use Rattle.clause_model.specs.Clauses.{codes_of}
 use Rattle.cnf_gates.specs.Cnf.{IsLiteral}
 use Rattle.cdcl_core.specs.Solved.{AreBelow}
 use Rattle.cdcl_core.proofs.Statements.{All-next, below_next, least_next}

@@ -1,6 +1,6 @@
 use Rattle.std.proofs.Common.{ℕ, ◌≤◌, take}
 use Rattle.std.specs.Prelude.{All}
-use Rattle.clause_model.specs.Literals.{codes_of}
+use Rattle.clause_model.specs.Clauses.{codes_of}
 use Rattle.cnf_gates.specs.Cnf.{IsLiteral}
 use Rattle.cdcl_core.specs.Solved.{AreBelow}
 use Rattle.cdcl_core.proofs.formulas.reach.Given as goal

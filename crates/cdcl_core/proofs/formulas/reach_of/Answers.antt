@@ -1,6 +1,6 @@
 use Rattle.std.proofs.Common.{◌∙◌, ap, get_or, pos, w32}
 use Rattle.std.proofs.lemmas.Int.{to_z-of_z}
-use Rattle.clause_model.specs.Literals.{code_of}
+use Rattle.clause_model.specs.Clauses.{code_of}
 use Rattle.cdcl_core.proofs.Statements.{reaches_none, reached, fits_literal}
 use Rattle.cdcl_core.proofs.formulas.reach_of.Goals as goal
 

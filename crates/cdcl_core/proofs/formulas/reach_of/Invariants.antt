@@ -1,5 +1,5 @@
 use Rattle.std.proofs.Common.{take, map}
-use Rattle.clause_model.specs.Literals.{code_of}
+use Rattle.clause_model.specs.Clauses.{code_of}
 use Rattle.cdcl_core.proofs.Statements.{Reaches}
 use Rattle.cdcl_core.proofs.formulas.reach_of.Given as goal
 

@@ -1,7 +1,7 @@
 use Rattle.std.proofs.Common.{◌≡◌, ◌∙◌, ◌∷◌, ◌++◌, [], List, ℕ, ap, sym, get_or, map, pos, rules, take, w32}
 use Rattle.std.proofs.lemmas.Int.{to_z-of_z}
 use Rattle.std.proofs.lemmas.List.{map_more}
-use Rattle.clause_model.specs.Literals.{code_of}
+use Rattle.clause_model.specs.Clauses.{code_of}
 use Rattle.cdcl_core.proofs.formulas.write_codes.Goals as goal
 
 pub loop-number-preserved : goal.loop-number-preserved

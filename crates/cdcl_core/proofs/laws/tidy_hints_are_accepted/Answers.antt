@@ -1,6 +1,5 @@
 use Rattle.std.proofs.Common.{ℕ, List, [], ◌∷◌, ◌++◌, Option, inl, inr, map}
-use Rattle.clause_model.specs.Literals.{negated}
-use Rattle.clause_model.specs.Propagation.{Refutes}
+use Rattle.clause_model.specs.Clauses.{negated, Refutes}
 use Rattle.cdcl_core.specs.Solved.{RefutesTidily}
 use Rattle.cdcl_core.proofs.laws.tidy_hints_are_accepted.Goals as goal
 

@@ -1,5 +1,5 @@
 use Rattle.std.proofs.Common.{◌≡◌, ◌+◌, ◌++◌, ◌∷◌, [], List, ℤ, ap, ◌∙◌, sym, append_assoc, map, drop, arith, rules}
-use Rattle.clause_model.specs.Literals.{number_of}
+use Rattle.clause_model.specs.Clauses.{number_of}
 use Rattle.cnf_gates.proofs.Literals.{AreLiteralsOf-push, numbers_from}
 use Rattle.cnf_gates.proofs.clauses.numbers.Goals as goal
 

@@ -1,6 +1,6 @@
 use Rattle.std.proofs.Common.{◌≡◌, ◌++◌, map, drop}
 use Rattle.cnf_gates.specs.Cnf.{AreLiterals}
-use Rattle.clause_model.specs.Literals.{number_of}
+use Rattle.clause_model.specs.Clauses.{number_of}
 use Rattle.cnf_gates.proofs.clauses.numbers.Given as goal
 
 abbrev pub invariant-loop-literal : goal.invariant-loop-literal

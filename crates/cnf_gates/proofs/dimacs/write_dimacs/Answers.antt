@@ -1,6 +1,6 @@
 use Rattle.std.proofs.Common.{◌≡◌, ◌+◌, ◌-◌, ◌++◌, Some, slice_get, string_bytes, drop, append_assoc, ap, sym, ◌∙◌, arith}
 use Rattle.std.specs.List.{flat_map}
-use Rattle.cnf_gates.specs.Dimacs.{clause_line}
+use Rattle.cnf_gates.specs.Cnf.{clause_line}
 use Rattle.cnf_gates.proofs.Text.{drop_from}
 use Rattle.cnf_gates.proofs.dimacs.write_dimacs.Goals as goal
 

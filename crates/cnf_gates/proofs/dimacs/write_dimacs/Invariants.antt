@@ -1,7 +1,7 @@
 use Rattle.std.proofs.Common.{◌≡◌, ◌++◌, drop}
 use Rattle.std.specs.String.{string_bytes}
 use Rattle.std.specs.List.{flat_map}
-use Rattle.cnf_gates.specs.Dimacs.{clause_line, dimacs}
+use Rattle.cnf_gates.specs.Cnf.{clause_line, dimacs}
 use Rattle.cnf_gates.proofs.dimacs.write_dimacs.Given as goal
 
 abbrev pub invariant-loop-place : goal.invariant-loop-place

@@ -1,5 +1,5 @@
 use Rattle.std.proofs.Common.{◌∙◌, ◌||◌, Bool, List, ap}
-use Rattle.thumb_model.specs.Items.{one_of}
+use Rattle.thumb_model.specs.Effect.{one_of}
 use Rattle.thumb_model.specs.Listing.{code_of, places_of, labels_from, label_places, return_places}
 use Rattle.code_flow.specs.Points.{marked}
 use Rattle.code_flow.proofs.Marking.{points_marked, none_marked}

@@ -1,5 +1,5 @@
 use Rattle.std.proofs.Common.{◌≡◌, ◌+◌, ◌||◌, ℕ, drop, length, map}
-use Rattle.thumb_model.specs.Items.{one_of}
+use Rattle.thumb_model.specs.Effect.{one_of}
 use Rattle.thumb_model.specs.Listing.{places_of, label_places, labels_from, return_places}
 use Rattle.listing_parser.specs.Views.{line_view}
 use Rattle.code_flow.specs.Points.{marked}

@@ -1,6 +1,6 @@
 use Rattle.std.proofs.Common.{◌≡◌, ◌∙◌, ◌↔◌, ℕ, List, Some, IsTrue, map, option_map, sym, ap, subst}
 use Rattle.std.specs.Prelude.{IfSome, IsSome}
-use Rattle.seq_enum.specs.Pools.{is_pool}
+use Rattle.seq_enum.specs.Alphabet.{is_pool}
 use Rattle.command_line.proofs.Pools.{default_made, made, text_lost, text_made}
 use Rattle.command_line.proofs.values.pool.Goals as goal
 

@@ -1,5 +1,5 @@
 use Rattle.std.proofs.Common.{◌≡◌, ◌++◌, drop, length}
-use Rattle.thumb_model.specs.Sides.{AreOver}
+use Rattle.thumb_model.specs.Effect.{AreOver}
 use Rattle.fingerprints.specs.Columns.{states_in}
 use Rattle.fingerprints.specs.Sequences.{prints_of}
 use Rattle.fingerprints.proofs.SequenceLemmas.{prints_behind}

@@ -1,6 +1,6 @@
 use Rattle.std.proofs.Common.{◌≡◌, ◌+◌, suc, sym, subst, arith}
 use Rattle.thumb_model.specs.Listing.{code_of}
-use Rattle.flow_tidy.specs.Chains.{HopsBy}
+use Rattle.flow_tidy.specs.Tidying.{HopsBy}
 use Rattle.flow_tidy.proofs.Hops.{goes_round, hop_found, hops_on}
 use Rattle.flow_tidy.proofs.chains.chain_end.Goals as goal
 

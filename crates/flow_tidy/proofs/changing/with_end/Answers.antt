@@ -1,7 +1,6 @@
 use Rattle.std.proofs.Common.{List, sym, ap, subst}
 use Rattle.thumb_model.specs.Listing.{Line, code_of, is_op_place}
-use Rattle.flow_tidy.specs.Tidied.{ToEnd}
-use Rattle.flow_tidy.specs.Tidying.{setting}
+use Rattle.flow_tidy.specs.Tidying.{ToEnd, setting}
 use Rattle.flow_tidy.specs.Made.{IsWithin}
 use Rattle.listing_parser.specs.Grammar.{longest_line, most_lines}
 use Rattle.flow_tidy.proofs.Making.{end_is_found, made_within, no_end_none, not_end, not_layable}

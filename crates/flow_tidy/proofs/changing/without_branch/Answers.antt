@@ -1,6 +1,5 @@
 use Rattle.std.proofs.lemmas.Result.{IfOk-weaker}
-use Rattle.flow_tidy.specs.Tidied.{lines_without, ToNext}
-use Rattle.flow_tidy.specs.Tidying.{setting}
+use Rattle.flow_tidy.specs.Tidying.{lines_without, ToNext, setting}
 use Rattle.flow_tidy.specs.Made.{IsAccepted, IsMade}
 use Rattle.flow_tidy.proofs.Making.{made}
 use Rattle.flow_tidy.proofs.changing.without_branch.Goals as goal

@@ -1,7 +1,7 @@
 use Rattle.std.proofs.Common.{◌≤◌, List, ℕ, map, sym, subst, arith}
 use Rattle.listing_parser.specs.Grammar.{longest_line}
 use Rattle.listing_parser.specs.Views.{line_view}
-use Rattle.flow_tidy.specs.Tidied.{line_length}
+use Rattle.flow_tidy.specs.Tidying.{line_length}
 use Rattle.flow_tidy.proofs.Lines.{all_short, as_many_lines, one_more_short, read_line}
 use Rattle.flow_tidy.proofs.limits.are_short.Goals as goal
 

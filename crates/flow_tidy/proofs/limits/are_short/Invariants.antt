@@ -2,7 +2,7 @@ use Rattle.std.proofs.Common.{◌≡◌, ℕ, ◌<◌, ◌≤◌, Some, map, sli
 use Rattle.thumb_model.specs.Listing.{Line}
 use Rattle.listing_parser.specs.Grammar.{longest_line}
 use Rattle.listing_parser.specs.Views.{line_view}
-use Rattle.flow_tidy.specs.Tidied.{line_length}
+use Rattle.flow_tidy.specs.Tidying.{line_length}
 use Rattle.flow_tidy.proofs.limits.are_short.Given as goal
 
 abbrev pub invariant-loop-line : goal.invariant-loop-line

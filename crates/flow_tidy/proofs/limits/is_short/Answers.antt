@@ -2,7 +2,7 @@ use Rattle.std.proofs.Common.{◌≡◌, ◌≤◌, ◌∙◌, refl, arith}
 use Rattle.std.proofs.lemmas.Bool.{leb-true}
 use Rattle.std.proofs.lemmas.Bool.Decides.{nat_tests}
 use Rattle.std.proofs.lemmas.List.Sums.{prefix_len-le-length}
-use Rattle.flow_tidy.specs.Tidied.{line_length}
+use Rattle.flow_tidy.specs.Tidying.{line_length}
 use Rattle.flow_tidy.specs.Made.{is_no_newline}
 use Rattle.flow_tidy.proofs.Lines.{length_is}
 use Rattle.flow_tidy.proofs.limits.is_short.Goals as goal

@@ -1,7 +1,7 @@
 use Rattle.std.proofs.Common.{◌≡◌, ◌+◌, ◌≤◌, ℕ, suc, List, map, take, ap, arith, subst}
 use Rattle.listing_parser.specs.Grammar.{longest_line}
 use Rattle.listing_parser.specs.Views.{line_view}
-use Rattle.flow_tidy.specs.Tidied.{line_length}
+use Rattle.flow_tidy.specs.Tidying.{line_length}
 use Rattle.flow_tidy.specs.Quick.{room_taken}
 use Rattle.flow_tidy.proofs.Lines.{all_short, as_many_lines, one_more_short, read_line}
 use Rattle.flow_tidy.proofs.Rooms.{counts_few, room_all, room_more, short_lines}

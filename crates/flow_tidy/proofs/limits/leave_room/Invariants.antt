@@ -2,7 +2,7 @@ use Rattle.std.proofs.Common.{◌≡◌, ℕ, ◌<◌, ◌≤◌, Some, map, tak
 use Rattle.thumb_model.specs.Listing.{Line}
 use Rattle.listing_parser.specs.Grammar.{longest_line, most_lines}
 use Rattle.listing_parser.specs.Views.{line_view}
-use Rattle.flow_tidy.specs.Tidied.{line_length}
+use Rattle.flow_tidy.specs.Tidying.{line_length}
 use Rattle.flow_tidy.specs.Quick.{room_taken}
 use Rattle.flow_tidy.proofs.limits.leave_room.Given as goal
 

@@ -3,8 +3,7 @@ use Rattle.std.specs.Prelude.{option_map}
 use Rattle.thumb_model.specs.Listing.{code_of, Name}
 use Rattle.kept_places.specs.Marks.{rank}
 use Rattle.listing_draft.specs.Drafted.{lines_now, Drafted}
-use Rattle.flow_tidy.specs.Tidied.{ToEnd, GoesToNext, IsPossible}
-use Rattle.flow_tidy.specs.Tidying.{setting}
+use Rattle.flow_tidy.specs.Tidying.{ToEnd, GoesToNext, IsPossible, setting}
 use Rattle.flow_tidy.specs.Due.{HasEnd}
 use Rattle.flow_tidy.specs.Made.{change}
 use Rattle.flow_tidy.specs.Quick.{GoesTo}

@@ -1,8 +1,7 @@
 use Rattle.std.proofs.Common.{◌≡◌, ◌∙◌, ◌<◌, ℕ, suc, Bool, true, false, List, [], length, replicate, Option, ap, subst, sym}
 use Rattle.std.specs.Prelude.{slice_set, IfNone, IfSome}
 use Rattle.thumb_model.specs.Listing.{code_of}
-use Rattle.thumb_model.specs.Replaced.{replaced}
-use Rattle.thumb_model.specs.ReplacedLines.{replaced_lines}
+use Rattle.thumb_model.specs.Replaced.{replaced, replaced_lines}
 use Rattle.kept_places.specs.Marks.{is_gone, rank}
 use Rattle.listing_parser.specs.Parsing.{own_line}
 use Rattle.listing_draft.specs.Drafted.{lines_now, Drafted}

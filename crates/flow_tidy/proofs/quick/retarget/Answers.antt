@@ -6,7 +6,7 @@ use Rattle.std.specs.declared.alloc.Global.{Global}
 use Rattle.thumb_model.specs.Listing.{code_of, Name}
 use Rattle.kept_places.specs.Marks.{rank}
 use Rattle.listing_draft.specs.Drafted.{lines_now, name_in, stands, Drafted}
-use Rattle.flow_tidy.specs.Tidied.{GoesToEnd}
+use Rattle.flow_tidy.specs.Tidying.{GoesToEnd}
 use Rattle.flow_tidy.specs.Quick.{EndsAt, MayAim}
 use Rattle.flow_tidy.proofs.Draftings.{quick_aimed}
 use Rattle.flow_tidy.proofs.KnownEnds.{ends_stay}

@@ -1,6 +1,6 @@
 use Rattle.std.proofs.Common.{refl}
 use Rattle.thumb_model.specs.Listing.{code_of}
-use Rattle.flow_tidy.specs.Tidied.{ToNext, ToEnd}
+use Rattle.flow_tidy.specs.Tidying.{ToNext, ToEnd}
 use Rattle.flow_tidy.proofs.Making.{caused_idle}
 use Rattle.flow_tidy.proofs.searching.is_caused.Goals as goal
 

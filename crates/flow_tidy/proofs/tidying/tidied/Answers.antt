@@ -1,8 +1,7 @@
 use Rattle.std.proofs.Common.{◌∙◌, ◌+◌, ◌<◌, ◌^◌, length, refl, sym, subst, arith}
 use Rattle.thumb_model.specs.Listing.{code_of, places_of}
 use Rattle.flow_tidy.specs.Due.{IsFoundNext, IsNextAt}
-use Rattle.flow_tidy.specs.Tidied.{NonePossible}
-use Rattle.flow_tidy.specs.Tidying.{setting}
+use Rattle.flow_tidy.specs.Tidying.{NonePossible, setting}
 use Rattle.flow_tidy.specs.Due.{AreDue}
 use Rattle.flow_tidy.proofs.Ends.{room_of}
 use Rattle.flow_tidy.proofs.Rounds.{all_made, count_fits, next_made, next_room, nothing_made}

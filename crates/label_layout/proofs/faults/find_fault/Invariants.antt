@@ -1,7 +1,7 @@
 use Rattle.std.proofs.Common.{◌≡◌, ◌+◌, drop, map}
 use Rattle.thumb_model.specs.Layout.{end_of, faults_from, lies_in}
 use Rattle.listing_parser.specs.Views.{line_view}
-use Rattle.label_layout.specs.Faults.{first_fault}
+use Rattle.label_layout.specs.Refusals.{first_fault}
 use Rattle.label_layout.proofs.faults.find_fault.Given as goal
 
 abbrev pub invariant-loop-line : goal.invariant-loop-line

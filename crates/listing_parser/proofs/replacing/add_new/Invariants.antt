@@ -1,5 +1,5 @@
 use Rattle.std.proofs.Common.{◌≡◌, ◌++◌, map, drop}
-use Rattle.thumb_model.specs.ReplacedLines.{new_line}
+use Rattle.thumb_model.specs.Replaced.{new_line}
 use Rattle.listing_parser.specs.Views.{line_view}
 use Rattle.listing_parser.specs.Parsing.{own_line}
 use Rattle.listing_parser.proofs.replacing.add_new.Given as goal

@@ -1,5 +1,5 @@
 use Rattle.std.proofs.Common.{◌≡◌, ◌++◌, map, drop}
-use Rattle.thumb_model.specs.ReplacedLines.{without}
+use Rattle.thumb_model.specs.Replaced.{without}
 use Rattle.listing_parser.specs.Views.{line_view}
 use Rattle.listing_parser.proofs.replacing.add_without.Given as goal
 

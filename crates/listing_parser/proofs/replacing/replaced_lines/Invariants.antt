@@ -1,5 +1,5 @@
 use Rattle.std.proofs.Common.{◌≡◌, ◌++◌, map, drop}
-use Rattle.thumb_model.specs.ReplacedLines.{replaced_lines}
+use Rattle.thumb_model.specs.Replaced.{replaced_lines}
 use Rattle.listing_parser.specs.Views.{line_view}
 use Rattle.listing_parser.specs.Parsing.{own_line}
 use Rattle.listing_parser.proofs.replacing.replaced_lines.Given as goal

@@ -1,6 +1,6 @@
 use Rattle.std.proofs.Common.{◌≡◌, ◌++◌, map, drop}
 use Rattle.listing_parser.specs.Parsing.{line_mentioning}
-use Rattle.listing_parser.specs.Retargeting.{aimed_lines}
+use Rattle.listing_parser.specs.Targets.{aimed_lines}
 use Rattle.listing_parser.specs.Views.{line_view}
 use Rattle.listing_parser.proofs.retargeting.retargeted_lines.Given as goal
 

@@ -1,7 +1,7 @@
 use Rattle.std.proofs.Common.{◌≤◌, ◌∙◌, ℕ, List, length, subst}
 use Rattle.std.proofs.lemmas.List.{take_all}
 use Rattle.lrat_check.specs.Live.{clause_at}
-use Rattle.lrat_check.specs.Deleting.{IsAfter}
+use Rattle.lrat_check.specs.Text.{IsAfter}
 use Rattle.lrat_check.proofs.Views.{clause_at-remove}
 use Rattle.lrat_check.proofs.Deletions.{IsAfter-next, id_at}
 use Rattle.lrat_check.proofs.deletion.delete.Goals as goal

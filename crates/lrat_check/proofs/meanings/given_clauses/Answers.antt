@@ -1,7 +1,7 @@
 use Rattle.std.proofs.Common.{◌≤◌, List, ℕ, [], ◌∷◌, ◌++◌, length, take, sym, ◌∙◌, ap, arith, Vec}
 use Rattle.std.specs.Global.{Global}
 use Rattle.std.proofs.lemmas.List.{map_push, take_more}
-use Rattle.clause_model.specs.Literals.{codes_of}
+use Rattle.clause_model.specs.Clauses.{codes_of}
 use Rattle.lrat_check.specs.Ending.{literals_in}
 use Rattle.lrat_check.proofs.Starts.{code_at, all_codes}
 use Rattle.lrat_check.proofs.meanings.given_clauses.Goals as goal

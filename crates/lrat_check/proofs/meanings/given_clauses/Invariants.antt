@@ -1,5 +1,5 @@
 use Rattle.std.proofs.Common.{◌≡◌, take}
-use Rattle.clause_model.specs.Literals.{codes_of}
+use Rattle.clause_model.specs.Clauses.{codes_of}
 use Rattle.lrat_check.specs.Ending.{literals_in}
 use Rattle.lrat_check.proofs.meanings.given_clauses.Given as goal
 

@@ -5,7 +5,7 @@ use Rattle.clause_model.proofs.Runs.{Continues-dead, Continues-open, Continues-c
 use Rattle.lrat_check.proofs.Views.{hint_within, hint_names}
 use Rattle.lrat_check.proofs.Looked.{Looked-all, Looked-dead, Looked-ends, Looked-unit}
 use Rattle.lrat_check.proofs.Sufficing.{GoesOn-conflict, GoesOn-unit, Spends-unit, Spends-looked, Spends-all, end_from_Suffice}
-use Rattle.clause_model.specs.Propagation.{dead, unfit}
+use Rattle.clause_model.specs.Clauses.{dead, unfit}
 use Rattle.lrat_check.proofs.propagation.refute.Goals as goal
 
 pub returns-in-None-clause-err : goal.returns-in-None-clause-err

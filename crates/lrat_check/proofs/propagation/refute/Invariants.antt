@@ -1,6 +1,6 @@
 use Rattle.std.proofs.Common.{◌≡◌, ℕ, ◌+◌, ◌≤◌, List, Option, drop, map}
 use Rattle.std.specs.Prelude.{unsigned_abs}
-use Rattle.clause_model.specs.Propagation.{hint_lengths}
+use Rattle.clause_model.specs.Clauses.{hint_lengths}
 use Rattle.lrat_check.specs.Costs.{IsPartOf}
 use Rattle.clause_model.proofs.Runs.{Continues}
 use Rattle.lrat_check.proofs.Looked.{Looked}

@@ -1,7 +1,7 @@
 use Rattle.std.proofs.Common.{◌≢◌, ℕ, ◌≤◌, length, refl, subst, take}
 use Rattle.std.specs.Prelude.{All}
 use Rattle.std.proofs.lemmas.List.{take_all}
-use Rattle.clause_model.specs.Literals.{HasDistinctVariables, variable_of}
+use Rattle.clause_model.specs.Clauses.{HasDistinctVariables, variable_of}
 use Rattle.lrat_check.proofs.Distinct.{distinct_pairs}
 use Rattle.lrat_check.proofs.text.differ_in_pairs.Goals as goal
 

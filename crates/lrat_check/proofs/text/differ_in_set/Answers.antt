@@ -1,7 +1,7 @@
 use Rattle.std.proofs.Common.{◌∙◌, ◌≤◌, sym, refl, subst, map, length, arith}
 use Rattle.std.proofs.lemmas.Bool.{false≢true}
 use Rattle.std.proofs.lemmas.List.{take_all}
-use Rattle.clause_model.specs.Literals.{HasDistinctVariables, variable_of}
+use Rattle.clause_model.specs.Clauses.{HasDistinctVariables, variable_of}
 use Rattle.lrat_check.proofs.Deletions.{HasSeen-begun, HasSeen-next, not_true, not_false}
 use Rattle.lrat_check.proofs.Distinct.{variable_at, variable_within, distinct_next, not_distinct}
 use Rattle.lrat_check.proofs.text.differ_in_set.Goals as goal

@@ -1,5 +1,5 @@
 use Rattle.std.proofs.Common.{take, map}
-use Rattle.clause_model.specs.Literals.{HasDistinctVariables, variable_of}
+use Rattle.clause_model.specs.Clauses.{HasDistinctVariables, variable_of}
 use Rattle.lrat_check.proofs.Deletions.{HasSeen}
 use Rattle.lrat_check.proofs.text.differ_in_set.Given as goal
 

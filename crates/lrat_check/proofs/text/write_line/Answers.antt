@@ -1,6 +1,5 @@
 use Rattle.std.proofs.Common.{◌∙◌, decimal, List, ℕ, [], ◌∷◌, ◌++◌, append_assoc, sym, ap}
-use Rattle.lrat_check.specs.Content.{content_of}
-use Rattle.lrat_check.specs.Text.{middle_of, id_of, end_word, spaced}
+use Rattle.lrat_check.specs.Text.{content_of, middle_of, id_of, end_word, spaced}
 use Rattle.lrat_check.proofs.Texts.{join-push}
 use Rattle.lrat_check.proofs.text.write_line.Goals as goal
 

@@ -1,6 +1,6 @@
 use Rattle.std.proofs.Common.{◌+◌, List, ◌++◌, drop, refl, ◌∙◌, ap}
 use Rattle.std.proofs.lemmas.List.{map_push}
-use Rattle.lrat_check.specs.Content.{Content, content_of, addition, deletion}
+use Rattle.lrat_check.specs.Text.{Content, content_of, addition, deletion}
 use Rattle.lrat_check.specs.Runs.{contents_of}
 use Rattle.lrat_check.specs.Ending.{add_of, adds_of, up_to_empty}
 use Rattle.lrat_check.proofs.Meant.{vec_empty, vec_some, found_deletion, found_last, found_addition}

@@ -4,9 +4,8 @@ use Rattle.std.specs.Global.{Global}
 use Rattle.std.proofs.lemmas.List.{map_push}
 use Rattle.step_ledger.specs.Counts.{RisesBy}
 use Rattle.lrat_check.specs.declared.line.Line.{Line}
-use Rattle.lrat_check.specs.Content.{Content, content_of}
+use Rattle.lrat_check.specs.Text.{Content, content_of, names_of, IsUsedPart, used_lengths}
 use Rattle.lrat_check.specs.Runs.{contents_of}
-use Rattle.lrat_check.specs.Trimmed.{names_of, IsUsedPart, used_lengths}
 use Rattle.lrat_check.specs.Shown.{cut_of, MarksNamed}
 use Rattle.lrat_check.proofs.Marking.{written_back}
 use Rattle.lrat_check.proofs.Backward.{Going, Going-kept, Going-next, Going-all}

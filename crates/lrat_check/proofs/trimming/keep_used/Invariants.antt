@@ -1,5 +1,5 @@
 use Rattle.std.proofs.Common.{◌≡◌, ℕ, List, [], reverse}
-use Rattle.lrat_check.specs.Content.{Content}
+use Rattle.lrat_check.specs.Text.{Content}
 use Rattle.lrat_check.specs.Runs.{contents_of}
 use Rattle.lrat_check.specs.Meant.{IsMeant}
 use Rattle.lrat_check.proofs.Backward.{Going}

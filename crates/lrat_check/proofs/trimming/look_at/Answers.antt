@@ -2,8 +2,7 @@ use Rattle.std.proofs.Common.{◌≡◌, ℤ, ◌≤◌, List, length, map, sym,
 use Rattle.std.specs.Prelude.{unsigned_abs}
 use Rattle.std.proofs.lemmas.List.{length-map}
 use Rattle.step_ledger.specs.Counts.{RisesBy}
-use Rattle.clause_model.specs.Literals.{HasDistinctVariables}
-use Rattle.clause_model.specs.Propagation.{hint_lengths}
+use Rattle.clause_model.specs.Clauses.{HasDistinctVariables, hint_lengths}
 use Rattle.lrat_check.specs.Meant.{meant_by}
 use Rattle.lrat_check.proofs.Shortened.{lits}
 use Rattle.lrat_check.proofs.Sufficing.{Suffice-within}

@@ -1,5 +1,5 @@
 use Rattle.std.proofs.Common.{inr}
-use Rattle.clause_model.specs.Literals.{codes_of}
+use Rattle.clause_model.specs.Clauses.{codes_of}
 use Rattle.lrat_check.specs.Runs.{contents_of}
 use Rattle.lrat_check.proofs.Parts.{trimmed_refutes, trimmed_named}
 use Rattle.lrat_check.proofs.Showing.{additions_ordered, additions_above, is_meant}

@@ -1,5 +1,5 @@
 use Rattle.std.proofs.Common.{◌≡◌, not, filter, get_or}
-use Rattle.seq_enum.specs.Lists.{numbers_from}
+use Rattle.seq_enum.specs.Alphabet.{numbers_from}
 use Rattle.outcomes.specs.Looks.{flags_differ}
 use Rattle.outcomes.proofs.looks.flag_places.Given as goal
 

@@ -1,5 +1,5 @@
 use Rattle.std.proofs.Common.{◌≡◌, ◌+◌, ◌*◌, ◌==◌, ap, sym, ◌∙◌, arith, get_or, filter}
-use Rattle.seq_enum.specs.Lists.{numbers_from}
+use Rattle.seq_enum.specs.Alphabet.{numbers_from}
 use Rattle.outcomes.proofs.Looking.{numbers_none}
 use Rattle.outcomes.proofs.looks.places_of.Goals as goal
 

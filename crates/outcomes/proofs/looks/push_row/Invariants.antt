@@ -1,5 +1,5 @@
 use Rattle.std.proofs.Common.{◌≡◌, ◌+◌, ◌*◌, ◌==◌, filter, get_or}
-use Rattle.seq_enum.specs.Lists.{numbers_from}
+use Rattle.seq_enum.specs.Alphabet.{numbers_from}
 use Rattle.outcomes.proofs.looks.push_row.Given as goal
 
 abbrev pub invariant-loop-block : goal.invariant-loop-block

@@ -1,5 +1,5 @@
 use Rattle.std.proofs.Common.{◌≡◌}
-use Rattle.seq_enum.specs.Lists.{numbers_from}
+use Rattle.seq_enum.specs.Alphabet.{numbers_from}
 use Rattle.outcomes.proofs.short_list.all_below.Given as goal
 
 abbrev pub invariant-loop-number : goal.invariant-loop-number

@@ -1,8 +1,7 @@
 use Rattle.std.proofs.Common.{◌-◌, arith, refl, sym, ◌∙◌, length}
 use Rattle.std.proofs.lemmas.Bool.{false≢true}
 use Rattle.thumb_model.specs.Effect.{after_all}
-use Rattle.window_exec.specs.State.{values_of}
-use Rattle.window_exec.specs.Telling.{Differ}
+use Rattle.window_exec.specs.State.{values_of, Differ}
 use Rattle.outcomes.specs.declared.trials.Trial.{Trial}
 use Rattle.outcomes.proofs.Tried.{any_at, beside, one_more_passed}
 use Rattle.outcomes.proofs.trials.is_told.Goals as goal

@@ -1,7 +1,6 @@
 use Rattle.std.proofs.Common.{ℕ, ◌≡◌, ◌<◌, ◌≤◌, ◌+◌, ◌*◌, length, get_or}
 use Rattle.thumb_model.specs.Effect.{after_all}
-use Rattle.window_exec.specs.State.{values_of}
-use Rattle.window_exec.specs.Telling.{Differ}
+use Rattle.window_exec.specs.State.{values_of, Differ}
 use Rattle.outcomes.specs.declared.trials.Trial.{Trial}
 use Rattle.outcomes.proofs.trials.is_told.Given as goal
 

@@ -1,6 +1,5 @@
 use Rattle.std.proofs.Common.{◌≡◌, drop}
-use Rattle.thumb_model.specs.Effect.{after_all}
-use Rattle.thumb_model.specs.Sides.{AreOver}
+use Rattle.thumb_model.specs.Effect.{after_all, AreOver}
 use Rattle.window_exec.specs.State.{values_of}
 use Rattle.step_ledger.specs.Counts.{RisesBy}
 use Rattle.outcomes.proofs.trials.run.Given as goal

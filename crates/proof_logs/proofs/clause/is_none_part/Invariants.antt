@@ -1,7 +1,7 @@
 use Rattle.std.proofs.Common.{◌≤◌, ◌+◌, take, length}
 use Rattle.std.specs.Prelude.{sum_by}
 use Rattle.step_ledger.specs.Counts.{RisesByAtLeast}
-use Rattle.clause_model.specs.Asserting.{IsNew}
+use Rattle.clause_model.specs.Clauses.{IsNew}
 use Rattle.proof_logs.proofs.clause.is_none_part.Given as goal
 
 abbrev pub invariant-loop-clause : goal.invariant-loop-clause

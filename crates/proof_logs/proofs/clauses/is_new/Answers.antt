@@ -1,6 +1,6 @@
 use Rattle.std.proofs.Common.{List, ℕ, subst}
 use Rattle.std.specs.Prelude.{IsTrue, ◌↔◌}
-use Rattle.clause_model.specs.Asserting.{IsNew}
+use Rattle.clause_model.specs.Clauses.{IsNew}
 use Rattle.proof_logs.proofs.clauses.is_new.Goals as goal
 
 pub returns-clause-new : goal.returns-clause-new

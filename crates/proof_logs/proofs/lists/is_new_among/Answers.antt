@@ -1,6 +1,6 @@
 use Rattle.std.proofs.Common.{◌≤◌, ◌+◌, ◌≢◌, arith, List, ℕ, length, subst, sym, false}
 use Rattle.std.specs.Prelude.{AllPairs, IsTrue, sum_by, ◌↔◌}
-use Rattle.clause_model.specs.Asserting.{IsNew}
+use Rattle.clause_model.specs.Clauses.{IsNew}
 use Rattle.proof_logs.specs.Lists.{listed}
 use Rattle.step_ledger.proofs.Rises.{at_least-goes_on}
 use Rattle.proof_logs.proofs.Members.{says_no, says_yes, denied}

@@ -1,7 +1,7 @@
 use Rattle.std.proofs.Common.{◌≤◌, ◌+◌, take, length}
 use Rattle.std.specs.Prelude.{All, sum_by}
 use Rattle.step_ledger.specs.Counts.{RisesByAtLeast}
-use Rattle.clause_model.specs.Asserting.{IsNew}
+use Rattle.clause_model.specs.Clauses.{IsNew}
 use Rattle.proof_logs.specs.Lists.{listed, under}
 use Rattle.proof_logs.proofs.lists.is_new_among.Given as goal
 

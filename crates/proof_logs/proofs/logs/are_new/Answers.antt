@@ -1,8 +1,7 @@
 use Rattle.std.proofs.Common.{◌+◌, arith, drop, take, subst, sym, ◌++◌, Bool}
 use Rattle.std.specs.Prelude.{IsTrue, ◌↔◌}
-use Rattle.clause_model.specs.Literals.{codes_of}
-use Rattle.clause_model.specs.Asserting.{IsNew}
-use Rattle.proof_logs.specs.Lines.{additions}
+use Rattle.clause_model.specs.Clauses.{codes_of, IsNew}
+use Rattle.proof_logs.specs.Proofs.{additions}
 use Rattle.proof_logs.specs.Lists.{Holds}
 use Rattle.proof_logs.specs.Checked.{contents_of}
 use Rattle.step_ledger.proofs.Rises.{at_least-goes_on}

@@ -1,8 +1,7 @@
 use Rattle.std.proofs.Common.{◌≤◌, ◌+◌, ◌++◌, drop, take}
 use Rattle.step_ledger.specs.Counts.{RisesByAtLeast}
-use Rattle.clause_model.specs.Literals.{codes_of}
-use Rattle.proof_logs.specs.Lines.{additions}
-use Rattle.proof_logs.specs.Logs.{EachIsNew}
+use Rattle.clause_model.specs.Clauses.{codes_of}
+use Rattle.proof_logs.specs.Proofs.{additions, EachIsNew}
 use Rattle.proof_logs.specs.Costs.{newness_cost}
 use Rattle.proof_logs.specs.Lists.{Holds}
 use Rattle.proof_logs.specs.Checked.{contents_of}

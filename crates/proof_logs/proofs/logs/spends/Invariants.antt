@@ -1,6 +1,6 @@
 use Rattle.std.proofs.Common.{◌≡◌, ◌≢◌, ◌≤◌, [], take, length}
 use Rattle.std.specs.Prelude.{All}
-use Rattle.proof_logs.specs.Lines.{additions}
+use Rattle.proof_logs.specs.Proofs.{additions}
 use Rattle.proof_logs.specs.Checked.{contents_of}
 use Rattle.proof_logs.proofs.logs.spends.Given as goal
 

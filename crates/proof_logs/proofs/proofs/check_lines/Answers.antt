@@ -2,9 +2,9 @@ use Rattle.std.proofs.Common.{◌≡◌, ◌≤◌, length, slice_get, Some, inr
 use Rattle.std.specs.Prelude.{Any, IsTrue, ◌↔◌, ◌++◌, []}
 use Rattle.std.proofs.lemmas.List.{length-map, take_all, append-nil}
 use Rattle.step_ledger.proofs.Rises.{at_least-stays, at_least-goes_on, at_least-fewer}
-use Rattle.clause_model.specs.Literals.{codes_of}
-use Rattle.lrat_check.specs.Content.{Content, content_of}
-use Rattle.proof_logs.specs.Lines.{additions}
+use Rattle.clause_model.specs.Clauses.{codes_of}
+use Rattle.lrat_check.specs.Text.{Content, content_of}
+use Rattle.proof_logs.specs.Proofs.{additions}
 use Rattle.proof_logs.specs.Checked.{contents_of}
 use Rattle.proof_logs.proofs.Additions.{content_at}
 use Rattle.proof_logs.proofs.Checks.{begun_known, led_known, led_accepts, faulty_refused, line_distinct, line_step, line_fault, line_end, cost_next, cost_within, refuted_more, LinesRest}

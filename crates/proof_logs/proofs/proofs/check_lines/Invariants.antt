@@ -1,11 +1,10 @@
 use Rattle.std.proofs.Common.{◌≡◌, ◌≤◌, ◌+◌, ◌++◌, [], drop, take}
 use Rattle.std.specs.Prelude.{Any, IsTrue, ◌↔◌}
 use Rattle.step_ledger.specs.Counts.{RisesByAtLeast}
-use Rattle.clause_model.specs.Literals.{codes_of}
+use Rattle.clause_model.specs.Clauses.{codes_of}
 use Rattle.proof_logs.specs.declared.faults.ProofFault.TheVariants.{Line as LineOf}
-use Rattle.proof_logs.specs.Lines.{started, additions}
+use Rattle.proof_logs.specs.Proofs.{started, additions, LinesVerdict}
 use Rattle.proof_logs.specs.Costs.{lines_cost}
-use Rattle.proof_logs.specs.Proofs.{LinesVerdict}
 use Rattle.proof_logs.specs.Checked.{known_of, contents_of}
 use Rattle.proof_logs.proofs.Checks.{LinesRest}
 use Rattle.proof_logs.proofs.proofs.check_lines.Given as goal

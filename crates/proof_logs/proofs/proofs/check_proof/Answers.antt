@@ -1,5 +1,5 @@
 use Rattle.std.proofs.Common.{rules, None}
-use Rattle.clause_model.specs.Literals.{codes_of}
+use Rattle.clause_model.specs.Clauses.{codes_of}
 use Rattle.proof_logs.specs.declared.faults.ProofFault.TheVariants.{Line as LineOf, Unfinished}
 use Rattle.proof_logs.specs.Checked.{contents_of}
 use Rattle.proof_logs.specs.Proofs.{ProofVerdict}

@@ -1,6 +1,5 @@
 use Rattle.std.proofs.Common.{◌≡◌, ◌∙◌, List, true, false, map}
-use Rattle.thumb_instr.specs.Window.{normal_of}
-use Rattle.thumb_instr.specs.Renaming.{Low, renamed}
+use Rattle.thumb_instr.specs.Window.{normal_of, Low, renamed}
 use Rattle.rule_table.specs.Matching.{registers_in}
 use Rattle.rule_table.proofs.BindingLemmas.{bound_at}
 use Rattle.rule_table.proofs.FoundLemmas.{found, none_found}

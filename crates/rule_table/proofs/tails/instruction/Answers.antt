@@ -8,7 +8,7 @@ use Rattle.thumb_syntax.specs.FieldViews.{label_of}
 use Rattle.thumb_syntax.specs.ParsedView.{shown}
 use Rattle.thumb_syntax.specs.declared.reading.Parsed.{Parsed}
 use Rattle.rule_table.specs.Text.{instr_text}
-use Rattle.rule_table.specs.Valid.{IsInstr}
+use Rattle.rule_table.specs.Table.{IsInstr}
 use Rattle.rule_table.proofs.InstrTexts.{read_is, same_shown}
 use Rattle.rule_table.proofs.tails.instruction.Goals as goal
 

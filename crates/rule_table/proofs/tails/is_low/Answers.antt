@@ -1,8 +1,7 @@
 use Rattle.std.proofs.Common.{◌≡◌, ◌∙◌, ap, sym, subst, true}
 use Rattle.std.specs.Prelude.{nat_lt}
 use Rattle.std.specs.List.{list_all}
-use Rattle.thumb_instr.specs.Renaming.{Low, AreBelow}
-use Rattle.thumb_instr.specs.Window.{is_in_window}
+use Rattle.thumb_instr.specs.Window.{Low, AreBelow, is_in_window}
 use Rattle.rule_table.proofs.InstrTexts.{low_tests, low_tested}
 use Rattle.rule_table.proofs.tails.is_low.Goals as goal
 

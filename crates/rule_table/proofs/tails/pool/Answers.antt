@@ -1,6 +1,6 @@
 use Rattle.std.proofs.Common.{◌≡◌, true, map, ap, subst, sym, ◌∙◌}
 use Rattle.std.specs.Prelude.{decimal}
-use Rattle.seq_enum.specs.Pools.{is_pool}
+use Rattle.seq_enum.specs.Alphabet.{is_pool}
 use Rattle.rule_table.specs.Text.{after_blanks}
 use Rattle.rule_table.specs.Words.{AreBytes}
 use Rattle.rule_table.proofs.ListTexts.{pool_bytes, pool_some, pool_found, made_list}

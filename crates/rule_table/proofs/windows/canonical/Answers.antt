@@ -2,8 +2,7 @@ use Rattle.std.proofs.Common.{◌≡◌, ◌≤◌, rules, ap, sym, ◌∙◌, a
 use Rattle.std.specs.List.{list_all, flat_map}
 use Rattle.std.proofs.lemmas.List.{length-map}
 use Rattle.thumb_instr.specs.declared.instr.Instr.{Instr}
-use Rattle.thumb_instr.specs.Window.{is_in_window, normal_of}
-use Rattle.thumb_instr.specs.Renaming.{named, renamed, AreBelow}
+use Rattle.thumb_instr.specs.Window.{is_in_window, normal_of, named, renamed, AreBelow}
 use Rattle.rule_table.specs.Canonical.{numbers_of, appearing, masked, name_in}
 use Rattle.rule_table.proofs.Backs.{windows_normal, all_back, all_below, all_appear, AreNames, eight}
 use Rattle.rule_table.proofs.windows.canonical.Goals as goal

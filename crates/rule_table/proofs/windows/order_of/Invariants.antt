@@ -1,6 +1,6 @@
 use Rattle.std.proofs.Common.{◌≡◌, ◌≤◌, drop, length}
 use Rattle.std.specs.List.{flat_map}
-use Rattle.thumb_instr.specs.Renaming.{named}
+use Rattle.thumb_instr.specs.Window.{named}
 use Rattle.rule_table.specs.Canonical.{firsts, numbers_of, appearing}
 use Rattle.rule_table.proofs.windows.order_of.Given as goal
 

@@ -1,5 +1,5 @@
 use Rattle.std.proofs.Common.{◌≡◌, take, map}
-use Rattle.thumb_instr.specs.Renaming.{renamed}
+use Rattle.thumb_instr.specs.Window.{renamed}
 use Rattle.rule_table.proofs.windows.renamed_all.Given as goal
 
 abbrev pub invariant-loop-instr : goal.invariant-loop-instr

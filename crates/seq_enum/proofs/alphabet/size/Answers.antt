@@ -1,7 +1,6 @@
 use Rattle.std.proofs.Common.{◌≡◌, ap, ◌∙◌, arith, length}
 use Rattle.std.specs.List.{flat_map}
-use Rattle.seq_enum.specs.Lists.{held_in}
-use Rattle.seq_enum.specs.Alphabet.{alphabet, members}
+use Rattle.seq_enum.specs.Alphabet.{held_in, alphabet, members}
 use Rattle.seq_enum.proofs.Mnemonics.{size_formula, size_bound}
 use Rattle.seq_enum.proofs.Bounds.{whole_pool, held_few}
 use Rattle.seq_enum.proofs.alphabet.size.Goals as goal

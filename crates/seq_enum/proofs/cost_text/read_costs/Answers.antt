@@ -2,7 +2,7 @@ use Rattle.std.proofs.Common.{◌≡◌, ◌∙◌, ◌∷◌, refl, sym, ap, su
 use Rattle.std.proofs.lemmas.Bool.{false≢true}
 use Rattle.ascii_scan.specs.Lines.{Placed}
 use Rattle.ascii_scan.specs.Source.{lines_left, line_view}
-use Rattle.seq_enum.specs.CostTexts.{IsCostText}
+use Rattle.seq_enum.specs.Costs.{IsCostText}
 use Rattle.seq_enum.specs.CostSteps.{Notes}
 use Rattle.seq_enum.proofs.CostReading.{Progress, missing_first, bad_first, begun, noted, refused_at, kept_are, whole_text}
 use Rattle.seq_enum.proofs.cost_text.read_costs.Goals as goal

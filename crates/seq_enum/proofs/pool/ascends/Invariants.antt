@@ -1,5 +1,5 @@
 use Rattle.std.proofs.Common.{◌≡◌, ◌≤◌, drop}
-use Rattle.seq_enum.specs.Lists.{ascends_from}
+use Rattle.seq_enum.specs.Alphabet.{ascends_from}
 use Rattle.seq_enum.proofs.pool.ascends.Given as goal
 
 abbrev pub invariant-loop-x : goal.invariant-loop-x

@@ -1,5 +1,5 @@
 use Rattle.std.proofs.Common.{◌≡◌, filter, drop, slice_get}
-use Rattle.seq_enum.specs.Pools.{inside}
+use Rattle.seq_enum.specs.Alphabet.{inside}
 use Rattle.seq_enum.proofs.pool.number_among.Given as goal
 
 abbrev pub invariant-loop-x : goal.invariant-loop-x

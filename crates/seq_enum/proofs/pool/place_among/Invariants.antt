@@ -1,6 +1,6 @@
 use Rattle.std.proofs.Common.{◌≡◌, ◌+◌, ◌≤◌, filter, drop}
 use Rattle.std.specs.Option.{option_map}
-use Rattle.seq_enum.specs.Pools.{inside}
+use Rattle.seq_enum.specs.Alphabet.{inside}
 use Rattle.seq_enum.specs.Places.{place_of}
 use Rattle.seq_enum.proofs.pool.place_among.Given as goal
 

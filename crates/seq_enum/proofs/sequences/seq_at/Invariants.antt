@@ -1,7 +1,6 @@
 use Rattle.std.proofs.Common.{◌≡◌, drop, slice_get}
 use Rattle.std.specs.List.{flat_map}
-use Rattle.seq_enum.specs.Lists.{numbers_from}
-use Rattle.seq_enum.specs.Alphabet.{words, alphabet, sequences}
+use Rattle.seq_enum.specs.Alphabet.{numbers_from, words, alphabet, sequences}
 use Rattle.seq_enum.proofs.sequences.seq_at.Given as goal
 
 abbrev pub invariant-loop-n : goal.invariant-loop-n

@@ -1,7 +1,6 @@
 use Rattle.std.proofs.Common.{◌≡◌, ◌+◌, length, map, Some}
 use Rattle.std.specs.List.{flat_map}
-use Rattle.seq_enum.specs.Lists.{numbers_from}
-use Rattle.seq_enum.specs.Alphabet.{alphabet, words}
+use Rattle.seq_enum.specs.Alphabet.{numbers_from, alphabet, words}
 use Rattle.seq_enum.specs.Costs.{weight_under}
 use Rattle.seq_enum.proofs.weights.weights.Given as goal
 

@@ -1,6 +1,6 @@
 use Rattle.std.proofs.Common.{ap, map, refl}
-use Rattle.clause_model.specs.Literals.{codes_of}
-use Rattle.lrat_check.specs.Content.{content_of}
+use Rattle.clause_model.specs.Clauses.{codes_of}
+use Rattle.lrat_check.specs.Text.{content_of}
 use Rattle.rule_table.specs.Views.{family_of, header_in, rule_of}
 use Rattle.table_audit.specs.Families.{raised_formula}
 use Rattle.table_audit.specs.Faults.{raised_fault}

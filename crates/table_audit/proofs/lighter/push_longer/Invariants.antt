@@ -1,5 +1,5 @@
 use Rattle.std.proofs.Common.{◌≡◌, ◌+◌, ◌*◌, ◌++◌, filter, length}
-use Rattle.seq_enum.specs.Lists.{numbers_from}
+use Rattle.seq_enum.specs.Alphabet.{numbers_from}
 use Rattle.table_audit.specs.Lighter.{is_light_at}
 use Rattle.table_audit.proofs.lighter.push_longer.Given as goal
 

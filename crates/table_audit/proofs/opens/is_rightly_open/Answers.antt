@@ -1,13 +1,12 @@
 use Rattle.std.proofs.Common.{arith, refl, sym, subst, ap, ◌∙◌, ◌≡◌, ◌≤◌, slice_get, Some, None, length, map}
 use Rattle.std.proofs.lemmas.Bool.{false≢true}
 use Rattle.window_exec.specs.State.{seen}
-use Rattle.thumb_model.specs.Sides.{AreOver}
-use Rattle.clause_model.specs.Literals.{codes_of}
-use Rattle.lrat_check.specs.Content.{content_of}
+use Rattle.thumb_model.specs.Effect.{AreOver}
+use Rattle.clause_model.specs.Clauses.{codes_of}
+use Rattle.lrat_check.specs.Text.{content_of}
 use Rattle.rule_table.specs.Views.{opened_of, rule_of, table_of}
 use Rattle.proof_logs.specs.Costs.{spent_cost}
-use Rattle.table_audit.specs.Sides.{formula_against}
-use Rattle.table_audit.specs.Shorter.{IsTold, below_at}
+use Rattle.table_audit.specs.Shorter.{formula_against, IsTold, below_at}
 use Rattle.table_audit.proofs.Tellings.{told_is}
 use Rattle.table_audit.proofs.Walking.{over_more}
 use Rattle.table_audit.proofs.Openings.{found, none_open, told_open, spent_answers, as_many, spent_within}

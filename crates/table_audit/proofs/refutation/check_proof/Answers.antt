@@ -1,8 +1,8 @@
 use Rattle.std.proofs.Common.{ap, map, refl}
-use Rattle.clause_model.specs.Literals.{codes_of}
-use Rattle.lrat_check.specs.Content.{content_of}
+use Rattle.clause_model.specs.Clauses.{codes_of}
+use Rattle.lrat_check.specs.Text.{content_of}
 use Rattle.rule_table.specs.Views.{header_in, rule_of}
-use Rattle.table_audit.specs.Sides.{alphabet_registers, formula_of}
+use Rattle.table_audit.specs.Shorter.{alphabet_registers, formula_of}
 use Rattle.table_audit.specs.Faults.{fault_of}
 use Rattle.table_audit.proofs.Answering.{proof_passed, proof_failed, unshortened_passes}
 use Rattle.table_audit.proofs.refutation.check_proof.Goals as goal

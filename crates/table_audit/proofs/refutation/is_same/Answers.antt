@@ -3,7 +3,7 @@ use Rattle.std.specs.Prelude.{slice_get}
 use Rattle.std.proofs.lemmas.Bool.{eqb-true}
 use Rattle.std.proofs.lemmas.Option.{same_Some}
 use Rattle.thumb_instr.specs.declared.instr.Instr.{Instr}
-use Rattle.seq_enum.specs.Lists.{IsPlace}
+use Rattle.seq_enum.specs.Alphabet.{IsPlace}
 use Rattle.table_audit.proofs.refutation.is_same.Goals as goal
 
 -- what stands at one place is one sequence

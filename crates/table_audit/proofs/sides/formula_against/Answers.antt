@@ -1,6 +1,6 @@
 use Rattle.std.proofs.Common.{arith}
 use Rattle.rule_table.specs.Views.{header_in}
-use Rattle.table_audit.specs.Sides.{named_count}
+use Rattle.table_audit.specs.Shorter.{named_count}
 use Rattle.table_audit.proofs.Walking.{over_more, mask_more, own_within}
 use Rattle.table_audit.proofs.sides.formula_against.Goals as goal
 

@@ -1,7 +1,7 @@
 use Rattle.std.proofs.Common.{ap, sym, subst, arith, ◌∙◌, ◌≡◌, ◌<◌, true, length}
 use Rattle.std.specs.List.{list_all}
 use Rattle.thumb_instr.specs.Window.{is_in_window}
-use Rattle.seq_enum.specs.Lists.{numbers_from}
+use Rattle.seq_enum.specs.Alphabet.{numbers_from}
 use Rattle.seq_enum.proofs.Numbered.{length-numbers}
 use Rattle.rule_table.specs.Canonical.{appearing}
 use Rattle.table_audit.specs.Orders.{IsAstray}

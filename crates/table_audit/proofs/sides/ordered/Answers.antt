@@ -1,5 +1,5 @@
 use Rattle.std.proofs.Common.{arith, sym, ◌∙◌, ◌+◌, ◌<◌, ap, drop}
-use Rattle.seq_enum.specs.Lists.{numbers_from}
+use Rattle.seq_enum.specs.Alphabet.{numbers_from}
 use Rattle.rule_table.specs.Canonical.{firsts, numbers_of}
 use Rattle.rule_table.proofs.Orders.{low-end}
 use Rattle.table_audit.proofs.Appearing.{order_fault, order_seen, order_next}

@@ -1,5 +1,5 @@
 use Rattle.std.proofs.Common.{◌≡◌, ◌≤◌, ◌+◌, drop}
-use Rattle.seq_enum.specs.Lists.{numbers_from}
+use Rattle.seq_enum.specs.Alphabet.{numbers_from}
 use Rattle.rule_table.specs.Canonical.{firsts, numbers_of}
 use Rattle.table_audit.proofs.sides.ordered.Given as goal
 

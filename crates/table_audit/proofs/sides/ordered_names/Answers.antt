@@ -1,5 +1,5 @@
 use Rattle.std.proofs.Common.{arith, sym, ap, ◌∙◌, ◌≡◌, get_or}
-use Rattle.thumb_instr.specs.Renaming.{named}
+use Rattle.thumb_instr.specs.Window.{named}
 use Rattle.rule_table.specs.Canonical.{numbers_of}
 use Rattle.rule_table.proofs.Orders.{instr-end}
 use Rattle.table_audit.proofs.Appearing.{names_start, names_fault, names_step}

@@ -1,7 +1,7 @@
 use Rattle.std.proofs.Common.{◌≡◌, ◌≤◌, ◌*◌, drop}
 use Rattle.std.specs.List.{flat_map}
-use Rattle.thumb_instr.specs.Renaming.{named}
-use Rattle.seq_enum.specs.Lists.{numbers_from}
+use Rattle.thumb_instr.specs.Window.{named}
+use Rattle.seq_enum.specs.Alphabet.{numbers_from}
 use Rattle.rule_table.specs.Canonical.{firsts, appearing}
 use Rattle.table_audit.proofs.sides.ordered_names.Given as goal
 

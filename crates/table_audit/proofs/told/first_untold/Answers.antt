@@ -2,11 +2,10 @@ use Rattle.std.proofs.Common.{◌≡◌, ◌+◌, ◌*◌, ◌<◌, ◌≤◌, �
 use Rattle.std.proofs.lemmas.Bool.{false≢true}
 use Rattle.std.proofs.lemmas.List.{length-map}
 use Rattle.std.proofs.lemmas.Option.{slice_get-get_or}
-use Rattle.thumb_model.specs.Sides.{AreOver}
+use Rattle.thumb_model.specs.Effect.{AreOver}
 use Rattle.window_exec.specs.State.{seen}
 use Rattle.rule_table.specs.Views.{header_in, rule_of, table_of}
-use Rattle.table_audit.specs.Sides.{alphabet_registers}
-use Rattle.table_audit.specs.Shorter.{weight_in, IsBelow, below}
+use Rattle.table_audit.specs.Shorter.{alphabet_registers, weight_in, IsBelow, below}
 use Rattle.table_audit.specs.Acceptance.{IsUntold}
 use Rattle.table_audit.specs.Naming.{told_cost}
 use Rattle.table_audit.proofs.Below.{below_is, run_within, told_most}

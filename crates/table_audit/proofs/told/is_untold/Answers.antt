@@ -1,7 +1,6 @@
 use Rattle.std.proofs.Common.{◌≡◌, ◌∙◌, ◌↔◌, IsTrue, Any, ap, false, map, subst, sym}
 use Rattle.thumb_model.specs.Effect.{after_all}
-use Rattle.window_exec.specs.State.{values_of}
-use Rattle.window_exec.specs.Telling.{Differ}
+use Rattle.window_exec.specs.State.{values_of, Differ}
 use Rattle.rule_table.specs.Views.{opened_of}
 use Rattle.table_audit.specs.Shorter.{is_named}
 use Rattle.table_audit.proofs.Tellings.{untold_is}

@@ -1,6 +1,6 @@
 use Rattle.std.proofs.Common.{length}
 use Rattle.rule_table.specs.Views.{rule_of, table_of}
-use Rattle.table_audit.specs.Sides.{SidesFit}
+use Rattle.table_audit.specs.Shorter.{SidesFit}
 use Rattle.table_audit.proofs.Limits.{lengths_within}
 use Rattle.table_audit.proofs.verdict.check_entry.Goals as goal
 

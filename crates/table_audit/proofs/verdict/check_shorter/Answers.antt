@@ -1,6 +1,6 @@
 use Rattle.std.proofs.Common.{◌≡◌, ℕ, ◌≤◌, ◌+◌, ◌*◌, ◌∙◌, ap, arith, length, map, subst, sym, sum_by}
 use Rattle.std.proofs.lemmas.List.{length-map}
-use Rattle.thumb_model.specs.Sides.{AreOver}
+use Rattle.thumb_model.specs.Effect.{AreOver}
 use Rattle.window_exec.specs.State.{seen}
 use Rattle.rule_table.specs.Views.{opened_of, rule_of, table_of}
 use Rattle.table_audit.specs.Costs.{open_cost}

@@ -1,7 +1,6 @@
 use Rattle.std.proofs.Common.{ℕ, ◌≡◌, ◌∙◌, [], rules, sym, ap, subst, arith, map, length, List}
 use Rattle.window_exec.specs.declared.state.WState.{WState}
-use Rattle.window_exec.specs.State.{seen}
-use Rattle.window_exec.specs.Seen.{Seen}
+use Rattle.window_exec.specs.State.{seen, Seen}
 use Rattle.fingerprints.specs.Seeded.{seeded_states}
 use Rattle.rule_table.specs.declared.table.Entry.{Entry}
 use Rattle.rule_table.specs.Table.{Rule, Table}

@@ -2,7 +2,7 @@ use Rattle.std.proofs.Common.{◌≡◌, ◌+◌, ◌∙◌, ap, List, subst, ar
 use Rattle.std.specs.Prelude.{IfOk, sum_by}
 use Rattle.thumb_instr.specs.declared.instr.Instr.{Instr}
 use Rattle.lrat_check.specs.declared.line.Line.{Line}
-use Rattle.lrat_check.specs.Content.{content_of}
+use Rattle.lrat_check.specs.Text.{content_of}
 use Rattle.rule_table.specs.declared.table.Open.{Open}
 use Rattle.rule_table.specs.Views.{opened_of, rule_of}
 use Rattle.rule_table.specs.Text.{rule_items}

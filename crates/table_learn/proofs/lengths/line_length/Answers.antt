@@ -1,5 +1,5 @@
 use Rattle.std.proofs.Common.{◌≡◌, rules, length}
-use Rattle.lrat_check.specs.Content.{content_of}
+use Rattle.lrat_check.specs.Text.{content_of}
 use Rattle.table_learn.proofs.TextLengths.{logged_line}
 use Rattle.table_learn.proofs.lengths.line_length.Goals as goal
 

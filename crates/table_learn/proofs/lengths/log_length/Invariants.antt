@@ -1,5 +1,5 @@
 use Rattle.std.proofs.Common.{◌≡◌, map, take}
-use Rattle.lrat_check.specs.Content.{content_of}
+use Rattle.lrat_check.specs.Text.{content_of}
 use Rattle.table_learn.specs.Lengths.{log_length}
 use Rattle.table_learn.proofs.lengths.log_length.Given as goal
 

@@ -1,7 +1,7 @@
 use Rattle.std.proofs.Common.{◌≡◌, ◌+◌, ◌∙◌, ap, List, subst, arith, map}
 use Rattle.std.specs.Prelude.{IfOk}
 use Rattle.lrat_check.specs.declared.line.Line.{Line}
-use Rattle.lrat_check.specs.Content.{content_of}
+use Rattle.lrat_check.specs.Text.{content_of}
 use Rattle.rule_table.specs.Views.{opened_of}
 use Rattle.rule_table.specs.Text.{open_items}
 use Rattle.table_learn.specs.Lengths.{lines_length, log_length}

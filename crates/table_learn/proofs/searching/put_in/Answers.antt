@@ -1,10 +1,10 @@
 use Rattle.std.proofs.Common.{rules, ◌≡◌, ◌≤◌, ◌∙◌, ap, subst, sym, arith, length, map, nat_lt, true, List}
 use Rattle.std.proofs.lemmas.List.Sorted.{IsPartitionPoint-from_clause, IsPartitionedBy-ltb}
 use Rattle.std.specs.List.{insert}
-use Rattle.seq_enum.specs.Lists.{ascends_from}
+use Rattle.seq_enum.specs.Alphabet.{ascends_from}
 use Rattle.rule_table.specs.declared.table.Open as code
 use Rattle.rule_table.specs.Views.{opened_of}
-use Rattle.rule_table.specs.Valid.{numbers_of}
+use Rattle.rule_table.specs.Table.{numbers_of}
 use Rattle.table_audit.proofs.Upcoming.{rising}
 use Rattle.table_learn.specs.Searching.{put_in}
 use Rattle.table_learn.proofs.Steps.{put_in_place}

@@ -2,13 +2,11 @@ use Rattle.std.proofs.Common.{ℕ, ◌≡◌, ◌<◌, ◌≤◌, ◌+◌, ◌�
 use Rattle.std.proofs.lemmas.List.{length-map}
 use Rattle.std.proofs.lemmas.Option.{same_Some}
 use Rattle.thumb_instr.specs.declared.instr.Instr.{Instr}
-use Rattle.window_exec.specs.State.{seen}
-use Rattle.window_exec.specs.Seen.{Seen}
+use Rattle.window_exec.specs.State.{seen, Seen}
 use Rattle.seq_enum.specs.Alphabet.{alphabet, sequences_of}
 use Rattle.rule_table.specs.Views.{opened_of}
-use Rattle.table_audit.specs.Sides.{alphabet_registers}
-use Rattle.table_audit.specs.Shorter.{IsBelow}
-use Rattle.table_learn.specs.Settings.{Settings, Window}
+use Rattle.table_audit.specs.Shorter.{alphabet_registers, IsBelow}
+use Rattle.table_learn.specs.Learnt.{Settings, Window}
 use Rattle.table_learn.specs.Given.{settings_of}
 use Rattle.table_learn.specs.Found.{window_in}
 use Rattle.table_learn.specs.Searching.{IsCandidate, AreCandidates, EarnedFrom}

@@ -1,10 +1,10 @@
 use Rattle.std.proofs.Common.{sym, subst, arith, refl, map, length}
 use Rattle.std.proofs.lemmas.List.{map_push}
-use Rattle.thumb_model.specs.Sides.{AreOver}
+use Rattle.thumb_model.specs.Effect.{AreOver}
 use Rattle.window_exec.specs.State.{seen}
-use Rattle.lrat_check.specs.Content.{content_of}
+use Rattle.lrat_check.specs.Text.{content_of}
 use Rattle.rule_table.specs.Views.{opened_of}
-use Rattle.table_audit.specs.Sides.{alphabet_registers}
+use Rattle.table_audit.specs.Shorter.{alphabet_registers}
 use Rattle.table_audit.proofs.Walking.{numbered_over}
 use Rattle.table_learn.specs.Given.{settings_of}
 use Rattle.table_learn.specs.Found.{IsFinding, window_in}

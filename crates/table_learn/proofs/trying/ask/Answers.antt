@@ -1,7 +1,7 @@
 use Rattle.std.proofs.Common.{◌≡◌, ◌≤◌, ◌+◌, rules, arith, subst, length}
 use Rattle.cnf_gates.specs.Cnf.{Cnf, AreClausesOf}
 use Rattle.cnf_gates.specs.Meaning.{assigned}
-use Rattle.clause_model.specs.Literals.{codes_of}
+use Rattle.clause_model.specs.Clauses.{codes_of}
 use Rattle.cdcl_core.specs.Solved.{AreBelow, VerdictOf}
 use Rattle.table_learn.proofs.Asking.{model_tells, state_words, refutes, spends, clauses_below}
 use Rattle.table_learn.proofs.trying.ask.Goals as goal

@@ -5,9 +5,8 @@ use Rattle.listing_parser.specs.Parsing.{text_of_lines}
 use Rattle.listing_parser.specs.Views.{line_view, statement_view}
 use Rattle.label_layout.proofs.Sums.{at_end}
 use Rattle.thumb_model.proofs.Lists.{length_map}
-use Rattle.thumb_assembler.specs.Bytes.{AreImage}
+use Rattle.thumb_assembler.specs.Bytes.{AreImage, first_flaw}
 use Rattle.thumb_assembler.specs.Pushes.{PushedLaid}
-use Rattle.thumb_assembler.specs.Refusals.{first_flaw}
 use Rattle.thumb_assembler.proofs.Fairness.{listed_fair, few_lines}
 use Rattle.thumb_assembler.proofs.Assembled.{progress_first, next_here, progress_next, progress_ends, ends_here}
 use Rattle.thumb_assembler.proofs.assembling.assemble.Goals as goal

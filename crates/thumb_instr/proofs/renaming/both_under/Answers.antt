@@ -1,6 +1,6 @@
 use Rattle.std.proofs.Common.{◌∙◌, sym, ap}
 use Rattle.std.specs.Prelude.{slice_get}
-use Rattle.thumb_instr.specs.Renaming.{Reg, sp_of}
+use Rattle.thumb_instr.specs.Window.{Reg, sp_of}
 use Rattle.thumb_instr.proofs.renaming.both_under.Goals as goal
 
 pub invariant_of-result : goal.invariant_of-result

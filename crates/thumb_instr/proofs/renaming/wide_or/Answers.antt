@@ -1,5 +1,5 @@
 use Rattle.std.proofs.Common.{◌∙◌, sym, ap, Option}
-use Rattle.thumb_instr.specs.Renaming.{Low, widened, wide_or}
+use Rattle.thumb_instr.specs.Window.{Low, widened, wide_or}
 use Rattle.thumb_instr.proofs.Registers.{same_number, widened_number}
 use Rattle.thumb_instr.proofs.renaming.wide_or.Goals as goal
 

@@ -1,6 +1,6 @@
 use Rattle.std.proofs.Common.{ℕ, ap, ◌==◌, if◌then◌else◌}
 use Rattle.std.specs.Int.{bit_at}
-use Rattle.thumb_model.specs.Items.{n_flag, z_flag, c_flag, v_flag}
+use Rattle.thumb_model.specs.Effect.{n_flag, z_flag, c_flag, v_flag}
 use mathlib.Core.Path.{fun_ext}
 use Rattle.thumb_machine.proofs.Fifteen.{fifteen}
 use Rattle.thumb_machine.proofs.machine.registers_of.Goals as goal

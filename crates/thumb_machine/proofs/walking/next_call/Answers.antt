@@ -1,5 +1,5 @@
 use Rattle.std.proofs.Common.{◌≡◌, false, arith, rules}
-use Rattle.thumb_model.specs.Laid.{ends_in_call}
+use Rattle.thumb_model.specs.Naming.{ends_in_call}
 use Rattle.listing_parser.specs.Views.{statement_view}
 use Rattle.thumb_machine.proofs.Walked.{calls_of}
 use Rattle.thumb_machine.proofs.walking.next_call.Goals as goal

@@ -1,6 +1,6 @@
 use Rattle.std.proofs.Common.{◌≡◌, ℕ, ◌+◌, ◌<◌, ◌≤◌, ◌⊎◌, List, length, take, get_or, ◌∙◌, arith, subst}
 use Rattle.std.specs.Prelude.{Contains}
-use Rattle.clause_model.specs.Literals.{negated}
+use Rattle.clause_model.specs.Clauses.{negated}
 use Rattle.clause_arena.specs.Contents.{Content, Watches}
 use Rattle.unit_propagation.specs.Watching.{IsOtherTrue, RuleUpTo}
 use Rattle.unit_propagation.proofs.Steps.{later_after, Contains-part}

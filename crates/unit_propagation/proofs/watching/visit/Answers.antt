@@ -1,8 +1,7 @@
 use Rattle.std.proofs.Common.{◌≡◌, ℕ, ◌⊎◌, List, [], ◌∷◌, ◌++◌, refl, sym, ◌∙◌, inl, inr, subst, Bool, true, false, length, Option, Some}
 use Rattle.std.specs.Prelude.{Contains, All, IsTrue, ◌↔◌}
 use Rattle.std.proofs.lemmas.List.Elements.{All-weaker, Contains-push}
-use Rattle.clause_model.specs.Literals.{negated}
-use Rattle.clause_model.specs.Clauses.{IsFalse, IsUnit}
+use Rattle.clause_model.specs.Clauses.{negated, IsFalse, IsUnit}
 use Rattle.clause_arena.specs.Contents.{Content, HasClause, HasLiteral, literals_of}
 use Rattle.unit_propagation.specs.Watching.{IsLater}
 use Rattle.unit_propagation.proofs.Steps.{stands, stands_in, later_set, moved_later, moved, other_in, unit_of}

@@ -1,7 +1,6 @@
 use Rattle.std.proofs.Common.{◌≡◌, ◌∙◌, None, Some, refl, sym, ap, subst, arith}
-use Rattle.thumb_model.specs.Sides.{register_count}
-use Rattle.seq_enum.specs.Lists.{IsPlace}
-use Rattle.seq_enum.specs.Alphabet.{IsOver, sequences}
+use Rattle.thumb_model.specs.Effect.{register_count}
+use Rattle.seq_enum.specs.Alphabet.{IsPlace, IsOver, sequences}
 use Rattle.window_harvest.proofs.Alphabet.{number_over, over_number, over_none}
 use Rattle.window_harvest.proofs.keys.key_of.Goals as goal
 

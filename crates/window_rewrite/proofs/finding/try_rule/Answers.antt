@@ -4,14 +4,13 @@ use Rattle.std.specs.List.{list_all}
 use Rattle.std.proofs.lemmas.Bool.{lt-ltb}
 use Rattle.std.proofs.lemmas.List.{length-map}
 use Rattle.thumb_instr.specs.declared.instr.Instr.{Instr}
-use Rattle.thumb_instr.specs.Renaming.{Low, renamed}
-use Rattle.thumb_instr.specs.Window.{is_in_window}
+use Rattle.thumb_instr.specs.Window.{Low, renamed, is_in_window}
 use Rattle.thumb_instr.specs.Items.{has}
 use Rattle.thumb_model.specs.Layout.{Layable}
 use Rattle.thumb_model.specs.Listing.{Line, code_of, labels_from, places_of}
 use Rattle.rule_model.specs.Rules.{Rule, rule_registers}
 use Rattle.rule_model.specs.Rewriting.{Replacement}
-use Rattle.thumb_model.specs.ReplacedLines.{replaced_lines}
+use Rattle.thumb_model.specs.Replaced.{replaced_lines}
 use Rattle.listing_parser.specs.Grammar.{most_lines}
 use Rattle.listing_parser.specs.Parsing.{own_line}
 use Rattle.seq_enum.specs.Costs.{weight_under}

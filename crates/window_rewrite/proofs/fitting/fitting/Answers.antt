@@ -1,7 +1,7 @@
 use Rattle.std.proofs.Common.{◌≡◌, ◌∙◌, ℕ, List, Option, Some, None, true, arith, sym, subst, true≢false}
 use Rattle.std.specs.Prelude.{MatchOption}
 use Rattle.thumb_instr.specs.Items.{has}
-use Rattle.thumb_instr.specs.Renaming.{Low}
+use Rattle.thumb_instr.specs.Window.{Low}
 use Rattle.table_audit.specs.Soundness.{items_in}
 use Rattle.rule_model.specs.Rules.{Rule}
 use Rattle.window_rewrite.specs.Rewriting.{registers_of}

@@ -1,6 +1,6 @@
 use Rattle.std.proofs.Common.{◌≡◌, ◌||◌, ℕ, drop, map}
 use Rattle.thumb_instr.specs.Items.{has}
-use Rattle.thumb_model.specs.Items.{one_of}
+use Rattle.thumb_model.specs.Effect.{one_of}
 use Rattle.window_rewrite.proofs.items.items_of.Given as goal
 
 abbrev pub invariant-loop-register : goal.invariant-loop-register

@@ -1,5 +1,5 @@
 use Rattle.std.proofs.Common.{◌≡◌, map, take}
-use Rattle.thumb_instr.specs.Renaming.{renamed}
+use Rattle.thumb_instr.specs.Window.{renamed}
 use Rattle.window_rewrite.proofs.replacing.renamed_all.Given as goal
 
 abbrev pub invariant-loop-instr : goal.invariant-loop-instr

@@ -1,5 +1,5 @@
 use Rattle.std.proofs.Common.{◌∙◌, ap, length, List, sym}
-use Rattle.thumb_instr.specs.Renaming.{Low}
+use Rattle.thumb_instr.specs.Window.{Low}
 use Rattle.window_rewrite.specs.Rules.{entry_rule}
 use Rattle.window_rewrite.proofs.Whole.{none_whole, whole_more, whole_own}
 use Rattle.window_rewrite.proofs.scratch.with_scratch.Goals as goal

@@ -1,8 +1,7 @@
 use Rattle.std.proofs.Common.{◌≡◌, ℕ, ◌*◌, ◌<◌, length, get_or, inl, inr, refl, sym, ◌∙◌, ap, subst, [], ◌∷◌, ◌++◌}
 use Rattle.std.specs.Prelude.{Contains}
 use Rattle.std.proofs.lemmas.List.{get_or_default}
-use Rattle.clause_model.specs.Literals.{negated}
-use Rattle.clause_model.specs.Clauses.{IsUnset}
+use Rattle.clause_model.specs.Clauses.{negated, IsUnset}
 use Rattle.clause_model.proofs.Scans.{never}
 use Rattle.cdcl_core.specs.Implied.{clauses_of}
 use Rattle.cdcl_core.proofs.Adopted.{any_first, first_in, all_false_one, base_covered, base_false, base_unit, same_grows, push_grows, watched_new}

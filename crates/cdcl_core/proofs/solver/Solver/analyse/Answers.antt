@@ -2,8 +2,7 @@ use Rattle.std.proofs.Common.{◌≡◌, ◌≤◌, ◌<◌, ◌-◌, ℕ, List,
 use Rattle.std.specs.Prelude.{Any, All, Contains}
 use Rattle.std.proofs.lemmas.List.{get_or_default}
 use Rattle.std.proofs.lemmas.List.Elements.{All-nil}
-use Rattle.clause_model.specs.Literals.{negated}
-use Rattle.clause_model.specs.Clauses.{AllFalse}
+use Rattle.clause_model.specs.Clauses.{negated, AllFalse}
 use Rattle.clause_model.proofs.Scans.{never}
 use Rattle.clause_arena.specs.Contents.{literals_of}
 use Rattle.cdcl_core.specs.Analysed.{Sees}

@@ -1,6 +1,6 @@
 use Rattle.std.proofs.Common.{◌≡◌, ℕ, ◌+◌, ◌*◌, ◌≤◌, List, length, refl, sym, ◌∙◌, subst, arith, ap, length-append, [], ◌∷◌, None}
 use Rattle.step_ledger.proofs.Rises.{at_least-stays, at_least-goes_on, at_least-fewer, at_least-ticks}
-use Rattle.clause_model.specs.Asserting.{IsAsserting}
+use Rattle.clause_model.specs.Clauses.{IsAsserting}
 use Rattle.cdcl_core.specs.declared.solver.Solver.{Solver}
 use Rattle.cdcl_core.specs.Implied.{clauses_of, level_of}
 use Rattle.cdcl_core.specs.Searched.{IsBase}

@@ -1,7 +1,7 @@
 use Rattle.std.proofs.Common.{◌≡◌, ◌<◌, ◌-◌, ◌+◌, ℕ, ℤ, List, [], ◌∷◌, ◌++◌, map, length, get_or, refl, sym, ◌∙◌, ap, subst, Option, Some, None, arith}
 use Rattle.std.specs.Prelude.{All, Contains, pos}
 use Rattle.std.proofs.lemmas.List.Elements.{All-nil, All-contains}
-use Rattle.clause_model.specs.Literals.{negated, HasDistinctVariables}
+use Rattle.clause_model.specs.Clauses.{negated, HasDistinctVariables}
 use Rattle.clause_model.proofs.Scans.{never}
 use Rattle.clause_arena.specs.Contents.{literals_of}
 use Rattle.cdcl_core.specs.Analysed.{Sees}

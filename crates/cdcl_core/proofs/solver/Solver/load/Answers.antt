@@ -1,6 +1,6 @@
 use Rattle.std.proofs.Common.{ℕ, ◌*◌, ◌∙◌, ap, refl, subst, arith, List, ℤ}
 use Rattle.std.proofs.lemmas.List.{take_all}
-use Rattle.clause_model.specs.Literals.{codes_of}
+use Rattle.clause_model.specs.Clauses.{codes_of}
 use Rattle.cdcl_core.specs.Held.{Covers}
 use Rattle.cdcl_core.specs.Searched.{HasBase}
 use Rattle.cdcl_core.proofs.Covered.{covers_none}

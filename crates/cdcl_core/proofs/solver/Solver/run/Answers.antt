@@ -3,7 +3,7 @@ use Rattle.std.specs.Prelude.{All, Contains, map}
 use Rattle.std.proofs.lemmas.List.{length-map}
 use Rattle.step_ledger.specs.Counts.{RisesByAtLeast}
 use Rattle.step_ledger.proofs.Rises.{at_least-stays, at_least-fewer, at_least-goes_on}
-use Rattle.clause_model.specs.Literals.{code_of, codes_of}
+use Rattle.clause_model.specs.Clauses.{code_of, codes_of}
 use Rattle.lrat_check.specs.declared.line.Line.TheVariants.{Addition as Adding}
 use Rattle.cdcl_core.specs.declared.solver.Solver.{Solver}
 use Rattle.cdcl_core.specs.declared.search.Ending.{Ending}

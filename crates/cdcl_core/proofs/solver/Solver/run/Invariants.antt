@@ -1,6 +1,6 @@
 use Rattle.std.proofs.Common.{◌≡◌, ◌≤◌, ◌+◌, ◌*◌, length}
 use Rattle.step_ledger.specs.Counts.{RisesByAtLeast}
-use Rattle.clause_model.specs.Literals.{codes_of}
+use Rattle.clause_model.specs.Clauses.{codes_of}
 use Rattle.cdcl_core.proofs.Logs.{Running}
 use Rattle.cdcl_core.proofs.solver.Solver.run.Given as goal
 

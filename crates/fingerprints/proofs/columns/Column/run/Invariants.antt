@@ -1,6 +1,5 @@
 use Rattle.std.proofs.Common.{◌≡◌, drop, map}
-use Rattle.thumb_model.specs.Effect.{after_all}
-use Rattle.thumb_model.specs.Sides.{AreOver}
+use Rattle.thumb_model.specs.Effect.{after_all, AreOver}
 use Rattle.fingerprints.specs.Columns.{states_of}
 use Rattle.fingerprints.proofs.columns.Column.run.Given as goal
 

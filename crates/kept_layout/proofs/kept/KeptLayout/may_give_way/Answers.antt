@@ -6,7 +6,7 @@ use Rattle.thumb_instr.specs.declared.instr.Instr.{Instr}
 use Rattle.thumb_instr.specs.Window.{is_in_window}
 use Rattle.thumb_model.specs.Layout.{Layable}
 use Rattle.thumb_model.specs.Listing.{Line}
-use Rattle.thumb_model.specs.ReplacedLines.{replaced_lines}
+use Rattle.thumb_model.specs.Replaced.{replaced_lines}
 use Rattle.listing_parser.specs.Parsing.{own_line}
 use Rattle.window_runs.specs.Windows.{IsWindow}
 use Rattle.kept_layout.specs.declared.kept.KeptLayout.{KeptLayout}

@@ -1,8 +1,7 @@
 use Rattle.std.proofs.Common.{◌∙◌, List, length, map, ap, arith, subst, sym}
 use Rattle.thumb_model.specs.Listing.{Line, places_of}
 use Rattle.listing_parser.specs.Parsing.{line_mentioning}
-use Rattle.listing_parser.specs.Retargeting.{aimed_lines}
-use Rattle.listing_parser.specs.Targets.{DefineOnce}
+use Rattle.listing_parser.specs.Targets.{aimed_lines, DefineOnce}
 use Rattle.listing_parser.specs.Views.{line_view}
 use Rattle.listing_parser.specs.declared.line.Line.{Line as Lines}
 use Rattle.listing_parser.proofs.ReplaceLemmas.{aimed_once, aimed_as_many}

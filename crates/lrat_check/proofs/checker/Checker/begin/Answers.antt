@@ -1,6 +1,6 @@
 use Rattle.std.proofs.Common.{◌≤◌, ◌∙◌, length, refl, sym, inl, arith}
 use Rattle.std.proofs.lemmas.List.{length-map}
-use Rattle.clause_model.specs.Literals.{codes_of}
+use Rattle.clause_model.specs.Clauses.{codes_of}
 use Rattle.lrat_check.specs.Live.{clause_at}
 use Rattle.lrat_check.proofs.Starts.{Begun-none, Begun-next, code_at, empty_flag, all_codes}
 use Rattle.lrat_check.proofs.checker.Checker.begin.Goals as goal

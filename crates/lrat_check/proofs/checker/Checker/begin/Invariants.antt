@@ -1,5 +1,5 @@
 use Rattle.std.proofs.Common.{take}
-use Rattle.clause_model.specs.Literals.{codes_of}
+use Rattle.clause_model.specs.Clauses.{codes_of}
 use Rattle.lrat_check.specs.Live.{clause_at}
 use Rattle.lrat_check.proofs.Starts.{Begun}
 use Rattle.lrat_check.proofs.checker.Checker.begin.Given as goal

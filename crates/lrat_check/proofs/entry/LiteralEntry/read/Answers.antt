@@ -1,5 +1,5 @@
 use Rattle.std.proofs.Common.{◌<◌, ℕ}
-use Rattle.clause_model.specs.Literals.{number_of}
+use Rattle.clause_model.specs.Clauses.{number_of}
 use Rattle.lrat_check.proofs.Numerals.{reads, reads_none, literal_fits}
 use Rattle.lrat_check.proofs.entry.LiteralEntry.read.Goals as goal
 

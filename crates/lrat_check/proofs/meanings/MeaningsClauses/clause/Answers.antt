@@ -3,7 +3,7 @@ use Rattle.std.specs.Prelude.{All, AllPairs, MatchOption}
 use Rattle.std.specs.Borrow.{Bor}
 use Rattle.std.specs.Global.{Global}
 use Rattle.std.proofs.lemmas.List.{get_or-map, length-map}
-use Rattle.clause_model.specs.Propagation.{numbered}
+use Rattle.clause_model.specs.Clauses.{numbered}
 use Rattle.lrat_check.specs.declared.meanings.Meanings.{Meanings}
 use Rattle.lrat_check.specs.declared.line.Addition.{Addition}
 use Rattle.lrat_check.specs.Text.{id_of}

@@ -1,5 +1,5 @@
 use Rattle.std.proofs.Common.{◌∙◌}
-use Rattle.clause_model.specs.Literals.{codes_of}
+use Rattle.clause_model.specs.Clauses.{codes_of}
 use Rattle.lrat_check.proofs.Starts.{code_at}
 use Rattle.proof_logs.proofs.Listed.{holds_next}
 use Rattle.proof_logs.proofs.clauses.Clauses.of.Goals as goal

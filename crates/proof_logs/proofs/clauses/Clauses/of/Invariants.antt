@@ -1,5 +1,5 @@
 use Rattle.std.proofs.Common.{take}
-use Rattle.clause_model.specs.Literals.{codes_of}
+use Rattle.clause_model.specs.Clauses.{codes_of}
 use Rattle.proof_logs.specs.Lists.{Holds}
 use Rattle.proof_logs.proofs.clauses.Clauses.of.Given as goal
 

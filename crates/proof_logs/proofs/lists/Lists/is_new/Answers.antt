@@ -1,6 +1,6 @@
 use Rattle.std.proofs.Common.{◌∙◌, sym, ap, subst, List, ℕ}
 use Rattle.std.specs.Prelude.{All, IsTrue, not, ◌↔◌}
-use Rattle.clause_model.specs.Asserting.{IsNew}
+use Rattle.clause_model.specs.Clauses.{IsNew}
 use Rattle.proof_logs.specs.Lists.{Kept, listed, under}
 use Rattle.proof_logs.proofs.Listed.{told_by_lists, told_by_empty}
 use Rattle.proof_logs.proofs.lists.Lists.is_new.Goals as goal

@@ -1,6 +1,5 @@
 use Rattle.std.proofs.Common.{◌≡◌, List, true, false, map, sym}
-use Rattle.thumb_instr.specs.Window.{normal_of}
-use Rattle.thumb_instr.specs.Renaming.{Low, named, renamed}
+use Rattle.thumb_instr.specs.Window.{normal_of, Low, named, renamed}
 use Rattle.rule_table.specs.Matching.{registers_in}
 use Rattle.rule_table.proofs.BindingLemmas.{binds_then, clashes_then, bound_at}
 use Rattle.rule_table.proofs.KindLemmas.{all_bound}

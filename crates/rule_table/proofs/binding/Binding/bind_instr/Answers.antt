@@ -2,7 +2,7 @@ use Rattle.std.proofs.Common.{◌≡◌, ◌∙◌, ◌++◌, ℕ, List, true, f
 use Rattle.std.proofs.lemmas.Bool.{false≢true}
 use Rattle.thumb_instr.specs.declared.kind.Parts.{Parts}
 use Rattle.thumb_instr.specs.declared.role.Role.{Role}
-use Rattle.thumb_instr.specs.Renaming.{Low, named_by}
+use Rattle.thumb_instr.specs.Window.{Low, named_by}
 use Rattle.seq_enum.specs.Places.{rank}
 use Rattle.rule_table.specs.Binding.{number_under}
 use Rattle.rule_table.proofs.BindingLemmas.{binds_then, clashes_then, bound_at}

@@ -1,6 +1,6 @@
 use Rattle.std.proofs.Common.{◌≡◌, sym, subst}
 use Rattle.thumb_instr.specs.declared.role.Role.{Role}
-use Rattle.thumb_instr.specs.Renaming.{named_by}
+use Rattle.thumb_instr.specs.Window.{named_by}
 use Rattle.rule_table.specs.Binding.{IsBound, number_under}
 use Rattle.rule_table.proofs.binding.Binding.bind_role.Goals as goal
 

@@ -1,7 +1,7 @@
 use Rattle.std.proofs.Common.{◌≡◌, ◌∙◌, refl, sym, ap, subst, arith, List, Option, Some, None, ◌||◌, length}
 use Rattle.std.specs.Prelude.{slice_set}
 use Rattle.thumb_instr.specs.Items.{has as has_item}
-use Rattle.thumb_instr.specs.Renaming.{Low}
+use Rattle.thumb_instr.specs.Window.{Low}
 use Rattle.rule_table.specs.Binding.{given_at, IsOneToOne}
 use Rattle.rule_table.proofs.BindingLemmas.{puts, put_binds, put_one_to_one, taken_clashes}
 use Rattle.rule_table.proofs.binding.Binding.put.Goals as goal

@@ -1,6 +1,5 @@
 use Rattle.std.proofs.Common.{◌≡◌, ◌≤◌, length}
-use Rattle.seq_enum.specs.Alphabet.{words, alphabet}
-use Rattle.seq_enum.specs.Lists.{IsPlace}
+use Rattle.seq_enum.specs.Alphabet.{words, alphabet, IsPlace}
 use Rattle.seq_enum.proofs.Words.{IsPlace-sequences}
 use Rattle.seq_enum.proofs.numbering.Numbering.number_of.Goals as goal
 

@@ -1,6 +1,5 @@
 use Rattle.std.proofs.Common.{◌<◌, ◌^◌, take, Some}
-use Rattle.seq_enum.specs.Lists.{IsPlace}
-use Rattle.seq_enum.specs.Alphabet.{words, alphabet}
+use Rattle.seq_enum.specs.Alphabet.{IsPlace, words, alphabet}
 use Rattle.seq_enum.proofs.numbering.Numbering.place_of_word.Given as goal
 
 abbrev pub invariant-loop-instr : goal.invariant-loop-instr

@@ -1,5 +1,5 @@
 use Rattle.std.proofs.Common.{sym}
-use Rattle.seq_enum.specs.Pools.{inside}
+use Rattle.seq_enum.specs.Alphabet.{inside}
 use Rattle.seq_enum.proofs.Bounds.{bounds, below_more, IsPlace-filtered}
 use Rattle.seq_enum.proofs.pool.Pool.place.Goals as goal
 

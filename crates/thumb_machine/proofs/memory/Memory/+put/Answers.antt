@@ -1,5 +1,5 @@
 use Rattle.std.proofs.Common.{◌≡◌, suc, [], ◌∷◌, ◌∙◌, ap, ◌-◌, ◌%◌, ℕ, arith}
-use Rattle.thumb_model.specs.Items.{assigned}
+use Rattle.thumb_model.specs.Effect.{assigned}
 use Rattle.thumb_machine.specs.Memory.{memory_of}
 use Rattle.thumb_machine.proofs.Values.{put_step}
 use Rattle.thumb_machine.proofs.memory.Memory.+put.Goals as goal

@@ -4,7 +4,7 @@ use Rattle.std.specs.Prelude.{slice_index, unwrap_or}
 use Rattle.std.specs.declared.alloc.Global.{Global}
 use Rattle.std.specs.declared.vec.Vec.{Vec}
 use Rattle.thumb_model.specs.Layout.{end_of}
-use Rattle.thumb_model.specs.Laid.{last_is_call}
+use Rattle.thumb_model.specs.Naming.{last_is_call}
 use Rattle.thumb_model.specs.Listing.{places_of}
 use Rattle.thumb_machine.specs.Words.{word_in}
 use Rattle.thumb_machine.proofs.ReturnLemmas.{laid_returns}

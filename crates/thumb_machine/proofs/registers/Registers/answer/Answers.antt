@@ -1,6 +1,6 @@
 use Rattle.std.proofs.Common.{[], ◌∷◌, ◌∙◌, ap}
 use Rattle.std.specs.Prelude.{slice_index}
-use Rattle.thumb_model.specs.Items.{Values, assigned, lr}
+use Rattle.thumb_model.specs.Effect.{Values, assigned, lr}
 use Rattle.thumb_model.specs.States.{all_at, served}
 use Rattle.thumb_machine.specs.Outside.{answer_values}
 use Rattle.thumb_machine.proofs.registers.Registers.answer.Goals as goal

@@ -1,6 +1,6 @@
 use Rattle.std.proofs.Common.{[], ◌∷◌, ◌∙◌, ap}
 use Rattle.std.specs.Prelude.{slice_index}
-use Rattle.thumb_model.specs.Items.{Values, assigned}
+use Rattle.thumb_model.specs.Effect.{Values, assigned}
 use Rattle.thumb_machine.proofs.registers.Registers.serve.Goals as goal
 
 pub returns : goal.returns

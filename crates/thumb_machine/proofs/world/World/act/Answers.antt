@@ -1,7 +1,7 @@
 use Rattle.std.proofs.Common.{[], ◌∷◌, ◌+◌, map, refl, if◌then◌else◌}
 use Rattle.thumb_instr.specs.declared.instr.Instr.TheVariants as instr
 use Rattle.thumb_instr.specs.Shape.{pushed, registers_in}
-use Rattle.thumb_model.specs.Items.{sp}
+use Rattle.thumb_model.specs.Effect.{sp}
 use Rattle.thumb_model.specs.States.{puts, tells, On, Sys}
 use Rattle.thumb_model.specs.Accesses.{behind, below, stores_many}
 use Rattle.thumb_model.specs.Acts.{branches, holds, hints, jumps}

@@ -1,5 +1,5 @@
 use Rattle.std.proofs.Common.{ℕ, List, ◌∙◌, ap}
-use Rattle.thumb_model.specs.Items.{Values, assigned}
+use Rattle.thumb_model.specs.Effect.{Values, assigned}
 use Rattle.thumb_model.specs.States.{all_at, answered, with_bytes}
 use Rattle.thumb_machine.specs.Memory.{memory_of}
 use Rattle.thumb_machine.specs.Outside.{answer_values, event_of}

@@ -1,5 +1,5 @@
 use Rattle.std.proofs.Common.{ℕ, [], ◌∷◌, ap, ◌∙◌, if◌then◌else◌}
-use Rattle.thumb_model.specs.Items.{Values, assigned, one_of, written_to}
+use Rattle.thumb_model.specs.Effect.{Values, assigned, one_of, written_to}
 use Rattle.thumb_model.specs.Accesses.{words_from}
 use Rattle.thumb_machine.specs.Registers.{values_of}
 use Rattle.thumb_machine.specs.Memory.{memory_of}

@@ -1,7 +1,7 @@
 use Rattle.std.proofs.Common.{ℕ, List, ◌++◌, ◌<◌, ◌≤◌, length, refl, sym, ap, ◌∙◌}
 use Rattle.std.proofs.lemmas.List.{length-map}
 use Rattle.thumb_machine.specs.declared.world.World.{World}
-use Rattle.thumb_model.specs.Items.{assigned, sp}
+use Rattle.thumb_model.specs.Effect.{assigned, sp}
 use Rattle.thumb_model.specs.Accesses.{behind, device_words, left_from, many_outputs}
 use Rattle.thumb_model.specs.Acts.{with_pc}
 use Rattle.thumb_machine.specs.Registers.{values_of}

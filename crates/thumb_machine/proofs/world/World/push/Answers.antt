@@ -1,6 +1,6 @@
 use Rattle.std.proofs.Common.{ℕ, List, map, sym, ap, ◌∙◌, ◌≡◌}
 use Rattle.thumb_instr.specs.Shape.{pushed}
-use Rattle.thumb_model.specs.Items.{sp}
+use Rattle.thumb_model.specs.Effect.{sp}
 use Rattle.thumb_model.specs.Accesses.{below, stores_many}
 use Rattle.thumb_machine.specs.Registers.{values_of}
 use Rattle.thumb_machine.specs.Acting.{world_of}

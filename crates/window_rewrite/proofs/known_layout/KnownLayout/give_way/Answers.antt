@@ -1,6 +1,6 @@
 use Rattle.std.proofs.Common.{◌≡◌, ◌∙◌, ◌<◌, length, arith}
 use Rattle.thumb_model.specs.Layout.{Layable}
-use Rattle.thumb_model.specs.ReplacedLines.{replaced_lines}
+use Rattle.thumb_model.specs.Replaced.{replaced_lines}
 use Rattle.listing_parser.specs.Parsing.{own_line}
 use Rattle.kept_layout.specs.Kept.{Lays, IsNear}
 use Rattle.window_rewrite.proofs.Unmoved.{unmoved}
