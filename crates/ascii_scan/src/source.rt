@@ -1,3 +1,4 @@
+//! A text cut into its lines, each with its bytes and its number, without a copy of any byte.
 ghost use Rattle.std.specs.Prelude.{◌≡◌, ◌+◌, ◌<◌, ◌≤◌, ◌^◌, ◌∷◌, [], length, IfSome, MatchOption};
 ghost use Rattle.std.specs.List.{prefix_len};
 ghost use Rattle.ascii_scan.specs.Lines.{content_of, is_ended, lines_of, LinesJoinToText, LinesAreSlices};

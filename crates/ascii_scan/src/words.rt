@@ -1,3 +1,4 @@
+//! A line's statement cut into words and marks, which is all that the readers of instructions and directives look at.
 ghost use Rattle.std.specs.Prelude.{◌≡◌, ◌∷◌, [], MatchOption};
 ghost use Rattle.std.specs.List.{prefix_len};
 ghost use Rattle.ascii_scan.specs.Tokens.{front, rest, is_blank, is_mark, is_inner, tokens};

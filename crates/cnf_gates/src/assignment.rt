@@ -1,3 +1,4 @@
+//! What a solver answers where a formula has a model: a truth value for each variable, by place.
 ghost use Rattle.std.specs.Prelude.{◌≡◌};
 
 /// A truth value for each variable of a formula, from the first on.

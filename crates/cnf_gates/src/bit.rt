@@ -1,3 +1,4 @@
+//! What gates are built from: a constant or a literal of a variable, which a solver's formula has numbered already.
 ghost use Rattle.std.specs.Prelude.{◌≡◌, ◌<◌, ℕ};
 
 use clause_model::Literal;

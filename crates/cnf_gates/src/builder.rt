@@ -1,3 +1,4 @@
+//! Gates are asked for by key, so that two sides of one formula share what they have in common.
 ghost use Rattle.std.specs.Prelude.{◌≡◌, ◌<◌, ◌≤◌, ◌↔◌, ◌++◌, ℕ, map, IfOk, OnErr, Err, Ok, List};
 
 use crate::bit::{Bit, Gate, LIMIT, Signal, Variable};

@@ -1,3 +1,4 @@
+//! Formulas in the format that other solvers and checkers read.
 ghost use Rattle.std.specs.Prelude.{◌≡◌, ◌++◌, IfOk, OnOk, string_bytes};
 ghost use Rattle.cnf_gates.specs.Cnf.{dimacs, header_line, clause_line};
 

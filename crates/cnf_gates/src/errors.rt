@@ -1,3 +1,4 @@
+//! Why a gate isn't built: memory, or more variables than a formula may have.
 pub use std::alloc::AllocError as Memory;
 use std::alloc::{AllocError, AllocFailed};
 use thiserror::Error;

@@ -1,5 +1,5 @@
-// Gates over bits, written as clauses in conjunctive normal form (the transformation of Tseitin),
-// with constants folded and one gate for each key.
+//! Gates over bits, written as clauses in conjunctive normal form (the transformation of Tseitin),
+//! with constants folded and one gate for each key.
 #![tactic(auto)]
 
 mod assignment;

@@ -1,3 +1,4 @@
+-- What is read of a proof line's text, as the code holds it.
 use Rattle.std.specs.Prelude.{ℕ, ◌≡◌, ◌==◌, ◌++◌, ◌∷◌, List, [], Option, Some, None, map}
 use Rattle.std.specs.List.{slice_split}
 use Rattle.std.specs.Borrow.{Bor}

@@ -1,3 +1,4 @@
+//! How far an addition's hints were needed, which is what trimming keeps of them.
 ghost use Rattle.std.specs.Prelude.{◌≤◌, length};
 
 use crate::line::Addition;

@@ -1,3 +1,4 @@
+-- A mask's items as the code holds them.
 use Rattle.std.specs.Prelude.{ℕ, List}
 use Rattle.rule_table.specs.declared.tails.MaskItem.{MaskItem}
 

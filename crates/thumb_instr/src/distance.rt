@@ -1,3 +1,4 @@
+//! Distances of branches as types that hold only what the encoding's field can hold, so that an instruction out of reach can't be made.
 ghost use Rattle.std.specs.Prelude.{◌≡◌, ◌<◌, ◌≤◌, ◌*◌, ◌^◌, ◌↔◌, IsSome, IfSome};
 ghost use Rattle.thumb_instr.specs.Items.{bytes_of, IsDistance};
 

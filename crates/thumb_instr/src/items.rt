@@ -1,3 +1,4 @@
+//! Registers and flags by number, and sets of them in one word, which live items are kept in.
 ghost use Rattle.std.specs.Prelude.{◌≡◌, ℕ, ◌<◌, ◌==◌, ◌&&◌, ◌||◌, not, true, false};
 ghost use Rattle.thumb_instr.specs.Items.{one_of, has, AreItems, is_in_masks};
 

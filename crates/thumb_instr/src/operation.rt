@@ -1,3 +1,4 @@
+//! Operations of one encoding each, told apart by a field of it, so that a form of instruction has one row and not one for each of them.
 /// A sum or a difference.
 #[derive(Clone, Copy, Debug, PartialEq, Eq)]
 pub enum Sum {

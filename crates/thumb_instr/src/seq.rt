@@ -1,3 +1,4 @@
+//! A short sequence of instructions without memory of its own: a side of a rule, or a window.
 ghost use Rattle.std.specs.Prelude.{◌≡◌, ◌<◌, ◌≤◌, ◌+◌, ◌↔◌, [], ◌∷◌, ◌++◌, length, IsSome, IfSome, IsTrue};
 
 use crate::instr::Instr;

@@ -1,3 +1,4 @@
+//! Which instructions windows are made of, and which of two encodings of one effect a rule is written with.
 ghost use Rattle.std.specs.Prelude.{◌≡◌};
 ghost use Rattle.thumb_instr.specs.Window.{is_in_window, normal_of, byte_sum};
 

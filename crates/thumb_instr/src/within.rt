@@ -1,3 +1,4 @@
+//! Numbers and registers whose range is in their type, so that no instruction without an encoding can be made.
 ghost use Rattle.std.specs.Prelude.{◌≡◌, ◌≢◌, ◌<◌, ◌≤◌, ◌/◌, ◌%◌, ◌^◌, ◌↔◌, IsSome, IfSome};
 
 /// A number from LEAST to below END.

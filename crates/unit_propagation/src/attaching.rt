@@ -1,3 +1,4 @@
+//! Clauses enter the arena watched, where two of their literals are open, or unwatched, where they say only what is set.
 ghost use Rattle.std.specs.Prelude.{◌≡◌, ◌≢◌, ℕ, ◌<◌, length, Contains, All, IfOk, ◌∷◌, [], ◌++◌, false};
 ghost use Rattle.clause_arena.specs.Contents.{HasLiteral, Watches};
 ghost use Rattle.unit_propagation.specs.Watching.{IsAdded};

@@ -1,3 +1,4 @@
+//! The law of shifts by which two of them give way to one.
 ghost use Rattle.std.specs.Prelude.{◌≡◌, ◌<◌, ◌+◌, ◌^◌, ℕ, Bool};
 ghost use Rattle.word_bits.specs.declared.Shift.{Shift};
 ghost use Rattle.word_bits.specs.Word.{shift_of};
