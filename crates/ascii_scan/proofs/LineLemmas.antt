@@ -19,7 +19,7 @@ pub lines_other : (b : ℕ) (bs : List ℕ) → (b == 10) ≡ false → lines_of
 unfolding lines_of
 lines_other b bs e = rw e refl
 
-either : (b : Bool) → (b ≡ true) ⊎ (b ≡ false)
+pub either : (b : Bool) → (b ≡ true) ⊎ (b ≡ false)
 either true = inl refl
 either false = inr refl
 

@@ -2,6 +2,7 @@
 use Rattle.std.proofs.Common.{◌≡◌, ◌∙◌, ◌⊎◌, inl, inr, ℕ, suc, ◌+◌, ◌&&◌, Bool, true, false, not, List, [], ◌∷◌, ◌++◌, drop, take, refl, sym, ap, arith, cond, true≢false}
 use Rattle.std.specs.List.{prefix_len, list_all}
 use Rattle.ascii_scan.specs.Tokens.{word, mark, is_blank, is_mark, is_inner, begins_blank, begins_inner, tokens, grown, front, rest}
+use Rattle.ascii_scan.proofs.LineLemmas.{either}
 
 pub tokens_nil : tokens [] ≡ []
 unfolding tokens
@@ -35,11 +36,7 @@ no_mark b inner = elim (is_blank b) as (λ v. (not v && not (is_mark b)) ≡ tru
   | false ↦ λ e. elim (is_mark b) as (λ v. not v ≡ true → v ≡ false) [ true ↦ λ f. sym f | false ↦ λ f. refl ] e
 ] inner
 
-either : (b : Bool) → (b ≡ true) ⊎ (b ≡ false)
-either true = inl refl
-either false = inr refl
-
-one_plus : (n : ℕ) → 1 + n ≡ suc n
+pub one_plus : (n : ℕ) → 1 + n ≡ suc n
 one_plus n = omega arith
 
 pub front_is : (p : ℕ → Bool) (bs : List ℕ) → take (prefix_len p bs) bs ≡ front p bs

@@ -34,6 +34,7 @@ use Rattle.listing_parser.proofs.JoinedLines.{Ends, AreEnded, inside_ends, text,
 use Rattle.listing_parser.proofs.OldLines.{content_newline}
 use Rattle.audit_cli.specs.Demo.{own, pair, window_text, windows_text, demo_text}
 use Rattle.audit_cli.proofs.MuteLines.{AreMute, all_aimed}
+use Rattle.listing_parser.proofs.ReplacedLines.{own_ends, own_inside, all_inside, whole_ended, clear_inside}
 
 -- ---- instructions ----
 
@@ -219,28 +220,9 @@ instrs_free n = both_free (windows_instrs n) (back ∷ []) (windows_free n) refl
 
 -- ---- lines of their own are read ----
 
-clear_inside : (b : ℕ) → is_clear b ≡ true → is_inside b ≡ true
-clear_inside b e = elim (cases_Bool (b == 10)) [
-  | inl h ↦ absurd (true≢false (sym (rw h at e)))
-  | inr h ↦ rw h refl
-]
-
-all_inside : (bs : List ℕ) → list_all is_clear bs ≡ true → list_all is_inside bs ≡ true
-all_inside [] e = refl
-all_inside (b ∷ bs) e = let a = and_parts (is_clear b) (list_all is_clear bs) e in and_from (is_inside b) (list_all is_inside bs) (clear_inside b a.0) (all_inside bs a.1)
-
-own_inside : (i : Instr) → names_no_label i ≡ true → list_all is_inside (9 ∷ text_of (shown_of i None)) ≡ true
-own_inside i e = all_inside (text_of (shown_of i None)) (canonical_text i e).clear.all
-
 own_is : (i : Instr) → own_line i ≡ (9 ∷ text_of (shown_of i None)) ++ 10 ∷ []
 unfolding own_line
 own_is i = refl
-
-own_ends : (i : Instr) → names_no_label i ≡ true → Ends (own_line i)
-own_ends i e = subst Ends (sym (own_is i)) (inside_ends (9 ∷ text_of (shown_of i None)) (own_inside i e))
-
-whole_ended : (l : Placed) → l.is_ended ≡ true → whole l ≡ l.text ++ 10 ∷ []
-whole_ended l e = rw e refl
 
 abbrev read_own : Instr → Read
 read_own i = unnamed (told_of i) (own_line i)

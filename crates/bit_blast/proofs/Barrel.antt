@@ -7,7 +7,7 @@ use Rattle.word_bits.specs.declared.Shift.{Shift}
 use Rattle.word_bits.specs.declared.Shift.TheVariants.{Lsl, Lsr, Asr, Ror}
 use Rattle.word_bits.specs.Word.{shifted, last_out, shift_of}
 use Rattle.word_bits.proofs.Words.{pow_le, lsl_far, lsr_far, asr_far}
-use Rattle.word_bits.proofs.Successive.{shift_of-shift_of, shift_of-some, rotated-lt}
+use Rattle.word_bits.proofs.Successive.{shift_of-shift_of, shift_of-some, rotated-lt, ror_value as rotated_twice, rotated-zero as not_rotated}
 use Rattle.cnf_gates.specs.declared.bit.Bit.{Bit}
 use Rattle.cnf_gates.specs.declared.bit.Bit.TheVariants.{Constant}
 use Rattle.cnf_gates.specs.Gates.{Built, or_of, ite_of}
@@ -207,10 +207,6 @@ shift_by_gives low b kind amount s straight wa ws k pa ps pc =
 
 -- ---- rotations
 
--- no rotation
-not_rotated : (x : ℕ) → x < 2 ^ 32 → shifted Ror x 0 ≡ x
-not_rotated x h = omega arith
-
 -- the value of a rotation, also by none
 rotation_value : (x n : ℕ) (c : Bool) → x < 2 ^ 32 → (shift_of Ror x n c).0 ≡ shifted Ror x n
 rotation_value x n c h =
@@ -218,14 +214,6 @@ rotation_value x n c h =
     (λ (none : n ≡ 0). ap (λ k. (shift_of Ror x k c).0) none ∙ sym (ap (shifted Ror x) none ∙ not_rotated x h))
     (λ (some : n ≡ 0 → ⊥). ap (λ p. p.0) (shift_of-some Ror x n c (omega arith)))
     (cases_eq n 0)
-
-rotated_twice : (x i j : ℕ) → x < 2 ^ 32 → shifted Ror (shifted Ror x i) j ≡ shifted Ror x (i + j)
-rotated_twice x i j h =
-    let w : Bool = (shift_of Ror x i false).1 in
-    sym (ap (λ v. shifted Ror v j) (rotation_value x i false h))
-    ∙ sym (rotation_value (shift_of Ror x i false).0 j w (rw (rotation_value x i false h) (rotated-lt x i h)))
-    ∙ ap (λ p. p.0) (shift_of-shift_of Ror x i j false h)
-    ∙ rotation_value x (i + j) false h
 
 choice_of_rotation : (a : Bool) (x n : ℕ) → x < 2 ^ 32 → cond a (shifted Ror x n) x ≡ shifted Ror x (from_bool a * n)
 choice_of_rotation true x n h = ap (shifted Ror x) (let e : n ≡ 1 * n = omega arith in e)

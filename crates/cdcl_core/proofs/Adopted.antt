@@ -12,10 +12,7 @@ use Rattle.cdcl_core.specs.Implied.{clauses_of, IsConflict, IsJustified, IsCover
 use Rattle.cdcl_core.specs.Searched.{IsBase}
 use Rattle.cdcl_core.proofs.Lists.{entry_cases, nothing_in}
 use Rattle.cdcl_core.proofs.Grounds.{covered_later, justified_later, ground_back}
-use Rattle.cdcl_core.proofs.Spare.{spare_added, spare_unit, spare_later}
-
-any_grown : (a b clause : List ℕ) → ((x : ℕ) → Contains a x → Contains b x) → Any (Contains a) clause → Any (Contains b) clause
-any_grown a b clause w t = (t.0, t.1, t.2, t.3, w t.1 t.4)
+use Rattle.cdcl_core.proofs.Spare.{spare_added, spare_unit, spare_later, any_in as any_grown}
 
 pub any_first : (a clause : List ℕ) (l m : ℕ) → l ≡ get_or clause 0 l → 0 < length clause → m ≡ l → Contains a m → Any (Contains a) clause
 any_first a clause l m e b f c = (0, l, b, sym e, subst (Contains a) f c)

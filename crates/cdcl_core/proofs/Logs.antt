@@ -33,7 +33,7 @@ running_begun formula solver log b v e = rw e record {
   count = refl;
 }
 
-with_more : (formula : List (List ℕ)) (log : List Line) (line : Line) → with_log formula (log ++ line ∷ []) ≡ with_log formula log ++ literals_in line ∷ []
+pub with_more : (formula : List (List ℕ)) (log : List Line) (line : Line) → with_log formula (log ++ line ∷ []) ≡ with_log formula log ++ literals_in line ∷ []
 with_more formula log line = ap (λ (cs : List (List ℕ)). formula ++ cs) (map_push literals_in log line) ∙ sym (append_assoc formula (map literals_in log) (literals_in line ∷ []))
 
 pub log_more : (formula : List (List ℕ)) (log : List Line) (line : Line) → IsLog formula log → Teaches (with_log formula log) line → IsLog formula (log ++ line ∷ [])

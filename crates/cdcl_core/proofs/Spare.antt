@@ -14,19 +14,10 @@ use Rattle.cdcl_core.specs.Implied.{clauses_of, IsSpare, AreSpare}
 use Rattle.cdcl_core.specs.Searched.{IsBase}
 use Rattle.cdcl_core.proofs.Lists.{entry_cases, entry_take, nothing_in}
 use Rattle.cdcl_core.proofs.Grounds.{found_at, spare_same}
+use Rattle.clause_arena.proofs.Copies.{among_earlier as among_more}
 
-any_in : (a b clause : List ℕ) → ((x : ℕ) → Contains a x → Contains b x) → Any (Contains a) clause → Any (Contains b) clause
+pub any_in : (a b clause : List ℕ) → ((x : ℕ) → Contains a x → Contains b x) → Any (Contains a) clause → Any (Contains b) clause
 any_in a b clause w t = (t.0, t.1, t.2, t.3, w t.1 t.4)
-
--- where a clause is added, those under other references stay the same
-among_more : (cs : List Clause) (d : Clause) (r : ℕ) → Contains (map (λ (c : Clause). c.at) cs) r → clause_among (cs ++ d ∷ []) r ≡ clause_among cs r
-among_more [] d r h = absurd (nothing_in r h)
-among_more (c ∷ cs) d r h = elim (cases_eq c.at r) [
-  | inl e ↦ let z : nat_eq c.at r ≡ true = grind (arith, nat_tests) in rw z refl
-  | inr n ↦
-      let z : nat_eq c.at r ≡ false = grind (arith, nat_tests) in
-      rw z (elim (Contains-cases c.at (map (λ (x : Clause). x.at) cs) r h) [ inl e ↦ absurd (n e) | inr g ↦ among_more cs d r g ])
-]
 
 last_among : (cs : List Clause) (d : Clause) → AllPairs (λ r s. r < s) (map (λ (c : Clause). c.at) (cs ++ d ∷ [])) → clause_among (cs ++ d ∷ []) d.at ≡ Some d
 last_among cs d h =

@@ -1,7 +1,7 @@
 -- Formulas clause by clause.
 use Rattle.std.proofs.Common.{◌≡◌, ◌≢◌, ℕ, ◌+◌, ◌-◌, ◌*◌, ◌/◌, ◌%◌, ◌<◌, ◌≤◌, List, [], ◌∷◌, ◌++◌, length, get_or, take, map, refl, sym, ◌∙◌, ap, inl, inr, arith, Option, Some, None, subst, zero, suc, true, false, Bool, pos, negsuc, ℤ, nat_eq, true≢false}
 use Rattle.std.specs.Prelude.{All, Any, Contains, FitsSigned, slice_get, replicate, max, not, IsTrue, ◌↔◌, ◌||◌, ◌&&◌}
-use Rattle.std.proofs.lemmas.Bool.{cases_eq, cases_lt}
+use Rattle.std.proofs.lemmas.Bool.{cases_eq, cases_lt, and_from as both, or_left, or_right}
 use Rattle.std.proofs.lemmas.Int.{ints}
 use Rattle.std.specs.Int.{w32}
 use Rattle.std.proofs.lemmas.Bool.Decides.{nat_tests}
@@ -19,6 +19,7 @@ use Rattle.cdcl_core.specs.Searched.{IsBase, HasBase}
 use Rattle.cdcl_core.specs.Solved.{AreBelow, HasEmpty, HasValues}
 use Rattle.cdcl_core.proofs.Lists.{nothing_in, All-left, All-right}
 use Rattle.cdcl_core.proofs.Covered.{covers_more}
+use Rattle.clause_model.proofs.LiteralLaws.{negated-positive as even_negated}
 
 -- the clause that has a number, from 1
 pub clause_is : {X : Type 0} (xs : List X) (i : ℕ) (x : X) → slice_get xs (i + 1 - 1) ≡ Some x → (i < length xs) × (x ≡ get_or xs i x)
@@ -138,9 +139,6 @@ not_true : (b : Bool) → (b ≡ true → ⊥) → not b ≡ true
 not_true true n = absurd (n refl)
 not_true false n = refl
 
-even_negated : (q : ℕ) → negated (2 * q) ≡ 2 * q + 1
-even_negated q = grind (arith, nat_tests)
-
 pub agrees : (values : List Bool) (variables : ℕ) (trail : List ℕ) → IsConsistent trail → ((v : ℕ) → v < variables → IsTrue (assigned values v) ↔ Contains trail (2 * v)) → (l : ℕ) → l < 2 * variables → Contains trail l → literal_value (assigned values) l ≡ true
 agrees values variables trail consistent h l b c = elim (cases_eq (l % 2) 0) [
   | inl e ↦
@@ -163,16 +161,6 @@ number_true m (negsuc v) n e = sym (odd v) ∙ e
   where
     odd : (v : ℕ) → literal_value m (2 * v + 1) ≡ not (m v)
     odd v = grind (arith, nat_tests)
-
-or_left : (a b : Bool) → a ≡ true → (a || b) ≡ true
-or_left a b e = rw e refl
-
-or_right : (a b : Bool) → b ≡ true → (a || b) ≡ true
-or_right true b e = refl
-or_right false b e = e
-
-both : (a b : Bool) → a ≡ true → b ≡ true → (a && b) ≡ true
-both a b e f = rw (e, f) refl
 
 clause_true : (m : ℕ → Bool) (zs : List ℤ) → All IsLiteral zs → Any (λ l. literal_value m l ≡ true) (map code_of zs) → clause_value m zs ≡ true
 clause_true m [] h t = absurd (omega (arith, t.2))

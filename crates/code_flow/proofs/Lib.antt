@@ -1,3 +1,3 @@
 mod Lists
 pub mod Marking
-mod Reaches
+pub mod Reaches

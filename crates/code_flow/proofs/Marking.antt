@@ -8,14 +8,11 @@ use Rattle.thumb_instr.proofs.Listed.{one_of_append}
 use Rattle.thumb_model.specs.Effect.{one_of}
 use Rattle.thumb_model.specs.Listing.{Name, Value, Place, Word, Statement, Nothing, Runs, Words, Aligns, Sets, Label, Line, Code, is_op_place, is_call_instr, labels_at, labels_from, places_in, places_of, label_places, return_places}
 use Rattle.code_flow.specs.Points.{is_true, marked, some_name, is_call_statement, HasPoints}
+use Rattle.listing_parser.proofs.TwiceLemmas.{or_last as or_false}
 
-or_true : (c : Bool) → (c || true) ≡ true
+pub or_true : (c : Bool) → (c || true) ≡ true
 or_true true = refl
 or_true false = refl
-
-or_false : (c : Bool) → (c || false) ≡ c
-or_false true = refl
-or_false false = refl
 
 or_assoc : (a b c : Bool) → ((a || b) || c) ≡ (a || (b || c))
 or_assoc true b c = refl

@@ -2,7 +2,7 @@
 use Rattle.std.proofs.Common.{◌≡◌, ◌∙◌, ◌⊎◌, inl, inr, ℕ, zero, suc, ◌+◌, ◌<◌, ◌==◌, ◌||◌, Bool, true, false, List, [], ◌∷◌, ◌++◌, length, length-append, replicate, refl, sym, ap, subst, arith, eq-eqb, eqb-true, Some}
 use Rattle.std.specs.Prelude.{slice_get, slice_set}
 use Rattle.std.proofs.lemmas.List.{length-set, length-replicate}
-use Rattle.std.proofs.lemmas.Bool.{cases_lt}
+use Rattle.std.proofs.lemmas.Bool.{cases_lt, or_left, or_right}
 use Rattle.std.proofs.lemmas.Option.{slice_get_past}
 use Rattle.thumb_instr.specs.Items.{one_of}
 use Rattle.thumb_instr.proofs.Listed.{one_of_append}
@@ -17,30 +17,20 @@ use Rattle.code_flow.specs.Points.{is_true, marked}
 use Rattle.code_flow.specs.Reached.{Reached, point, along}
 use Rattle.code_flow.specs.Reaching.{unmarked, left, GoesTo, IsFollowed, HasAllPoints, IsReaching, MarksMore}
 use Rattle.code_flow.proofs.Marking.{marks_one, none_marked}
+use Rattle.listing_parser.proofs.LabelLemmas.{or_true as or_cases}
 
 -- ---- truths ----
 
-or_cases : (a b : Bool) → (a || b) ≡ true → (a ≡ true) ⊎ (b ≡ true)
-or_cases true b e = inl refl
-or_cases false b e = inr e
-
-or_left : (a b : Bool) → a ≡ true → (a || b) ≡ true
-or_left a b e = ap (λ c. c || b) e
-
-or_right : (a b : Bool) → b ≡ true → (a || b) ≡ true
-or_right true b e = refl
-or_right false b e = e
-
-is_one : (q p : ℕ) → q ≡ p → one_of q (p ∷ []) ≡ true
+pub is_one : (q p : ℕ) → q ≡ p → one_of q (p ∷ []) ≡ true
 is_one q p e = or_left _ _ (eq-eqb q p e)
 
-one_is : (q p : ℕ) → one_of q (p ∷ []) ≡ true → q ≡ p
+pub one_is : (q p : ℕ) → one_of q (p ∷ []) ≡ true → q ≡ p
 one_is q p h = elim (or_cases (q == p) false h) [
   | inl e ↦ eqb-true q p e
   | inr e ↦ absurd (cc)
 ]
 
-in_both : (q p : ℕ) (xs : List ℕ) → one_of q (xs ++ p ∷ []) ≡ true → (one_of q xs ≡ true) ⊎ (q ≡ p)
+pub in_both : (q p : ℕ) (xs : List ℕ) → one_of q (xs ++ p ∷ []) ≡ true → (one_of q xs ≡ true) ⊎ (q ≡ p)
 in_both q p xs h = elim (or_cases (one_of q xs) (one_of q (p ∷ [])) (sym (one_of_append q xs (p ∷ [])) ∙ h)) [
   | inl o ↦ inl o
   | inr o ↦ inr (one_is q p o)
@@ -70,7 +60,7 @@ one_less (false ∷ ms) zero h f = refl
 one_less (true ∷ ms) (suc p) h f = one_less ms p (omega arith) f
 one_less (false ∷ ms) (suc p) h f = let r = one_less ms p (omega arith) f in omega arith
 
-marked_within : (ms : List Bool) (q : ℕ) → marked ms q ≡ true → q < length ms
+pub marked_within : (ms : List Bool) (q : ℕ) → marked ms q ≡ true → q < length ms
 marked_within [] q h = absurd (cc)
 marked_within (m ∷ ms) zero h = omega arith
 marked_within (m ∷ ms) (suc q) h = let r = marked_within ms q h in omega arith

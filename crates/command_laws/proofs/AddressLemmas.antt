@@ -18,10 +18,13 @@ use Rattle.rule_model.specs.Rewriting.{Setting, Replacement, AppliesIn, AreRewri
 use Rattle.thumb_model.specs.Cuts.{AreOps}
 use Rattle.thumb_model.proofs.Lists.{length_map, drop_back}
 use Rattle.rule_model.proofs.Table.{window_length}
-use Rattle.thumb_model.proofs.LinesReplaced.{ops_of, before}
+use Rattle.thumb_model.proofs.LinesReplaced.{ops_of, before, past_words}
 use Rattle.rule_model.proofs.LinesKept.{some_left as some_instruction, code_of_after}
 use Rattle.listing_parser.proofs.LabelLemmas.{label_among}
 use Rattle.thumb_assembler.specs.Bytes.{lies_nowhere, may_leave, branch_lost, value_lost, values_lost, lies_inside, flaw_of, or_first, flaws_from, first_flaw}
+use Rattle.thumb_machine.proofs.WordLemmas.{some_or as some_else}
+use Rattle.listing_laws.proofs.Fitted.{two_bytes as some_bytes}
+use Rattle.thumb_assembler.proofs.Around.{labelled}
 
 -- ---- paddings ----
 
@@ -118,13 +121,6 @@ end_later : (ls : List Line) (x y : ℕ) → x ≤ y → end_of x ls ≤ end_of 
 end_later [] x y l = l
 end_later (k ∷ ks) x y l = end_later ks (x + size_at k.statement x) (y + size_at k.statement y) (size_later k.statement x y l)
 
-some_bytes : (i : Instr) → 2 ≤ instr_size i
-some_bytes (instr.Call d) = omega arith
-some_bytes (instr.Barrier b) = omega arith
-some_bytes (instr.ReadSpecial d s) = omega arith
-some_bytes (instr.WriteMask m) = omega arith
-some_bytes i = omega arith
-
 -- where n instructions go, none of which an alignment line stands between, the end comes 2 * n bytes earlier at least
 WithoutRec : ℕ → List Line → Type 0
 WithoutRec n ls = (x y : ℕ) → AreOps n (places_of ls) → are_joined n ls ≡ true → x ≤ y + 2 * n → end_of x (without n ls) ≤ end_of y ls
@@ -166,11 +162,6 @@ new_end write (i ∷ is) ls x twos =
 kept_end : (l : Line) (ns : List Name) (ls : List Line) (x : ℕ) → end_of x (labels_kept l ns ++ ls) ≡ end_of x ls
 kept_end l [] ls x = refl
 kept_end l (n ∷ ns) ls x = ap (λ (y : ℕ). end_of y ls) (let z : x + 0 ≡ x = omega arith in z)
-
-past_words : (ws : List Value) (ps : List Place) (p n : ℕ) → AreOps (suc n) (drop p (map Word ws ++ ps)) → length ws ≤ p
-past_words [] ps p n h = omega arith
-past_words (w ∷ ws) ps zero n h = absurd h
-past_words (w ∷ ws) ps (suc p) n h = let r = past_words ws ps p n h in omega arith
 
 EndsRec : (Instr → List ℕ) → ℕ → List Instr → List Line → Type 0
 EndsRec write n is ls = (q x y : ℕ) → x ≤ y → AreOps (suc n) (drop q (places_of ls)) → are_joined_from q (suc n) ls ≡ true → end_of x (replaced_lines write q (suc n) is ls) ≤ end_of y ls
@@ -288,20 +279,9 @@ sets_after : (name : Name) (s : Setting) (o : Option Rule) (r : Replacement) (ls
 sets_after name s None r ls = refl
 sets_after name s (Some rule) r ls = sets_replaced name s.write r.place (length rule.left) (map (renamed r.registers) rule.right) ls
 
-labelled : (name : Name) (p at : ℕ) (ls : List Line) → has_label name (labels_from p ls) ≡ is_some (label_address name at ls)
-labelled name p at [] = refl
-labelled name p at (l ∷ ls) = elim (cases_Bool (is_among name l.names)) [
-  | inl t ↦ label_among name p l.names _ ∙ rw t refl
-  | inr t ↦ label_among name p l.names _ ∙ rw t (labelled name (p + length (places_in l.statement)) (at + size_at l.statement at) ls)
-]
-
 moved_label : (name : Name) (p gone : ℕ) (ls : List Label) → has_label name (map (move_label p gone) ls) ≡ has_label name ls
 moved_label name p gone [] = refl
 moved_label name p gone (l ∷ ls) = ap (λ (b : Bool). bytes_eq name l.name || b) (moved_label name p gone ls)
-
-some_else : (a b : Option ℕ) → is_some (or_else a b) ≡ (is_some a || is_some b)
-some_else None b = refl
-some_else (Some a) b = refl
 
 some_cleared : (a : Option ℕ) → is_some (cleared a) ≡ is_some a
 some_cleared None = refl

@@ -14,31 +14,7 @@ use Rattle.audit_cli.specs.Complete.{IsWithin, CanBeFetched, CanAllBeFetched, Is
 use Rattle.command_laws.specs.Once.{AsksSolver}
 use Rattle.command_laws.specs.Fit.{WereRead, ReadsFit, FitTextsAreCarriedOut, FitTextsAreLearntFrom}
 use Rattle.command_laws.proofs.FitLemmas.{never_refuses, fit_full}
-
-not_both : (a b : ℕ) → a ≤ b → b < a → ⊥
-not_both a b l g = omega arith
-
-within_not_big : (o : Option (List ℕ)) → IsWithin o → IsTooBig o → ⊥
-within_not_big None w g = w
-within_not_big (Some t) w g = not_both (length t) limit w g
-
--- what is shown and excluded alike by content or by counts
-clash : (tells : Bool) (told risen told_not risen_not : Type 0) → (told → told_not → ⊥) → (risen → risen_not → ⊥) → Shows tells told risen → Shows tells told_not risen_not → ⊥
-clash true told risen told_not risen_not f g h k = f h k
-clash false told risen told_not risen_not f g h k = g h k
-
-not_missed : (old new : Seen) (n : List ℕ) → CanBeFetched old new n → MissedAt old new n → ⊥
-not_missed old new n h k = clash old.tells _ _ _ _ (λ (w : IsWithin (old.held n)) e. subst IsWithin e w) (λ c r. c.0 r) h k
-
-not_too_big : (old new : Seen) (n : List ℕ) → CanBeFetched old new n → TooBigAt old new n → ⊥
-not_too_big old new n h k = clash old.tells _ _ _ _ (within_not_big (old.held n)) (λ c r. c.1 r) h k
-
-none_stops : (old new : Seen) (cause : List ℕ → Type 0) → ((n : List ℕ) → CanBeFetched old new n → cause n → ⊥) → (ns : List (List ℕ)) → CanAllBeFetched old new ns → StopsAt cause old ns → ⊥
-none_stops old new cause f [] a h = h
-none_stops old new cause f (n ∷ ns) a h = elim h [
-  | inl c ↦ f n a.0 c
-  | inr more ↦ none_stops old new cause f ns a.1 more.1
-]
+use Rattle.audit_cli.proofs.CompleteLemmas.{not_missed, not_too_big, none_stops, not_both, clash, within_not_big}
 
 module _ (words : List (List ℕ)) (r : Request) (old new : Seen) (before after : Sunk) (text : All IsUtf8 words) (asks : AskFor words r) where
   -- the run stopped at a name

@@ -7,6 +7,7 @@ use Rattle.clap.specs.Lexer.{has_byte, long_of, long_of_rest, name_and_value, sh
 use Rattle.command_line.specs.Words.{Text, is_dashed}
 use Rattle.command_line.proofs.Reading.{joined, apart, plain, word_by, word_of}
 use Rattle.command_line.proofs.BoolLemmas.{either}
+use Rattle.ascii_scan.proofs.TokenLemmas.{one_plus}
 
 pub same_text : (a b : Text) → bytes_eq a b ≡ true → a ≡ b
 same_text a b e = (bytes_eq-Decides a b).0 e
@@ -21,9 +22,6 @@ text_sym a b e = elim (either (bytes_eq b a)) [
 ]
 
 -- ---- a name, `=` (61) and a value
-
-one_plus : (n : ℕ) → 1 + n ≡ suc n
-one_plus n = omega arith
 
 suc_one : (n : ℕ) → suc n + 1 ≡ suc (n + 1)
 suc_one n = omega arith

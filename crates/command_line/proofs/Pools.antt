@@ -9,6 +9,7 @@ use Rattle.ascii_scan.specs.Numeral.{decimal}
 use Rattle.command_line.specs.Words.{Text}
 use Rattle.command_line.specs.CommandLine.{all_given, between_commas, pool_of}
 use Rattle.command_line.proofs.BoolLemmas.{either, both}
+use Rattle.rule_table.proofs.ListTexts.{inside_most as small}
 
 -- ---- bytes ----
 
@@ -22,9 +23,6 @@ pub no_byte : (ns : List ℕ) (ds : List (Option ℕ)) (i : ℕ) (d : Option ℕ
     → All (λ n. n ≤ 255) ns → map (λ n. Some n) ns ≡ ds → ⊥
 no_byte ns ds i d lt here none all e =
     stops ns i d all (subst (λ (es : List (Option ℕ)). i < length es) (sym e) lt) (ap (λ (es : List (Option ℕ)). get_or es i d) e ∙ here) none
-
-small : (x : ℕ) → inside 0 256 x ≡ true → x ≤ 255
-small x e = let below = ltb-true x 256 (both (nat_le 0 x) (nat_lt x 256) e).1 in omega arith
 
 all_small : (ns : List ℕ) → list_all (inside 0 256) ns ≡ true → All (λ n. n ≤ 255) ns
 all_small [] e = λ k d lt. absurd (omega arith)

@@ -15,22 +15,11 @@ use Rattle.edited_listing.specs.Counting.{one_if, item_labelled, some_name, is_l
 use Rattle.edited_listing.proofs.Free.{past_words, drop_past}
 use Rattle.edited_listing.proofs.Sorted.{sorted_less, not_given}
 use Rattle.edited_listing.proofs.Printed.{and_both, op_takes, not_first, free_behind, words_behind, words_past, stand_behind, other_line, labels_free_from}
+use Rattle.thumb_model.proofs.LinesReplaced.{lines_step as without_step, lines_without as without_count}
 
 label_lines : (l : Line) (ns : List Name) → length (labels_kept l ns) ≡ one_if (some_name ns)
 label_lines l [] = refl
 label_lines l (n ∷ ns) = refl
-
-without_step : (n : ℕ) (l : Line) (s : Statement) (ls : List Line) → (AreOps n (places_of ls) → n + length (without n ls) ≡ length ls) → (AreOps (suc n) (places_of ls) → suc n + length (without (suc n) ls) ≡ length ls) → AreOps (suc n) (places_in s ++ places_of ls) →
-    suc n + length (if is_op s then without n ls else l ∷ without (suc n) ls) ≡ suc (length ls)
-without_step n l (Runs i m) ls f g h = let e = f h in omega arith
-without_step n l (Words (v ∷ vs)) ls f g h = absurd h
-without_step n l s ls f g h = let e = g h in omega arith
-
-without_count : (n : ℕ) (ls : List Line) → AreOps n (places_of ls) → n + length (without n ls) ≡ length ls
-without_count zero [] h = refl
-without_count (suc n) [] h = absurd h
-without_count zero (l ∷ ls) h = omega arith
-without_count (suc n) (l ∷ ls) h = without_step n l l.statement ls (without_count n ls) (without_count (suc n) ls) h
 
 CountRec : (Instr → List ℕ) → ℕ → List Instr → List Line → Type 0
 CountRec write n is ls = (r : ℕ) → AreOps (suc n) (drop r (places_of ls)) → suc n + length (replaced_lines write r (suc n) is ls) ≡ length ls + length is + one_if (is_labelled r ls)
@@ -195,7 +184,7 @@ labels_words zero k bs h = ap (slice_get bs) (let z : k ≡ k - 0 = omega arith 
 labels_words (suc n) zero bs h = absurd (omega arith)
 labels_words (suc n) (suc k) bs h = labels_words n k bs (omega arith) ∙ ap (slice_get bs) (let z : k - n ≡ suc k - suc n = omega arith in z)
 
-not_word : (vs : List Value) (ps : List Place) (k : ℕ) → is_op_place (slice_get (map Word vs ++ ps) k) ≡ true → length vs ≤ k
+pub not_word : (vs : List Value) (ps : List Place) (k : ℕ) → is_op_place (slice_get (map Word vs ++ ps) k) ≡ true → length vs ≤ k
 not_word [] ps k o = omega arith
 not_word (v ∷ vs) ps zero o = absurd (true≢false (sym o))
 not_word (v ∷ vs) ps (suc k) o = let h = not_word vs ps k o in omega arith

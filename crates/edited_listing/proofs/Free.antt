@@ -8,12 +8,8 @@ use Rattle.thumb_model.specs.Cuts.{AreOps}
 use Rattle.thumb_model.proofs.Lists.{get_drop}
 use Rattle.thumb_model.proofs.LinesReplaced.{AllOutside, all_back, no_names, outside_of}
 use Rattle.edited_listing.specs.Giving.{is_unlabelled, are_free, are_free_from}
-
-pub are_ops : (n : ℕ) (ps : List Place) → ((k : ℕ) → k < n → is_op_place (slice_get ps k) ≡ true) → AreOps n ps
-are_ops zero ps h = tt
-are_ops (suc n) [] h = absurd (true≢false (sym (h 0 (omega arith))))
-are_ops (suc n) (Op i m ∷ ps) h = are_ops n ps (λ k l. h (suc k) (omega arith))
-are_ops (suc n) (Word w ∷ ps) h = absurd (true≢false (sym (h 0 (omega arith))))
+pub use Rattle.listing_parser.proofs.ReplaceLemmas.{are_ops}
+pub use Rattle.window_runs.proofs.Joined.{drop_past}
 
 unlabelled : (ns : List Name) → ns ≡ [] → is_unlabelled ns ≡ true
 unlabelled ns e = ap is_unlabelled e
@@ -42,11 +38,6 @@ pub past_words : (ws : List Value) (ps : List Place) (r n : ℕ) → AreOps (suc
 past_words [] ps r n h = omega arith
 past_words (w ∷ ws) ps zero n h = absurd h
 past_words (w ∷ ws) ps (suc r) n h = let e = past_words ws ps r n h in omega arith
-
-pub drop_past : {A : Type 0} (xs ys : List A) (r : ℕ) → length xs ≤ r → drop r (xs ++ ys) ≡ drop (r - length xs) ys
-drop_past [] ys r h = ap (λ j. drop j ys) (let z : r ≡ r - 0 = omega arith in z)
-drop_past (x ∷ xs) ys zero h = absurd (omega arith)
-drop_past (x ∷ xs) ys (suc r) h = drop_past xs ys r (omega arith) ∙ ap (λ j. drop j ys) (let z : r - length xs ≡ suc r - suc (length xs) = omega arith in z)
 
 FromRec : ℕ → List Line → Type 0
 FromRec n ls = (q r : ℕ) → AreOps (suc n) (drop r (places_of ls)) → AllOutside (q + r) (suc n) (labels_from q ls) → are_free_from r n ls ≡ true

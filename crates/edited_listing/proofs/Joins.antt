@@ -16,6 +16,8 @@ use Rattle.edited_listing.specs.Edited.{letter_in}
 use Rattle.edited_listing.specs.Known.{row_joined, joined_at, all_from}
 use Rattle.edited_listing.proofs.Sorted.{sorted_less, not_given}
 use Rattle.edited_listing.proofs.Printed.{words_behind, words_past, stand_behind, other_line}
+use Rattle.thumb_model.proofs.LinesReplaced.{kept_places as labels_places}
+use Rattle.edited_listing.proofs.Counted.{not_word as no_word}
 
 -- ---- truth values ----
 
@@ -90,19 +92,10 @@ op_length (Sets name address) ps e = absurd (true≢false (sym e))
 word_rows : (vs : List Value) (rs : List Row) (k : ℕ) → joined_at (map word_row vs ++ rs) (length vs + k) ≡ joined_at rs k
 word_rows vs rs k = ap row_joined (get_back (map word_row vs) rs k (length vs + k) (let z = length_map word_row vs in omega arith))
 
-no_word : (vs : List Value) (ps : List Place) (k : ℕ) → is_op_place (slice_get (map Word vs ++ ps) k) ≡ true → length vs ≤ k
-no_word [] ps k e = omega arith
-no_word (v ∷ vs) ps zero e = absurd (true≢false (sym e))
-no_word (v ∷ vs) ps (suc k) e = let h = no_word vs ps k e in omega arith
-
 -- labels that stay
 labels_rows : (l : Line) (ns : List Name) (b : Bool) (ls : List Line) → rows_from b (labels_kept l ns ++ ls) ≡ rows_from (b && is_unlabelled ns) ls
 labels_rows l [] b ls = ap (λ c. rows_from c ls) (and_true b)
 labels_rows l (n ∷ ns) b ls = refl
-
-labels_places : (l : Line) (ns : List Name) (ls : List Line) → places_of (labels_kept l ns ++ ls) ≡ places_of ls
-labels_places l [] ls = refl
-labels_places l (n ∷ ns) ls = refl
 
 module _ (write : Instr → List ℕ) (at : ℕ → Bool) where
   -- the rows of lines from place p on tell which places are joined

@@ -22,6 +22,7 @@ use Rattle.edited_listing.proofs.Printed.{lines_give_way}
 use Rattle.edited_listing.proofs.Changes.{items_behind, items_change}
 use Rattle.edited_listing.proofs.Places.{home_drop, places_now, some_places}
 use Rattle.edited_listing.proofs.Free.{window_free}
+use Rattle.listing_parser.proofs.Namings.{op_within as place_within}
 
 -- ---- the item at a place ----
 
@@ -131,11 +132,6 @@ word_or_op : (x : Option Place) → is_word x ≡ true → is_op_place x ≡ tru
 word_or_op None w o = true≢false (sym w)
 word_or_op (Some (Op i m)) w o = true≢false (sym w)
 word_or_op (Some (Word v)) w o = true≢false (sym o)
-
-place_within : (ps : List Place) (k : ℕ) → is_op_place (slice_get ps k) ≡ true → k < length ps
-place_within [] k e = absurd (true≢false (sym e))
-place_within (x ∷ ps) zero e = omega arith
-place_within (x ∷ ps) (suc k) e = let h = place_within ps k e in omega arith
 
 stand_within : (ss : List Standing) (p : ℕ) (s : Standing) → slice_get ss p ≡ Some s → p < length ss
 stand_within [] p s e = absurd (cc)

@@ -13,6 +13,7 @@ use Rattle.edited_listing.specs.Giving.{WordsStand}
 use Rattle.edited_listing.specs.Known.{HasLabelAt, HasLabelIn}
 use Rattle.edited_listing.proofs.Sorted.{sorted_less, not_given, is_first}
 use Rattle.edited_listing.proofs.Printed.{words_behind, words_past, all_words, op_takes, stand_behind, has_behind, other_line}
+use Rattle.thumb_model.proofs.LinesReplaced.{kept_labels as names_kept}
 
 -- how many items have their home before a place
 abbrev before : ℕ → List Item → ℕ
@@ -92,10 +93,6 @@ at f l = record { name = l.name; place = f l.place }
 labels_here : (f : ℕ → ℕ) (c p : ℕ) (ns : List Name) → f p ≡ c → labels_at c ns ≡ map (at f) (labels_at p ns)
 labels_here f c p [] e = refl
 labels_here f c p (n ∷ ns) e = ap (λ k. record { name = n; place = k } ∷ labels_at c ns) (sym e) ∙ ap (λ ls. record { name = n; place = f p } ∷ ls) (labels_here f c p ns e)
-
-names_kept : (l : Line) (ns : List Name) (c : ℕ) (ls : List Line) → labels_from c (labels_kept l ns ++ ls) ≡ labels_at c ns ++ labels_from c ls
-names_kept l [] c ls = refl
-names_kept l (n ∷ ns) c ls = ap (λ k. labels_at c (n ∷ ns) ++ labels_from k ls) (let z : c + 0 ≡ c = omega arith in z)
 
 least_home : (p : ℕ) (xs : List Item) → AreSorted p p xs → before p xs ≡ 0
 least_home p xs s = before_none p p p xs (omega arith) (omega arith) s

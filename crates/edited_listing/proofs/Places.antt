@@ -13,13 +13,10 @@ use Rattle.edited_listing.specs.Giving.{WordsStand}
 use Rattle.edited_listing.specs.Places.{item_place, AreHome}
 use Rattle.edited_listing.proofs.Sorted.{sorted_less, not_given, is_first}
 use Rattle.edited_listing.proofs.Printed.{words_behind, words_past, all_words, stand_behind, has_behind, other_line}
+use Rattle.thumb_model.proofs.LinesReplaced.{kept_places as labels_place}
 
 abbrev pub some_places : List Line → List (Option Place)
 some_places ls = map (λ x. Some x) (places_of ls)
-
-labels_place : (l : Line) (ns : List Name) (ls : List Line) → places_of (labels_kept l ns ++ ls) ≡ places_of ls
-labels_place l [] ls = refl
-labels_place l (n ∷ ns) ls = refl
 
 op_one : (s : Statement) → is_op s ≡ true → (x : Place) × (places_in s ≡ x ∷ [])
 op_one Nothing e = absurd (true≢false (sym e))

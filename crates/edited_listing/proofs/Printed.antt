@@ -11,6 +11,7 @@ use Rattle.edited_listing.specs.Items.{Item, AsGiven, New, has_given, AreSorted,
 use Rattle.edited_listing.specs.Printing.{is_given_at, print_at, line_at, lines_from}
 use Rattle.edited_listing.specs.Giving.{is_unlabelled, are_free, are_free_from, is_word, WordsStand}
 use Rattle.edited_listing.proofs.Sorted.{sorted_less, sorted_drop, sorted_new, sorted_spliced, none_given, not_given, is_first}
+pub use Rattle.thumb_model.proofs.Cuts.{op_takes}
 
 -- ---- what holds of lines ----
 
@@ -34,13 +35,6 @@ labels_free l (m ∷ ns) zero (x ∷ ls) e = refl
 labels_free l (m ∷ ns) (suc n) ls e = e
 
 -- ---- places of lines ----
-
-pub op_takes : (s : Statement) → is_op s ≡ true → length (places_in s) ≡ 1
-op_takes Nothing e = absurd (true≢false (sym e))
-op_takes (Runs i mention) e = refl
-op_takes (Words vs) e = absurd (true≢false (sym e))
-op_takes (Aligns size most) e = absurd (true≢false (sym e))
-op_takes (Sets name address) e = absurd (true≢false (sym e))
 
 pub not_first : (l : Line) (r : ℕ) → 0 < r → (is_op l.statement && (r == 0)) ≡ false
 not_first l r h = elim (cases_Bool (is_op l.statement)) [

@@ -18,6 +18,7 @@ use Rattle.edited_listing.specs.Places.{item_of}
 use Rattle.edited_listing.specs.Changes.{is_none, marks_of, is_as_given, new_with_home, rest_items}
 use Rattle.edited_listing.proofs.Printed.{op_takes}
 use Rattle.edited_listing.proofs.Rest.{rest_node, rest_kept, rest_end, kept_none}
+pub use Rattle.listing_parser.proofs.CanonicalLines.{and_false}
 
 -- ---- the next item ----
 
@@ -36,10 +37,6 @@ new_none home p q ss n e = ap (new_at home) (sym (rest_node p q ss n ∙ rest_en
 pub and_true : (b : Bool) → (b && true) ≡ b
 and_true true = refl
 and_true false = refl
-
-pub and_false : (b : Bool) → (b && false) ≡ false
-and_false true = refl
-and_false false = refl
 
 given_item : (place q : ℕ) (s : Standing) (xs : List Item) → is_none s ≡ false → ((q == place) && is_as_given s) ≡ is_given_at place (item_of q s ∷ xs)
 given_item place q standing.Given xs k = and_true (q == place)

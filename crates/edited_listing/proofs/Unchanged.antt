@@ -57,7 +57,7 @@ word_within [] k e = absurd (true≢false (sym e))
 word_within (x ∷ ps) zero e = omega arith
 word_within (x ∷ ps) (suc k) e = let h = word_within ps k e in omega arith
 
-length_given : (n : ℕ) → length (replicate n standing.Given) ≡ n
+pub length_given : (n : ℕ) → length (replicate n standing.Given) ≡ n
 length_given zero = refl
 length_given (suc n) = ap suc (length_given n)
 

@@ -23,7 +23,7 @@ pub record IsLetter (k : ℕ) (i : Instr) : Type 0 where
 
 -- ---- lists ----
 
-at_cons : {X : Type 0} (x : X) (ys : List X) (i : ℕ) (o : X) → slice_get (x ∷ ys) i ≡ Some o → (x ≡ o) ⊎ ((k : ℕ) × (slice_get ys k ≡ Some o))
+pub at_cons : {X : Type 0} (x : X) (ys : List X) (i : ℕ) (o : X) → slice_get (x ∷ ys) i ≡ Some o → (x ≡ o) ⊎ ((k : ℕ) × (slice_get ys k ≡ Some o))
 at_cons x ys zero o h = inl (same_Some _ _ h)
 at_cons x ys (suc i) o h = inr (i, h)
 

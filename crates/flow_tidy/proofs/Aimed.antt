@@ -2,7 +2,7 @@
 use Rattle.std.proofs.Common.{◌≡◌, ◌≢◌, ℕ, zero, suc, ◌+◌, ◌-◌, ◌/◌, ◌==◌, ◌&&◌, ◌||◌, Bool, true, false, List, [], ◌∷◌, ◌++◌, length, take, map, Option, Some, None, refl, sym, ap, ◌∙◌, ◌⊎◌, inl, inr, arith, ne_eqb, if◌then◌else◌}
 use Rattle.std.specs.Prelude.{slice_get}
 use Rattle.std.specs.Str.{bytes_eq}
-use Rattle.std.proofs.lemmas.Bool.{cases_eq}
+use Rattle.std.proofs.lemmas.Bool.{cases_eq, or_left as or_first, or_right as or_second}
 use Rattle.std.proofs.lemmas.Option.{same_Some}
 use Rattle.std.proofs.lemmas.Slice.Eq.{bytes_eq-Decides}
 use Rattle.thumb_instr.specs.declared.instr.Instr.{Instr}
@@ -17,6 +17,9 @@ use Rattle.thumb_model.proofs.Points.{point_places}
 use Rattle.listing_parser.specs.Targets.{aimed, aimed_line, aimed_lines}
 use Rattle.flow_tidy.specs.Tidying.{is_branch}
 use Rattle.flow_tidy.proofs.Ways.{second, some_naming}
+use Rattle.listing_parser.proofs.LabelLemmas.{or_true as or_either}
+use Rattle.thumb_model.proofs.LinesReplaced.{kept_places, kept_labels}
+use Rattle.listing_parser.proofs.ReplaceLemmas.{aimed_place as aimed_size}
 
 abbrev pub to_label : Name → Mention
 to_label label = record { name = label; plus = 0 }
@@ -104,18 +107,6 @@ counts_stay label zero (suc n) (x ∷ xs) = ap (λ b. if b then call_count (take
 counts_stay label (suc p) (suc n) (x ∷ xs) = ap (λ c. if is_call x then c + 1 else c) (counts_stay label p n xs)
 
 -- ---- mentioned names ----
-
-or_first : (a b : Bool) → a ≡ true → (a || b) ≡ true
-or_first true b h = refl
-or_first false b h = absurd (cc)
-
-or_second : (a b : Bool) → b ≡ true → (a || b) ≡ true
-or_second true b h = refl
-or_second false b h = h
-
-or_either : (a b : Bool) → (a || b) ≡ true → (a ≡ true) ⊎ (b ≡ true)
-or_either true b h = inl refl
-or_either false b h = inr h
 
 mentioned_at : (n label : Name) (x : Place) → place_mentions n (aimed_place label x) ≡ true → (place_mentions n x ≡ true) ⊎ (n ≡ label)
 mentioned_at n label (Op i mention) h = inr ((bytes_eq-Decides n label).0 h)
@@ -260,10 +251,6 @@ past_words [] ys p i mention e = (p, omega arith, e)
 past_words (v ∷ vs) ys zero i mention e = absurd (cc)
 past_words (v ∷ vs) ys (suc p) i mention e = let r = past_words vs ys p i mention e in (r.0, omega (arith, r.1), r.2)
 
-kept_places : (l : Line) (ns : List Name) (ls : List Line) → places_of (labels_kept l ns ++ ls) ≡ places_of ls
-kept_places l [] ls = refl
-kept_places l (n ∷ ns) ls = refl
-
 PlacesRec : (Instr → Option Mention → List ℕ) → Name → List Line → Type 0
 PlacesRec write label ls = (q : ℕ) (i : Instr) (mention : Option Mention) → slice_get (places_of ls) q ≡ Some (Op i mention) → places_of (aimed_lines write q label ls) ≡ aimed_places q label (places_of ls)
 
@@ -290,17 +277,6 @@ places_aimed : (write : Instr → Option Mention → List ℕ) (label : Name) (l
 unfolding PlacesRec
 places_aimed write label [] p i mention e = refl
 places_aimed write label (l ∷ ls) p i mention e = places_step write label p i mention l l.statement ls refl (λ q j n f. places_aimed write label ls q j n f) e
-
-kept_labels : (l : Line) (ns : List Name) (q : ℕ) (ls : List Line) → labels_from q (labels_kept l ns ++ ls) ≡ labels_at q ns ++ labels_from q ls
-kept_labels l [] q ls = refl
-kept_labels l (n ∷ ns) q ls = ap (λ r. labels_at q (n ∷ ns) ++ labels_from r ls) (let e : q + 0 ≡ q = omega arith in e)
-
-aimed_size : (label : Name) (s : Statement) → length (places_in (aimed label s)) ≡ length (places_in s)
-aimed_size label Nothing = refl
-aimed_size label (Runs i mention) = refl
-aimed_size label (Words vs) = refl
-aimed_size label (Aligns size most) = refl
-aimed_size label (Sets name address) = refl
 
 labels_aimed : (write : Instr → Option Mention → List ℕ) (label : Name) (q p : ℕ) (ls : List Line) → labels_from q (aimed_lines write p label ls) ≡ labels_from q ls
 labels_aimed write label q p [] = refl

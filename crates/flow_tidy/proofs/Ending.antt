@@ -17,7 +17,7 @@ use Rattle.flow_tidy.specs.Due.{HasEnd}
 use Rattle.flow_tidy.specs.Made.{label_of_always, label_of_branch}
 use Rattle.flow_tidy.specs.Quick.{EndsAt}
 use Rattle.flow_tidy.specs.ChainEnds.{hop_at, known_by, known_in, AreEnds, AreWalked, IsLast, IsStamped, LastBy, LastOf}
-use Rattle.flow_tidy.proofs.Hopping.{goes}
+use Rattle.flow_tidy.proofs.Hopping.{goes, some_of}
 
 -- ---- hops by places ----
 
@@ -76,10 +76,6 @@ hop_from code from p to e h = on (slice_get code.places p) refl h
     on (Some (Word v)) f k = absurd (cc)
     on (Some (Op i None)) f k = absurd (cc)
     on (Some (Op i (Some m))) f k = by i m f (is_always i) refl k
-
-some_of : (o : Option ℕ) → is_some o ≡ true → (q : ℕ) × (o ≡ Some q)
-some_of None e = absurd (cc)
-some_of (Some q) e = (q, refl)
 
 pub from_hop : (code : Code) (from via : Name) (h : Hops code from via) → (to : ℕ) × (hop_at code h.place ≡ Some to) × (place_of code via ≡ Some to)
 from_hop code from via h =

@@ -2,7 +2,7 @@
 use Rattle.std.proofs.Common.{◌≡◌, ℕ, zero, suc, ◌+◌, ◌*◌, ◌<◌, ◌≤◌, ◌&&◌, Bool, true, false, List, [], ◌∷◌, ◌++◌, length, length-append, take, drop, Option, Some, None, IsSome, refl, sym, ap, ◌∙◌, subst, inl, inr, arith, if◌then◌else◌}
 use Rattle.std.specs.Prelude.{slice_get, is_some}
 use Rattle.std.proofs.Math.Nat.{mul-suc, suc-mul}
-use Rattle.std.proofs.lemmas.Bool.{cases_eq}
+use Rattle.std.proofs.lemmas.Bool.{cases_eq, and_from as both, false_from_ne_true as not_true}
 use Rattle.std.proofs.lemmas.Option.{same_Some, slice_get_within}
 use Rattle.thumb_instr.specs.declared.instr.Instr.{Instr}
 use Rattle.thumb_model.specs.Listing.{Name, Mention, Place, Op, Word, Line, Code, code_of, places_of, place_of}
@@ -12,6 +12,8 @@ use Rattle.listing_parser.specs.Targets.{aimed_lines}
 use Rattle.flow_tidy.proofs.Removed.{code_without}
 use Rattle.flow_tidy.proofs.Aimed.{to_label, aimed_places, aimed_code, get_aimed, get_other, name_stays, code_aimed}
 use Rattle.flow_tidy.proofs.AimedRuns.{last_is_code}
+use Rattle.listing_parser.proofs.ReplaceLemmas.{and_first as first_true}
+use Rattle.listing_parser.proofs.ReadingLemmas.{and_second as second_true}
 
 -- ---- hops as a test ----
 
@@ -29,18 +31,6 @@ hops_at code (Some q) = hops_on code (slice_get code.places q)
 -- from the label a hop leads on
 abbrev pub has_hop : Code → Name → Bool
 has_hop code name = hops_at code (place_of code name)
-
-both : (a b : Bool) → a ≡ true → b ≡ true → (a && b) ≡ true
-both true b h k = k
-both false b h k = absurd (cc)
-
-first_true : (a b : Bool) → (a && b) ≡ true → a ≡ true
-first_true true b h = refl
-first_true false b h = absurd (cc)
-
-second_true : (a b : Bool) → (a && b) ≡ true → b ≡ true
-second_true true b h = h
-second_true false b h = absurd (cc)
 
 pub hop_is : (code : Code) (from to : Name) → Hops code from to → has_hop code from ≡ true
 hop_is code from to h =
@@ -68,10 +58,6 @@ hop_from code from (Some q) e h = on (slice_get code.places q) refl h
         code_label = second_true (is_always i) (is_some (place_of code m.name)) k;
       },
     )
-
-not_true : (b : Bool) → (b ≡ true → ⊥) → b ≡ false
-not_true true h = absurd (h refl)
-not_true false h = refl
 
 -- where a chain stops no hop leads on
 pub end_stops : (code : Code) (label : Name) → ((next : Name) → Hops code label next → ⊥) → has_hop code label ≡ false

@@ -19,10 +19,11 @@ use Rattle.thumb_model.proofs.Simulation.{Advance, sooner, reached}
 use Rattle.thumb_model.proofs.Tied.{TargetTied, LandingTied, NextTied, ActTied, AroundTied, looks_tied, act_tied}
 use Rattle.thumb_model.proofs.Moved.{data_moved, label_place_moved, point_at_moved, count_stays, place_moved, fits_stays, literals_stay}
 use Rattle.thumb_model.proofs.Points.{point_is}
-use Rattle.thumb_model.proofs.Follow.{Keeps, state}
+use Rattle.thumb_model.proofs.Follow.{Keeps, state, is_some_moved}
 use Rattle.code_flow.specs.Reached.{Reached, point, along}
 use Rattle.flow_tidy.proofs.Ways.{label_is_point, aim_is_point}
 use Rattle.flow_tidy.proofs.Going.{MayGo, new, to, is_replacement, all_outside, fetch, next_place, same_next, aim_moved}
+use Rattle.thumb_model.proofs.Window.{aim_is as inside_is}
 
 -- a step from a place that is reached does nothing but go on to the next one
 abbrev pub DoesNothing : Code → ℕ → Type 0
@@ -38,10 +39,6 @@ alike_at w p q es = record { events = refl; memory = refl; answers = refl; ended
 on_leads : (lands : ℕ → Landing) (l : Leads) (ks ws : List ℕ) → Matches lands On l ks ws → l ≡ Onward
 on_leads lands Onward ks ws m = refl
 on_leads lands l ks ws m = absurd m
-
-inside_is : (names : Naming) (mention : Option Mention) (o : Option ℕ) → inside_of (target_at names mention o) ≡ o
-inside_is names mention None = refl
-inside_is names mention (Some p) = refl
 
 module _ (names : Naming) (code : Code) (literals : HasLiterals code) (p : ℕ) (m : MayGo code p) (nothing : DoesNothing code p) where
   abbrev after : Code
@@ -231,10 +228,6 @@ module _ (names : Naming) (code : Code) (literals : HasLiterals code) (p : ℕ) 
       }
 
 -- ---- the theorem for one instruction that goes ----
-
-is_some_moved : (f : ℕ → ℕ) (o : Option ℕ) → IsSome o → IsSome (option_map f o)
-is_some_moved f None h = absurd (cc)
-is_some_moved f (Some x) h = h
 
 pub gone_keeps : (code : Code) (p : ℕ) → MayGo code p → DoesNothing code p → Keeps code (replaced code p 1 [])
 gone_keeps code p m nothing =

@@ -14,7 +14,7 @@ use Rattle.flow_tidy.specs.Ground.{places_begin, IsGround, IsSteadyTo}
 
 -- ---- places, line by line ----
 
-repeated : (n : ℕ) (s : Start) → length (replicate n s) ≡ n
+pub repeated : (n : ℕ) (s : Start) → length (replicate n s) ≡ n
 repeated zero s = refl
 repeated (suc n) s = ap suc (repeated n s)
 

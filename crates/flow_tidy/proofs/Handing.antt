@@ -13,7 +13,7 @@ handed_over base given ls new n m a t = record {
   counted = let l = length-append a.changes t.changes in let c = a.counted in let d = t.counted in omega arith;
 }
 
-square_below : (n : ℕ) → n < 2 ^ 32 → n * (n + 1) < 2 ^ 64
+pub square_below : (n : ℕ) → n < 2 ^ 32 → n * (n + 1) < 2 ^ 64
 square_below n h =
     let a : n ≤ 4294967295 = omega arith in
     let b : n * (n + 1) ≤ n * 4294967296 = mul-le-mul_left n (omega arith) in

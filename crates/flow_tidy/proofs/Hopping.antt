@@ -85,7 +85,7 @@ not_before gone p t h e = let g = ranks_grow gone t p h in absurd (omega arith)
 
 -- ---- chains without an end ----
 
-some_of : (o : Option ℕ) → is_some o ≡ true → (q : ℕ) × (o ≡ Some q)
+pub some_of : (o : Option ℕ) → is_some o ≡ true → (q : ℕ) × (o ≡ Some q)
 some_of None e = absurd (cc)
 some_of (Some q) e = (q, refl)
 

@@ -13,7 +13,7 @@ use Rattle.flow_tidy.proofs.Unique.{hop_same}
 
 -- ---- a hop ----
 
-code_only : (b : Bool) (n to : Name) → (if b then Some n else None) ≡ Some to → (b ≡ true) × (n ≡ to)
+pub code_only : (b : Bool) (n to : Name) → (if b then Some n else None) ≡ Some to → (b ≡ true) × (n ≡ to)
 code_only true n to e = (refl, cc)
 code_only false n to e = absurd (cc)
 

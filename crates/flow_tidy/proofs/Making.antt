@@ -11,6 +11,7 @@ use Rattle.flow_tidy.specs.Due.{HasEnd, IsCaused, IsNextAt}
 use Rattle.flow_tidy.specs.Made.{change, label_of_branch, IsAccepted, IsEndOf, IsFit, IsMade, IsMadeAt, IsMovedTo, IsWithin}
 use Rattle.flow_tidy.proofs.Unique.{cause_same}
 use Rattle.flow_tidy.proofs.Whole.{change_keeps}
+use Rattle.flow_tidy.proofs.Hops.{code_only as branch_only}
 
 -- ---- branches ----
 
@@ -21,10 +22,6 @@ record Branches (code : Code) (p : ℕ) (label : Name) : Type 0 where
   pub stands : slice_get code.places p ≡ Some (Op i (Some mention))
   pub branch : is_branch i ≡ true
   pub named : mention.name ≡ label
-
-branch_only : (b : Bool) (n label : Name) → (if b then Some n else None) ≡ Some label → (b ≡ true) × (n ≡ label)
-branch_only true n label e = (refl, cc)
-branch_only false n label e = absurd (cc)
 
 branches : (code : Code) (p : ℕ) (label : Name) → label_of_branch (slice_get code.places p) ≡ Some label → Branches code p label
 branches code p label h = on (slice_get code.places p) refl h

@@ -14,6 +14,7 @@ use Rattle.flow_tidy.specs.Tidying.{line_length}
 use Rattle.flow_tidy.specs.Made.{AreShort}
 use Rattle.flow_tidy.specs.Quick.{counts_for, room_taken, some_name, AllShort, HaveRoom}
 use Rattle.flow_tidy.proofs.Aimed.{past_words, to_label}
+use Rattle.thumb_model.proofs.Cuts.{without_none as left_out}
 
 pub get_short : (longest : ℕ) (ls : List Line) (k : ℕ) (l : Line) → AllShort longest ls → slice_get ls k ≡ Some l → line_length l.text ≤ longest
 get_short longest [] k l h e = absurd (cc)
@@ -31,10 +32,6 @@ lines_few [] = omega arith
 lines_few (l ∷ ls) = let r = lines_few ls in let o = counts_one l in omega arith
 
 -- ---- an instruction that goes ----
-
-left_out : (ls : List Line) → without 0 ls ≡ ls
-left_out [] = refl
-left_out (l ∷ ls) = refl
 
 kept_room : (l : Line) (ns : List Name) (rest : List Line) → room_taken (labels_kept l ns ++ rest) ≤ (if some_name ns then 2 else 1) + room_taken rest
 kept_room l [] rest = omega arith

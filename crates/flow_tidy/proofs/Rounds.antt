@@ -6,6 +6,7 @@ use Rattle.flow_tidy.specs.Tidying.{Setting, Change, lines_after, IsFirst, NoneP
 use Rattle.flow_tidy.specs.Due.{IsNextAt}
 use Rattle.flow_tidy.specs.Made.{AreMadeBy}
 use Rattle.flow_tidy.proofs.Ends.{room_of, room_less, room_few}
+use Rattle.flow_tidy.proofs.Handing.{square_below}
 
 pub nothing_made : (s : Setting) (ls : List Line) → AreMadeBy s ls ls 0
 nothing_made s ls = record { changes = []; counted = refl; lead = λ more new h. h }
@@ -31,12 +32,6 @@ pub room_left : (s : Setting) (ls new : List Line) (c : Change) → IsFirst s c 
 room_left s ls new c f e =
     let r = room_less s c ls f.possible.cause in
     subst (λ (l : List Line). (room_of l + 1 ≤ room_of ls) × (length (places_of l) ≤ length (places_of ls))) (sym e) r
-
-square_below : (n : ℕ) → n < 2 ^ 32 → n * (n + 1) < 2 ^ 64
-square_below n h =
-    let a : n ≤ 4294967295 = omega arith in
-    let b : n * (n + 1) ≤ n * 4294967296 = mul-le-mul_left n (omega arith) in
-    omega arith
 
 -- the first change, where it is found at a place
 pub next_made : (s : Setting) (given ls new : List Line) (n p : ℕ) → AreMadeBy s given ls n → IsNextAt s p ls new → AreMadeBy s given new (n + 1)

@@ -23,6 +23,7 @@ use Rattle.flow_tidy.proofs.Ends.{one_place_less, same_length}
 use Rattle.flow_tidy.proofs.Going.{MayGo, origin, reached_back, reached_forth}
 use Rattle.flow_tidy.proofs.Making.{stands_within, NoneBefore}
 use Rattle.flow_tidy.proofs.Removed.{code_without, idle_may_go, next_may_go}
+use Rattle.listing_draft.proofs.Drafts.{set_length as length_set}
 
 -- ---- lists ----
 
@@ -48,11 +49,6 @@ get_unset (y ∷ xs) zero zero x ne = absurd (ne refl)
 get_unset (y ∷ xs) zero (suc q) x ne = refl
 get_unset (y ∷ xs) (suc p) zero x ne = refl
 get_unset (y ∷ xs) (suc p) (suc q) x ne = get_unset xs p q x (λ e. ne (ap suc e))
-
-length_set : {A : Type 0} (xs : List A) (p : ℕ) (x : A) → length (slice_set xs p x) ≡ length xs
-length_set [] p x = refl
-length_set (y ∷ xs) zero x = refl
-length_set (y ∷ xs) (suc p) x = ap suc (length_set xs p x)
 
 get_all : (n p : ℕ) → p < n → slice_get (replicate n true) p ≡ Some true
 get_all zero p h = absurd (omega arith)

@@ -24,6 +24,8 @@ use Rattle.steady_layout.proofs.Cuts.{cut_op}
 use Rattle.steady_layout.proofs.Laws.{cut_stays}
 use Rattle.flow_tidy.specs.Ground.{places_begin, IsSteadyTo}
 use Rattle.flow_tidy.proofs.Aimed.{to_label}
+use Rattle.listing_draft.proofs.Drafts.{drop_marks as none_dropped}
+use Rattle.flow_tidy.proofs.Grounds.{repeated as as_many_starts}
 
 -- ---- the line of an instruction, whose branch may go elsewhere ----
 
@@ -137,10 +139,6 @@ all_same labels others sets zets e f base here (l ∷ ls) =
     ap (λ (b : Bool). b && all_steady labels sets base (behind here l.statement) ls) (same_steady labels others sets zets e f base here l.statement)
     ∙ ap (λ (b : Bool). steady_at others zets base here l.statement && b) (all_same labels others sets zets e f base (behind here l.statement) ls)
 
-as_many_starts : (n : ℕ) (s : Start) → length (replicate n s) ≡ n
-as_many_starts zero s = refl
-as_many_starts (suc n) s = ap suc (as_many_starts n s)
-
 module _ (labels : Name → Option Start) (sets : Name → Option ℕ) (base : ℕ) (to : Name) (i : Instr) (m : Option Mention) (start : Start) (near : steady_instr labels sets base start i (Some (to_label to)) ≡ true) where
   abbrev SteadyRec : List Line → Type 0
   SteadyRec ls = (aims : List (Option Name)) (here : Start) (p : ℕ) → slice_get (places_of ls) p ≡ Some (Op i m) → slice_get (places_begin (starts_from here ls) ls) p ≡ Some start
@@ -236,11 +234,6 @@ aimed_steady base ls aims p i m to e r h =
 
 abbrev nones : List Bool → List Bool
 nones gs = replicate (length gs) false
-
-none_dropped : (n k : ℕ) → (let xs : List Bool = drop n (replicate k false) in xs) ≡ replicate (k - n) false
-none_dropped zero k = ap (λ j. replicate j false) (let z : k ≡ k - 0 = omega arith in z)
-none_dropped (suc n) zero = ap (λ j. replicate j false) (let z : 0 ≡ 0 - suc n = omega arith in z)
-none_dropped (suc n) (suc k) = none_dropped n k ∙ ap (λ j. replicate j false) (let z : k - n ≡ suc k - suc n = omega arith in z)
 
 -- places that are marked as kept are so without a mark
 none_gone : (ls : List Line) (k : ℕ) (aims : List (Option Name)) → now_of (replicate k false) aims ls ≡ now_of [] aims ls

@@ -45,7 +45,7 @@ later_begin (l ∷ ls) = elim (cases_Bool (begins l)) [
   | inr h ↦ rw h (later_begin ls)
 ]
 
-bare_behind : (ls : List Line) → AreBare ls → AreBare (behind_first ls)
+pub bare_behind : (ls : List Line) → AreBare ls → AreBare (behind_first ls)
 bare_behind [] b = tt
 bare_behind (l ∷ ls) b = b.2
 
@@ -67,7 +67,7 @@ are_cut ls = record {
 
 -- ---- what lines without labels begin with ----
 
-fixed_plain : (find : Name → Option Target) (s : Statement) → is_fixed s ≡ true → head_of find s ≡ head.Plain
+pub fixed_plain : (find : Name → Option Target) (s : Statement) → is_fixed s ≡ true → head_of find s ≡ head.Plain
 fixed_plain find Nothing e = refl
 fixed_plain find (Runs i None) e = refl
 fixed_plain find (Runs i (Some m)) e = absurd (true≢false (sym e))

@@ -13,13 +13,16 @@ use Rattle.thumb_model.proofs.Lists.{drop_back, length_map}
 use Rattle.window_runs.specs.declared.rows.Row.{Row}
 use Rattle.window_runs.specs.Rows.{is_unlabelled, letter_of, rows_of, rows_from, stays_joined}
 use Rattle.window_runs.specs.Windows.{IsWindow}
-use Rattle.window_runs.proofs.Joined.{window_fits, Fits}
+use Rattle.window_runs.proofs.Joined.{window_fits, Fits, no_place as not_first}
 use Rattle.window_runs.proofs.Lengths.{rows_length}
 use Rattle.kept_layout.specs.declared.stretch.Target.{Target}
 use Rattle.kept_layout.specs.declared.stretch.Head.TheVariants as head
 use Rattle.kept_layout.specs.Stretches.{lessen, total_places, Shape}
 use Rattle.kept_layout.specs.Kept.{behind_first, behind_first_part, bytes_in, bytes_of, first_head, first_names, head_of, is_fixed, joined, part_of, target_at, target_in, AllBegin, AreBare, AreCut, AreShapesOf, IsShapeOf}
 use Rattle.kept_layout.proofs.SetsKept.{sets_kept}
+use Rattle.thumb_model.proofs.LinesReplaced.{kept_places}
+use Rattle.kept_layout.proofs.BuildingParts.{bare_behind, bare_plain as bare_head, fixed_plain as plain_head}
+use Rattle.thumb_model.proofs.Cuts.{without_none}
 
 -- ---- sizes ----
 
@@ -145,10 +148,6 @@ record IsInner (n : ℕ) (ls : List Line) : Type 0 where
   less : IsLess n ls (without n ls)
   back : (ys : List Line) → without n (ls ++ ys) ≡ without n ls ++ ys
 
-without_none : (ls : List Line) → without 0 ls ≡ ls
-without_none [] = refl
-without_none (l ∷ ls) = refl
-
 inner_none : (ls : List Line) → IsInner 0 ls
 inner_none ls = record {
   less = subst (IsLess 0 ls) (sym (without_none ls)) (less_none ls);
@@ -207,10 +206,6 @@ kept_bytes : (l : Line) (names : List Name) (ls : List Line) → bytes_of (label
 kept_bytes l [] ls = refl
 kept_bytes l (n ∷ ns) ls = omega arith
 
-kept_places : (l : Line) (names : List Name) (ls : List Line) → places_of (labels_kept l names ++ ls) ≡ places_of ls
-kept_places l [] ls = refl
-kept_places l (n ∷ ns) ls = refl
-
 -- the window gives way to the new instructions, and whatever stands behind the lines stays
 record IsGiven (write : Instr → List ℕ) (p count : ℕ) (new : List Instr) (ls : List Line) : Type 0 where
   less : IsLess (count - length new) ls (replaced_lines write p count new ls)
@@ -258,9 +253,6 @@ past_words : (vs : List Value) (p : ℕ) (rows : List Row) (i : Instr) (is : Lis
 past_words [] p rows i is f = (p, omega arith, f)
 past_words (v ∷ vs) zero rows i is f = let g = f.1 in absurd (cc)
 past_words (v ∷ vs) (suc p) rows i is f = let r = past_words vs p rows i is f in let e = r.1 in (r.0, omega arith, r.2)
-
-not_first : (p : ℕ) → (suc p == 0) ≡ false
-not_first p = ne_eqb (suc p) 0 (λ z. absurd (omega arith))
 
 given_step : (write : Instr → List ℕ) (i : Instr) (is new : List Instr) → length new ≤ suc (length is) → list_all is_in_window new ≡ true → (l : Line) (s : Statement) (ls : List Line) (j : Bool) (p : ℕ) → l.statement ≡ s
     → ((b : Bool) (q : ℕ) → Fits true (i ∷ is) (drop q (rows_from b ls)) → IsGiven write q (suc (length is)) new ls)
@@ -312,22 +304,9 @@ bare_replaced write p count is (l ∷ ls) b = elim (cases_Bool (is_op l.statemen
   | inr h ↦ rw h (b.0, b.1, bare_replaced write (p - length (places_in l.statement)) count is ls b.2)
 ]
 
-plain_head : (find : Name → Option Target) (s : Statement) → is_fixed s ≡ true → head_of find s ≡ head.Plain
-plain_head find (Runs i (Some m)) e = absurd (true≢false (sym e))
-plain_head find (Aligns size most) e = absurd (true≢false (sym e))
-plain_head find s e = refl
-
-bare_head : (find : Name → Option Target) (ls : List Line) → AreBare ls → first_head find ls ≡ head.Plain
-bare_head find [] b = refl
-bare_head find (l ∷ ls) b = plain_head find l.statement b.1
-
 bare_names : (ls : List Line) → AreBare ls → first_names ls ≡ []
 bare_names [] b = refl
 bare_names (l ∷ ls) b = b.0
-
-bare_behind : (ls : List Line) → AreBare ls → AreBare (behind_first ls)
-bare_behind [] b = tt
-bare_behind (l ∷ ls) b = b.2
 
 -- ---- a part ----
 

@@ -66,7 +66,7 @@ here_is : (k : KeptLayout) → IsLaid k → (s : Shape) × (slice_get (shapes_of
 here_is k laid = let here = laid.here in present_at (shapes_of k.stretches.items) k.here (omega (arith, length_map shape_of k.stretches.items))
 
 -- the stretches end where each of them has its bytes
-end_from_least : (at : ℕ) (ss : List Shape) → at ≤ end_from at ss
+pub end_from_least : (at : ℕ) (ss : List Shape) → at ≤ end_from at ss
 end_from_least at [] = omega arith
 end_from_least at (s ∷ ss) = let h = end_from_least (behind at s) ss in omega arith
 

@@ -2,6 +2,7 @@
 use Rattle.std.proofs.Common.{◌≡◌, ◌∙◌, ℕ, zero, suc, ◌+◌, ◌-◌, ◌<◌, ◌≤◌, List, [], ◌∷◌, ◌++◌, length, take, drop, Some, refl, ap, arith}
 use Rattle.std.specs.Prelude.{slice_get}
 use Rattle.kept_layout.specs.Stretches.{behind, end_from, lessen, padding_of, starts_from, IsGrain, Shape}
+use Rattle.kept_layout.proofs.Giving.{end_from_least as end_low}
 
 -- ---- lists ----
 
@@ -39,10 +40,6 @@ starts_order at [] i k a b l f g = absurd (cc)
 starts_order at (t ∷ ss) zero k a b l f g = let first : at ≡ a = cc in let h = starts_low at (t ∷ ss) k b g in omega arith
 starts_order at (t ∷ ss) (suc i) zero a b l f g = absurd (omega arith)
 starts_order at (t ∷ ss) (suc i) (suc k) a b l f g = starts_order (behind at t) ss i k a b (omega arith) f g
-
-end_low : (at : ℕ) (ss : List Shape) → at ≤ end_from at ss
-end_low at [] = omega arith
-end_low at (s ∷ ss) = let h = end_low (behind at s) ss in omega arith
 
 -- none ends behind the last
 pub behind_low : (at : ℕ) (ss : List Shape) (k : ℕ) (s : Shape) (a : ℕ) → slice_get ss k ≡ Some s → slice_get (starts_from at ss) k ≡ Some a → behind a s ≤ end_from at ss

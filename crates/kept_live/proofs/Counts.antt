@@ -12,10 +12,8 @@ use Rattle.liveness.specs.Live.{word_of, set_at}
 use Rattle.code_flow.specs.Points.{marked}
 use Rattle.kept_live.specs.declared.counted.PointSets.{PointSets}
 use Rattle.kept_live.specs.Counted.{points_with, AreCounted}
-
--- nothing is in the empty word
-has_nothing : (x : ℕ) → has 0 x ≡ false
-has_nothing x = ap (λ n. n == 1) (bit_at-zero x)
+pub use Rattle.liveness.proofs.Settles.{nothing_at}
+use Rattle.liveness.proofs.Paths.{has_zero as has_nothing}
 
 -- one set of a list is changed
 pub with_set : (x : ℕ) (ms : List Bool) (ss : List Items) (p : ℕ) (s : Items) → p < length ss → length ss ≤ length ms
@@ -102,12 +100,6 @@ point_has marks s c p x m h = c.points x ∙ lt_zero _ (has_some x marks s.sets.
 
 pub has_point : (marks : List Bool) (s : PointSets) → AreCounted marks s → (x : ℕ) → has s.points.bits x ≡ true → (p : ℕ) × (marked marks p ≡ true) × (has (set_at s.sets.items p) x ≡ true)
 has_point marks s c x h = some_has x marks s.sets.items (zero_lt _ (sym (c.points x) ∙ h))
-
--- sets without an item
-pub nothing_at : (n p x : ℕ) (s : Items) → has s.bits x ≡ false → has (set_at (replicate n s) p) x ≡ false
-nothing_at zero p x s h = has_nothing x
-nothing_at (suc n) zero x s h = h
-nothing_at (suc n) (suc p) x s h = nothing_at n p x s h
 
 pub none_counted : (marks : List Bool) (s : PointSets) → length s.counts.items ≡ 19 → ((x : ℕ) → x < 19 → get_or s.counts.items x 0 ≡ 0) → ((x : ℕ) → has s.points.bits x ≡ false) → ((p x : ℕ) → has (set_at s.sets.items p) x ≡ false) → AreCounted marks s
 none_counted marks s k c w n = record {

@@ -11,7 +11,7 @@ use Rattle.thumb_model.specs.Listing.{Code}
 use Rattle.thumb_model.specs.Flow.{Way as ModelWay, Onward, AnyPoint, Out, way, left_but, ways_of, ways}
 use Rattle.thumb_model.proofs.Lists.{get_front, get_back}
 use Rattle.shrinking_sets.specs.Straight.{is_straight, nop, nops, reads_first, writes_in, IsApart}
-use Rattle.shrinking_sets.proofs.Exchange.{Runs, old_runs, new_runs, apart_or, straight_at, ways_same}
+use Rattle.shrinking_sets.proofs.Exchange.{Runs, old_runs, new_runs, apart_or, straight_at, ways_same, straight_way}
 use Rattle.padded_code.specs.Spread.{first_of, others_of, spread}
 use Rattle.code_flow.specs.declared.way.Way.{Way}
 use Rattle.code_flow.specs.declared.way.Ways.{Ways}
@@ -24,12 +24,10 @@ use Rattle.kept_live.specs.Passing.{writes_among, reads_from, writes_from}
 use Rattle.kept_live.specs.Window.{nth_or_nop, AreAscending, ArePut, GivesWay}
 use Rattle.kept_live.proofs.Callers.{among}
 use Rattle.kept_live.proofs.Passings.{ways_there}
+use Rattle.listing_parser.proofs.TwiceLemmas.{or_last as or_false}
+use Rattle.padded_code.proofs.Spread.{length_nops as nops_length}
 
 -- ---- what a window reads and writes ----
-
-or_false : (a : Bool) → (a || false) ≡ a
-or_false true = refl
-or_false false = refl
 
 one_uses : (p x : ℕ) (m : ModelWay) (es : List Way) → AreWays p (m ∷ []) es → (uses_among es x ≡ one_of x m.reads) × (writes_among es x ≡ one_of x m.writes)
 one_uses p x m [] a = absurd a
@@ -54,10 +52,6 @@ writes_are code all a m q (i ∷ is) r x =
     ap (λ b. b || writes_from all (q + 1) (length is) x) u.1 ∙ ap (λ b. one_of x (writes_of i) || b) (writes_are code all a m (q + 1) is r.1 x)
 
 -- ---- where the instructions stand ----
-
-pub nops_length : (n : ℕ) → length (nops n) ≡ n
-nops_length zero = refl
-nops_length (suc n) = let h = nops_length n in omega arith
 
 nops_at : (n k : ℕ) → k < n → slice_get (nops n) k ≡ Some nop
 nops_at zero k h = absurd (omega arith)
@@ -123,22 +117,6 @@ none_behind from q (p ∷ r ∷ ps) a h = ap (λ b. b || one_of q (r ∷ ps)) (n
     last_above p r (t ∷ ps) a = let l = last_above r t ps a.1 in omega (arith, a.0, l, last_cons r t ps)
 
 -- ---- the new ways ----
-
--- a row: a straight instruction goes to the next place alone
-straight_way : (o : Option ℕ) (i : Instr) → is_straight i ≡ true → ways_of o i ≡ way (uses_of i) (writes_of i) Onward ∷ []
-straight_way o (instr.Bx m) h = absurd (cc)
-straight_way o (instr.Blx m) h = absurd (cc)
-straight_way o (instr.Pop l) h = go (has l.number 8) h
-  where
-    go : (b : Bool) → not b ≡ true
-        → (if b then way (sp ∷ []) (sp ∷ registers_in l.number) AnyPoint ∷ way (sp ∷ left_but (registers_in l.number)) (sp ∷ registers_in l.number) Out ∷ [] else way (sp ∷ []) (sp ∷ registers_in l.number) Onward ∷ [])
-        ≡ way (uses_of (instr.Pop l)) (writes_of (instr.Pop l)) Onward ∷ []
-    go true e = absurd (cc)
-    go false e = refl
-straight_way o (instr.BranchIf c d) h = absurd (cc)
-straight_way o (instr.Branch d) h = absurd (cc)
-straight_way o (instr.Call d) h = absurd (cc)
-straight_way o i h = refl
 
 pub run_at : (code : Code) (q : ℕ) (is : List Instr) (j : ℕ) (i : Instr) → Runs code q is → slice_get is j ≡ Some i → ways code (q + j) ≡ way (uses_of i) (writes_of i) Onward ∷ []
 run_at code q [] j i r e = absurd (cc)

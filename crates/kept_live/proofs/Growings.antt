@@ -18,7 +18,7 @@ use Rattle.liveness.specs.Live.{set_at}
 use Rattle.liveness.specs.Passes.{there, gained, weight_below, total, AreSound}
 use Rattle.liveness.specs.Graph.{some_leads, some_return, ways_in, ways_at, JumpsTo, AreCallers, AreReturns, IsGraph}
 use Rattle.liveness.proofs.Weights.{grows, total_set}
-use Rattle.liveness.proofs.Paths.{has_zero, found, way_gains, gained_reads}
+use Rattle.liveness.proofs.Paths.{has_zero, found, way_gains, gained_reads, comes_from}
 use Rattle.kept_live.specs.declared.counted.PointSets.{PointSets}
 use Rattle.kept_live.specs.Stack.{Stack}
 use Rattle.kept_live.specs.Counted.{AreCounted}
@@ -30,6 +30,7 @@ use Rattle.kept_live.proofs.Counts.{point_has, has_point}
 use Rattle.kept_live.proofs.Passings.{passes_there, passes_any, passes_leads, passes_return}
 use Rattle.kept_live.proofs.Walks.{put_here, put_else}
 use Rattle.kept_live.proofs.Clearings.{point_marked, marked_point}
+use Rattle.liveness.proofs.KeptSets.{set_within as has_within}
 
 -- what is read there is gained
 gains_read : (p x : ℕ) (b : List Items) (w : ℕ) (ms : List ModelWay) (es : List Way) → AreWays p ms es → some_reads ms x ≡ true → gained es b w x ≡ true
@@ -39,19 +40,6 @@ gains_read p x b w (m ∷ ms) (e ∷ es) a h = elim (or_cases _ _ h) [
   | inl u ↦ or_left _ _ (or_left _ _ (a.0.uses x ∙ u))
   | inr u ↦ or_right (has e.uses.bits x || (has (there e.next b w) x && not (has e.writes.bits x))) _ (gains_read p x b w ms es a.1 u)
 ]
-
--- what is read at a place that a way leads to, the set where it leads has
-comes_from : (code : Code) (b : List Items) (w : ℕ) → AreSound code b w → (p x q : ℕ) (l : Leads) → Follows code p l q → has (set_at b q) x ≡ true → has (there (next_of p l) b w) x ≡ true
-comes_from code b w s p x q Onward f h = subst (λ y. has (set_at b y) x ≡ true) f h
-comes_from code b w s p x q (ToPlace r) f h = subst (λ y. has (set_at b y) x ≡ true) f h
-comes_from code b w s p x q AnyPoint f h = s.point_has q x f h
-comes_from code b w s p x q Out f h = absurd f
-
--- a set that has an item is one
-has_within : (ss : List Items) (q x : ℕ) → has (set_at ss q) x ≡ true → q < length ss
-has_within [] q x h = absurd (let z = has_zero x in cc)
-has_within (s ∷ ss) zero x h = omega arith
-has_within (s ∷ ss) (suc q) x h = let r = has_within ss q x h in omega arith
 
 -- the sets are sound
 sound : (code : Code) (all : List (Option Ways)) (g : Graph) → IsGraph code all g → (s : PointSets) → length s.sets.items ≡ length all → AreCounted g.is_point.items s → ((p x : ℕ) → has (set_at s.sets.items p) x ≡ true → Reads code x p) → AreSound code s.sets.items s.points.bits

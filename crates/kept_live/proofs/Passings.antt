@@ -20,6 +20,8 @@ use Rattle.liveness.proofs.Paths.{within, found}
 use Rattle.liveness.proofs.Jumps.{leads_told}
 use Rattle.kept_live.specs.Within.{IsWired}
 use Rattle.kept_live.specs.Passing.{passes_to, passes_points, Keeps}
+use Rattle.shrinking_sets.proofs.Cleared.{passing as both}
+use Rattle.listing_parser.proofs.ReplaceLemmas.{and_first as and_left}
 
 -- ---- one way, and two ----
 
@@ -76,11 +78,6 @@ leads_there code p q (ToPlace r) d f = eq-eqb r q (sym f)
 leads_there code p q AnyPoint d f = absurd (d refl)
 leads_there code p q Outside d f = absurd f
 
-both : (a b : Bool) → a ≡ true → b ≡ false → (a && not b) ≡ true
-both true false e f = refl
-both true true e f = absurd (cc)
-both false b e f = absurd (cc)
-
 passing : (p q x : ℕ) (ms : List ModelWay) (es : List Way) → AreWays p ms es → (k : ℕ) (v : ModelWay) → slice_get ms k ≡ Some v → one_of x v.writes ≡ false → leads_to q (next_of p v.leads) ≡ true → passes_to q es x ≡ true
 passing p q x [] es a k v g n l = absurd (cc)
 passing p q x (m ∷ ms) [] a k v g n l = absurd a
@@ -109,11 +106,6 @@ passes_there code all w m x p q a d = passing p q x (ways code p) (ways_at all p
 
 pub passes_any : (code : Code) (all : List (Option Ways)) → AreAllWays code all → length all ≡ length code.places → (x p q : ℕ) → (a : Passes code x p q) → a.found.leads ≡ AnyPoint → passes_points (ways_at all p) x ≡ true
 passes_any code all w m x p q a d = passing_points p x (ways code p) (ways_at all p) (ways_there code all w m p a.number a.found a.is) a.number a.found a.is a.unwritten d
-
--- a way that passes an item to a place leads there
-and_left : (a b : Bool) → (a && b) ≡ true → a ≡ true
-and_left true b e = refl
-and_left false b e = absurd (cc)
 
 pub passes_leads : (q x : ℕ) (es : List Way) → passes_to q es x ≡ true → some_leads q es ≡ true
 passes_leads q x [] h = absurd (cc)

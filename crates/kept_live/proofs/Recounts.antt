@@ -5,6 +5,7 @@ use Rattle.std.specs.Int.{from_bool}
 use Rattle.std.proofs.lemmas.Bool.{cases_eq, cases_lt, lt-ltb, le-ltb}
 use Rattle.std.proofs.lemmas.List.{get_or-set_same, get_or-set_other}
 use Rattle.thumb_instr.specs.Items.{has}
+use Rattle.listing_parser.proofs.TwiceLemmas.{or_last as or_false}
 
 pub none_yet : (w : ℕ) (cs : List ℕ) → ((x : ℕ) → has w x ≡ false) → (x : ℕ) → has w x ≡ (nat_lt x 0 && nat_lt 0 (get_or cs x 0))
 none_yet w cs n x = n x ∙ sym (ap (λ b. b && nat_lt 0 (get_or cs x 0)) (le-ltb x 0 (omega arith)))
@@ -18,10 +19,6 @@ module _ (cs old : List ℕ) (i n : ℕ) (was is : ℕ → Bool) (inside : i < l
 
   pub rest_more : ((x : ℕ) → i ≤ x → get_or cs x 0 ≡ get_or old x 0) → (x : ℕ) → i + 1 ≤ x → get_or (slice_set cs i n) x 0 ≡ get_or old x 0
   rest_more rest x h = get_or-set_other cs i x n 0 (λ e. omega arith) ∙ rest x (omega arith)
-
-or_false : (a : Bool) → (a || false) ≡ a
-or_false true = refl
-or_false false = refl
 
 pub points_more : (cs : List ℕ) (i n w w' : ℕ) → i < length cs → ((x : ℕ) → has w x ≡ (nat_lt x i && nat_lt 0 (get_or cs x 0))) → ((x : ℕ) → has w' x ≡ (has w x || ((x == i) && nat_lt 0 n))) → (x : ℕ) → has w' x ≡ (nat_lt x (i + 1) && nat_lt 0 (get_or (slice_set cs i n) x 0))
 points_more cs i n w w' inside old new x = elim (cases_eq x i) [

@@ -10,12 +10,9 @@ use Rattle.kept_places.specs.Marks.{marked}
 use Rattle.kept_places.proofs.Ranks.{marked_within, marked_set, marked_other, unmarked}
 use Rattle.kept_live.specs.Stacked.{AreDistinct, count_marked, AreStacked}
 use Rattle.kept_live.specs.declared.stack.PlaceStack.TheInside.{Inside}
+use Rattle.listing_parser.proofs.TwiceLemmas.{or_last as or_false}
 
 -- ---- members ----
-
-or_false : (a : Bool) → (a || false) ≡ a
-or_false true = refl
-or_false false = refl
 
 pub one_more : (q p : ℕ) (ps : List ℕ) → one_of q (ps ++ p ∷ []) ≡ (one_of q ps || (q == p))
 one_more q p ps = one_of_append q ps (p ∷ []) ∙ ap (λ b. one_of q ps || b) (or_false (q == p))

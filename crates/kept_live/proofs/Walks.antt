@@ -16,6 +16,7 @@ use Rattle.kept_live.specs.declared.walk.Walk.{Walk}
 use Rattle.kept_live.specs.Stack.{Stack}
 use Rattle.kept_live.specs.Counted.{AreCounted}
 use Rattle.kept_live.specs.Walk.{start_at, IsFitWalk, ClearsOn}
+use Rattle.listing_parser.proofs.ReplaceLemmas.{and_first as and_left}
 
 or_cases : (a b : Bool) → (a || b) ≡ true → (b ≡ false) → a ≡ true
 or_cases true b e f = refl
@@ -141,10 +142,6 @@ clears_on a b c s t = record {
 }
 
 -- ---- items that are cleared at a place ----
-
-and_left : (a b : Bool) → (a && b) ≡ true → a ≡ true
-and_left true b e = refl
-and_left false b e = absurd (cc)
 
 and_not : (a b : Bool) → b ≡ true → (a && not b) ≡ false
 and_not true true e = refl

@@ -57,7 +57,7 @@ names_set (a ∷ os) (suc p) name = ap (λ (xs : List (Option Name)). option_map
 
 -- ---- a listing of which nothing is changed ----
 
-drop_marks : (n m : ℕ) → (let xs : List Bool = drop n (replicate m false) in xs) ≡ replicate (m - n) false
+pub drop_marks : (n m : ℕ) → (let xs : List Bool = drop n (replicate m false) in xs) ≡ replicate (m - n) false
 drop_marks zero m = ap (λ k. replicate k false) (let z : m ≡ m - 0 = omega arith in z)
 drop_marks (suc n) zero = ap (λ k. replicate k false) (let z : 0 ≡ 0 - suc n = omega arith in z)
 drop_marks (suc n) (suc m) = drop_marks n m ∙ ap (λ k. replicate k false) (let z : m - n ≡ suc m - suc n = omega arith in z)

@@ -7,6 +7,7 @@ use Rattle.thumb_model.specs.Replaced.{is_op}
 use Rattle.kept_places.specs.Marks.{is_gone}
 use Rattle.listing_draft.specs.Drafted.{aim_at, line_now, now_of}
 use Rattle.listing_draft.proofs.Ranks.{aim_drop, gone_drop}
+use Rattle.thumb_model.proofs.Cuts.{op_takes as one_place}
 
 drop_more : {A : Type 0} (n k m : ℕ) (xs : List A) → m ≡ n + k → drop k (drop n xs) ≡ drop m xs
 drop_more zero k m xs e = ap (λ j. drop j xs) (let z : k ≡ m = omega arith in z)
@@ -16,13 +17,6 @@ drop_more (suc n) (suc k) zero [] e = refl
 drop_more (suc n) (suc k) (suc m) [] e = refl
 drop_more (suc n) k zero (x ∷ xs) e = absurd (omega arith)
 drop_more (suc n) k (suc m) (x ∷ xs) e = drop_more n k m xs (omega arith)
-
-one_place : (s : Statement) → is_op s ≡ true → length (places_in s) ≡ 1
-one_place Nothing e = absurd (cc)
-one_place (Runs i m) e = refl
-one_place (Words vs) e = absurd (cc)
-one_place (Aligns size most) e = absurd (cc)
-one_place (Sets name address) e = absurd (cc)
 
 -- an instruction's line is printed
 pub printed_op : (gone : List Bool) (aims : List (Option Name)) (n k m : ℕ) (l : Line) (ls out new all : List Line) → is_op l.statement ≡ true → k ≡ length (places_in l.statement) → m ≡ n + k → out ++ now_of (drop n gone) (drop n aims) (l ∷ ls) ≡ all

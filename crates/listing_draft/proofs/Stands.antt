@@ -12,6 +12,7 @@ use Rattle.listing_parser.specs.Parsing.{line_mentioning}
 use Rattle.listing_parser.specs.Targets.{aimed_line}
 use Rattle.listing_draft.specs.Drafted.{aim_at, line_now, now_of}
 use Rattle.listing_draft.proofs.Ranks.{OpsGone, aim_drop, gone_drop, ops_behind, others_kept, rank_behind_gone, rank_behind_kept, rank_drop}
+use Rattle.thumb_model.proofs.LinesReplaced.{kept_places as labels_no_places}
 
 -- an instruction with the label that it goes to now
 abbrev pub op_now : Option Name → Instr → Option Mention → Place
@@ -30,10 +31,6 @@ same_op (Some (Op i m)) (Some label) = refl
 same_op (Some (Word v)) a = refl
 
 -- ---- the places of an instruction's line ----
-
-pub labels_no_places : (l : Line) (ns : List Name) (rest : List Line) → places_of (labels_kept l ns ++ rest) ≡ places_of rest
-labels_no_places l [] rest = refl
-labels_no_places l (n ∷ ns) rest = refl
 
 branch_places : (label : Name) (l : Line) (ns : List Name) (i : Instr) (m : Option Mention) (rest : List Line) → l.statement ≡ Runs i m
     → places_of ((labels_kept l ns ++ (aimed_line line_mentioning label l ∷ [])) ++ rest) ≡ op_now (Some label) i m ∷ places_of rest

@@ -18,6 +18,7 @@ use Rattle.listing_laws.specs.Fitting.{LiesApart, LaidNamingsFit}
 use Rattle.listing_laws.proofs.Once.{either_part}
 use Rattle.thumb_model.proofs.Moved.{count_append}
 use Rattle.thumb_model.proofs.Returns.{laid_behind, no_words}
+use Rattle.listing_parser.proofs.Namings.{op_within}
 
 -- ---- lines and their places ----
 
@@ -25,7 +26,7 @@ words_length : (vs : List Value) → length (map Word vs) ≡ length vs
 words_length [] = refl
 words_length (v ∷ vs) = ap suc (words_length vs)
 
-two_bytes : (i : Instr) → 2 ≤ instr_size i
+pub two_bytes : (i : Instr) → 2 ≤ instr_size i
 two_bytes (instr.Call d) = omega arith
 two_bytes (instr.Barrier b) = omega arith
 two_bytes (instr.ReadSpecial d s) = omega arith
@@ -207,12 +208,6 @@ last_call : (xs : List Place) (x : Place) → is_call x ≡ true → last_is_cal
 last_call [] x h = h
 last_call (y ∷ []) x h = h
 last_call (y ∷ (z ∷ xs)) x h = last_call (z ∷ xs) x h
-
-op_within : (places : List Place) (q : ℕ) → is_op_place (slice_get places q) ≡ true → q < length places
-op_within places q t = go (slice_get places q) refl where
-  go : (o : Option Place) → slice_get places q ≡ o → q < length places
-  go None e = absurd (true≢false (sym t ∙ ap is_op_place e))
-  go (Some x) e = slice_get_within places q x e
 
 no_returns : (names : Naming) (k p : ℕ) (vs : List Value) (ps : List Place) → returns_from names k p (map Word vs ++ ps) ≡ returns_from names k (p + length vs) ps
 no_returns names k p [] ps = ap (λ (n : ℕ). returns_from names k n ps) (let h : p ≡ p + 0 = omega arith in h)

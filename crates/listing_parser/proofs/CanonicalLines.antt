@@ -268,7 +268,7 @@ rest_clear p (b ∷ bs) all = elim (cases_Bool (p b)) [
   | inr h ↦ rw h all
 ]
 
-and_false : (a : Bool) → (a && false) ≡ false
+pub and_false : (a : Bool) → (a && false) ≡ false
 and_false true = refl
 and_false false = refl
 
@@ -392,7 +392,7 @@ pub front_all : (p : ℕ → Bool) (bs : List ℕ) → list_all p bs ≡ true �
 front_all p [] all = refl
 front_all p (b ∷ bs) all = let a = and_parts (p b) (list_all p bs) all in rw a.0 (ap (λ (w : List ℕ). b ∷ w) (front_all p bs a.1))
 
-front_short : (p : ℕ → Bool) (bs : List ℕ) → length (front p bs) ≤ length bs
+pub front_short : (p : ℕ → Bool) (bs : List ℕ) → length (front p bs) ≤ length bs
 front_short p [] = omega arith
 front_short p (b ∷ bs) = elim (cases_Bool (p b)) [ inl h ↦ rw h (omega (arith, front_short p bs)) | inr h ↦ rw h (omega arith) ]
 

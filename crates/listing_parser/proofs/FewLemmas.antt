@@ -18,6 +18,7 @@ use Rattle.listing_parser.specs.Directives.{Unmarked, NextMarked, NameMarked, Sa
 use Rattle.listing_parser.specs.Values.{value, values, onto_values, alone, gapped, pair}
 use Rattle.listing_parser.proofs.ReadingLemmas.{rest_short, after_shorter}
 use Rattle.listing_parser.proofs.PrintLemmas.{OfLine, of_checked, cut, none_read}
+use Rattle.listing_parser.proofs.CanonicalLines.{front_short}
 
 -- how many places a statement has
 pub count : Said → ℕ
@@ -175,13 +176,6 @@ unfolding statement
 statement_few bs t e = omega (arith, said_few (rest is_blank bs) t e, rest_short is_blank bs)
 
 -- ---- a line is no longer without its comment and labels ----
-
-front_short : (p : ℕ → Bool) (bs : List ℕ) → length (front p bs) ≤ length bs
-front_short p [] = omega arith
-front_short p (b ∷ bs) = elim (cases_Bool (p b)) [
-  | inl e ↦ rw e (omega (arith, front_short p bs))
-  | inr e ↦ rw e (omega arith)
-]
 
 pub code_short : (bs : List ℕ) → length (code bs) ≤ length bs
 unfolding code

@@ -99,7 +99,7 @@ pub again_front : (known ns ms : List Name) → is_again known (ns ++ ms) ≡ fa
 again_front known [] ms e = refl
 again_front known (n ∷ ns) ms e = rw (or_false (is_among n known) _ e).0 (again_front (known ++ n ∷ []) ns ms (or_false (is_among n known) _ e).1)
 
-passed_by : (name : Name) (places : List Place) (p : ℕ) (ns : List Name) (rest : List Label) → is_among name ns ≡ false → place_among name places (labels_at p ns ++ rest) ≡ place_among name places rest
+pub passed_by : (name : Name) (places : List Place) (p : ℕ) (ns : List Name) (rest : List Label) → is_among name ns ≡ false → place_among name places (labels_at p ns ++ rest) ≡ place_among name places rest
 passed_by name places p [] rest e = refl
 passed_by name places p (n ∷ ns) rest e = rw (or_false (bytes_eq name n) _ e).0 (passed_by name places p ns rest (or_false (bytes_eq name n) _ e).1)
 

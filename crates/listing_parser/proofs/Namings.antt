@@ -16,7 +16,7 @@ use Rattle.listing_parser.specs.Parsing.{IsListing}
 use Rattle.listing_parser.specs.Namings.{if_op}
 use Rattle.listing_parser.specs.Targets.{defined_in, set_names}
 use Rattle.listing_parser.proofs.FirstTwice.{first_twice, is_again}
-use Rattle.listing_parser.proofs.TwiceLemmas.{once_none}
+use Rattle.listing_parser.proofs.TwiceLemmas.{once_none, same_name as bytes_same}
 use Rattle.listing_parser.proofs.FewLemmas.{all_few, counts_bare}
 use Rattle.listing_parser.proofs.LabelLemmas.{again_front, among_append, code_place, label_at, not_again, one_label, or_false}
 use Rattle.listing_parser.proofs.Literals.{first_label, later_label}
@@ -25,7 +25,7 @@ use Rattle.listing_parser.specs.Grammar.{most_lines}
 -- ---- no name is defined twice, so each label is its name's ----
 
 -- what is in two lists, one behind the other, is in one of them
-either_part : {A : Type 0} (xs ys : List A) (k : ℕ) (x : A) → slice_get (xs ++ ys) k ≡ Some x → (slice_get xs k ≡ Some x) ⊎ ((j : ℕ) × (slice_get ys j ≡ Some x))
+pub either_part : {A : Type 0} (xs ys : List A) (k : ℕ) (x : A) → slice_get (xs ++ ys) k ≡ Some x → (slice_get xs k ≡ Some x) ⊎ ((j : ℕ) × (slice_get ys j ≡ Some x))
 either_part [] ys k x e = inr (k, e)
 either_part (z ∷ xs) ys zero x e = inl e
 either_part (z ∷ xs) ys (suc k) x e = either_part xs ys k x e
@@ -34,9 +34,6 @@ either_part (z ∷ xs) ys (suc k) x e = either_part xs ys k x e
 pub record IsThere (p : ℕ) (ns : List Name) (l : Label) : Type 0 where
   pub place : l.place ≡ p
   pub named : is_among l.name ns ≡ true
-
-bytes_same : (n : Name) → bytes_eq n n ≡ true
-bytes_same n = (bytes_eq-Decides n n).1 refl
 
 there : (p : ℕ) (ns : List Name) (k : ℕ) (l : Label) → slice_get (labels_at p ns) k ≡ Some l → IsThere p ns l
 there p [] k l e = absurd (let bad : None ≡ Some l = e in cc)
@@ -54,7 +51,7 @@ there p (n ∷ ns) (suc k) l e =
     or_more false b h = h
 
 -- a label of these lines has none of the names that were known before
-fresh : (n p : ℕ) (known : List Name) (ls : List Line) → first_twice n known ls ≡ None → (k : ℕ) (l : Label) → slice_get (labels_from p ls) k ≡ Some l → is_among l.name known ≡ false
+pub fresh : (n p : ℕ) (known : List Name) (ls : List Line) → first_twice n known ls ≡ None → (k : ℕ) (l : Label) → slice_get (labels_from p ls) k ≡ Some l → is_among l.name known ≡ false
 fresh n p known [] e k l at = absurd (let bad : None ≡ Some l = at in cc)
 fresh n p known (x ∷ ls) e k l at = elim (cases_Bool (is_again known (defined_in x))) [
   | inl h ↦ absurd (let bad : Some n ≡ None = rw h at e in cc)
@@ -70,7 +67,7 @@ fresh n p known (x ∷ ls) e k l at = elim (cases_Bool (is_again known (defined_
 ]
 
 -- where no name is defined twice, a label stands at its name's place
-own : (n p : ℕ) (known : List Name) (ls : List Line) → first_twice n known ls ≡ None → (k : ℕ) (l : Label) → slice_get (labels_from p ls) k ≡ Some l → label_place l.name (labels_from p ls) ≡ Some l.place
+pub own : (n p : ℕ) (known : List Name) (ls : List Line) → first_twice n known ls ≡ None → (k : ℕ) (l : Label) → slice_get (labels_from p ls) k ≡ Some l → label_place l.name (labels_from p ls) ≡ Some l.place
 own n p known [] e k l at = absurd (let bad : None ≡ Some l = at in cc)
 own n p known (x ∷ ls) e k l at = elim (cases_Bool (is_again known (defined_in x))) [
   | inl h ↦ absurd (let bad : Some n ≡ None = rw h at e in cc)
@@ -128,7 +125,7 @@ unfolding AreWorded
 more_worded count v q xs h each zero w p e = word_same count v w q p e h
 more_worded count v q xs h each (suc k) w p e = each k w p e
 
-op_within : (places : List Place) (q : ℕ) → is_op_place (slice_get places q) ≡ true → q < length places
+pub op_within : (places : List Place) (q : ℕ) → is_op_place (slice_get places q) ≡ true → q < length places
 op_within places q t = go (slice_get places q) refl where
   go : (o : Option Place) → slice_get places q ≡ o → q < length places
   go None e = absurd (true≢false (sym t ∙ ap is_op_place e))

@@ -24,7 +24,7 @@ first_short : (bs : List ℕ) → is_some_byte bs ≡ true → length (without_f
 first_short [] e = absurd (true≢false (sym e))
 first_short (b ∷ bs) e = omega arith
 
-and_second : (a b : Bool) → (a && b) ≡ true → b ≡ true
+pub and_second : (a b : Bool) → (a && b) ≡ true → b ≡ true
 and_second true b e = e
 and_second false b e = absurd (true≢false (sym e))
 

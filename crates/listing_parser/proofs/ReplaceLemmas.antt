@@ -11,7 +11,7 @@ use Rattle.thumb_model.specs.Replaced.{is_op, without, labels_kept, new_line, re
 use Rattle.thumb_model.specs.Cuts.{AreOps}
 use Rattle.thumb_model.proofs.Lists.{get_drop, length_map, length_drop}
 use Rattle.thumb_model.proofs.Cuts.{without_none}
-use Rattle.thumb_model.proofs.LinesReplaced.{places_replaced}
+use Rattle.thumb_model.proofs.LinesReplaced.{places_replaced, kept_places}
 use Rattle.listing_parser.specs.Targets.{set_names, defined_in, DefineOnce, aimed, aimed_line, aimed_lines}
 use Rattle.listing_parser.proofs.FirstTwice.{first_twice, is_again}
 use Rattle.listing_parser.proofs.LabelLemmas.{or_false, or_true, among_append}
@@ -107,7 +107,7 @@ once_kept k known l (n ∷ ns) ls h f j other w =
     (not_again_within other known (n ∷ ns ++ []) w h)
     (f (j + 1) (other ++ (n ∷ ns ++ [])) (within_same other known (n ∷ ns ++ []) w))
 
-and_first : (a b : Bool) → (a && b) ≡ true → a ≡ true
+pub and_first : (a b : Bool) → (a && b) ≡ true → a ≡ true
 and_first true b e = refl
 and_first false b e = absurd (true≢false (sym e))
 
@@ -208,11 +208,7 @@ once_aimed write p label k j known other (l ∷ ls) w e =
 pub aimed_once : (write : Instr → Option Mention → List ℕ) (p : ℕ) (label : Name) (ls : List Line) → DefineOnce ls → DefineOnce (aimed_lines write p label ls)
 aimed_once write p label ls once = none_once (aimed_lines write p label ls) (once_aimed write p label 1 1 [] [] ls (within_self []) (once_none ls once))
 
-kept_places : (l : Line) (ns : List Name) (ls : List Line) → places_of (labels_kept l ns ++ ls) ≡ places_of ls
-kept_places l [] ls = refl
-kept_places l (n ∷ ns) ls = refl
-
-aimed_place : (label : Name) (s : Statement) → length (places_in (aimed label s)) ≡ length (places_in s)
+pub aimed_place : (label : Name) (s : Statement) → length (places_in (aimed label s)) ≡ length (places_in s)
 aimed_place label Nothing = refl
 aimed_place label (Runs i m) = refl
 aimed_place label (Words vs) = refl

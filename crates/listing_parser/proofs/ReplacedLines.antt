@@ -15,7 +15,7 @@ use Rattle.thumb_model.specs.Replaced.{is_op, without, labels_kept, new_line, re
 use Rattle.thumb_model.specs.Cuts.{AreOps}
 use Rattle.thumb_model.proofs.Lists.{get_drop}
 use Rattle.listing_parser.specs.Targets.{defined_in, set_names, DefineOnce, marked_by_name, is_next, marked_first, still_waits, functions, first_target}
-use Rattle.listing_parser.proofs.TwiceLemmas.{once_none}
+use Rattle.listing_parser.proofs.TwiceLemmas.{once_none, or_last, among_first as among_self}
 use Rattle.listing_parser.proofs.FirstTwice.{first_twice}
 use Rattle.listing_parser.specs.Grammar.{Bare, Read, read_lines, shown_of, most_lines}
 use Rattle.listing_parser.specs.Directives.{Mark, Unmarked}
@@ -72,9 +72,6 @@ later name k known l ls e o = elim (cases_Bool (is_among name l.names)) [
   | inr a ↦ a
 ]
 
-among_self : (name : Name) (ns : List Name) → is_among name (name ∷ ns) ≡ true
-among_self name ns = rw ((bytes_eq-Decides name name).1 refl) refl
-
 -- names whose labels stand before an instruction do so afterwards
 abbrev AreKept : List Line → List Line → Type 0
 AreKept ls new = (name : Name) → opens name ls ≡ true → opens name new ≡ true
@@ -115,10 +112,6 @@ gone_from write n p is k known (l ∷ ls) once h kept =
     ]
 
 -- ---- marks ----
-
-or_last : (a : Bool) → (a || false) ≡ a
-or_last true = refl
-or_last false = refl
 
 -- a line without a mark
 unmarked : (waits : Bool) (r : Read) (rs : List Read) (ns : List Name) → r.line.names ≡ ns → r.mark ≡ Unmarked → functions waits (r ∷ rs) ≡ (marked_first waits ns ++ []) ++ functions (still_waits waits ns || false) rs
@@ -192,27 +185,27 @@ without_lines (suc n) (l ∷ ls) (r ∷ rs) old none ended = elim (cases_Bool (i
 
 -- ---- a new instruction's line ----
 
-clear_inside : (b : ℕ) → is_clear b ≡ true → is_inside b ≡ true
+pub clear_inside : (b : ℕ) → is_clear b ≡ true → is_inside b ≡ true
 clear_inside b e = elim (cases_Bool (b == 10)) [
   | inl h ↦ absurd (true≢false (sym (rw h at e)))
   | inr h ↦ rw h refl
 ]
 
-all_inside : (bs : List ℕ) → list_all is_clear bs ≡ true → list_all is_inside bs ≡ true
+pub all_inside : (bs : List ℕ) → list_all is_clear bs ≡ true → list_all is_inside bs ≡ true
 all_inside [] e = refl
 all_inside (b ∷ bs) e = let a = and_parts (is_clear b) (list_all is_clear bs) e in and_from (is_inside b) (list_all is_inside bs) (clear_inside b a.0) (all_inside bs a.1)
 
-own_inside : (i : Instr) → names_no_label i ≡ true → list_all is_inside (9 ∷ text_of (shown_of i None)) ≡ true
+pub own_inside : (i : Instr) → names_no_label i ≡ true → list_all is_inside (9 ∷ text_of (shown_of i None)) ≡ true
 own_inside i e = all_inside (text_of (shown_of i None)) (canonical_text i e).clear.all
 
 own_is : (i : Instr) → own_line i ≡ (9 ∷ text_of (shown_of i None)) ++ 10 ∷ []
 unfolding own_line
 own_is i = refl
 
-own_ends : (i : Instr) → names_no_label i ≡ true → Ends (own_line i)
+pub own_ends : (i : Instr) → names_no_label i ≡ true → Ends (own_line i)
 own_ends i e = subst Ends (sym (own_is i)) (inside_ends (9 ∷ text_of (shown_of i None)) (own_inside i e))
 
-whole_ended : (l : Placed) → l.is_ended ≡ true → whole l ≡ l.text ++ 10 ∷ []
+pub whole_ended : (l : Placed) → l.is_ended ≡ true → whole l ≡ l.text ++ 10 ∷ []
 whole_ended l e = rw e refl
 
 own_read : (i : Instr) → names_no_label i ≡ true → ReadsAs (own_line i) (unnamed (told_of i) (own_line i))

@@ -38,7 +38,7 @@ again_then known ns ms b e h = sym (again_append known ns ms ∙ ap (λ (x : Boo
 pub again_else : (known more ns ms : List Name) (a b : Bool) → b ≡ is_again known ns → b ≡ false → more ≡ known ++ ns → a ≡ is_again more ms → a ≡ is_again known (ns ++ ms)
 again_else known more ns ms a b e h all f = f ∙ ap (λ (k : List Name). is_again k ms) all ∙ sym (again_append known ns ms ∙ ap (λ (x : Bool). x || is_again (known ++ ns) ms) (sym e ∙ h))
 
-or_last : (a : Bool) → (a || false) ≡ a
+pub or_last : (a : Bool) → (a || false) ≡ a
 or_last true = refl
 or_last false = refl
 
@@ -55,10 +55,10 @@ added_among q name old new false e added kept = ap (is_among q) (added refl) ∙
 
 -- ---- names that are defined again ----
 
-same_name : (n : Name) → bytes_eq n n ≡ true
+pub same_name : (n : Name) → bytes_eq n n ≡ true
 same_name n = (bytes_eq-Decides n n).1 refl
 
-among_first : (n : Name) (ns : List Name) → is_among n (n ∷ ns) ≡ true
+pub among_first : (n : Name) (ns : List Name) → is_among n (n ∷ ns) ≡ true
 among_first n ns = ap (λ b. b || is_among n ns) (same_name n)
 
 among_behind : (name n : Name) (ns : List Name) → is_among name ns ≡ true → is_among name (n ∷ ns) ≡ true

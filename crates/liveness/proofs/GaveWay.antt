@@ -9,7 +9,7 @@ use Rattle.thumb_model.specs.Flow.{Way, ways}
 use Rattle.thumb_model.specs.Replaced.{moved, move_label, replaced, replaced_lines}
 use Rattle.thumb_model.specs.Cuts.{AreOps}
 use Rattle.thumb_model.proofs.Lists.{cons_same, length_drop, length_map, take_short}
-use Rattle.thumb_model.proofs.LinesReplaced.{AllOutside, code_replaced}
+use Rattle.thumb_model.proofs.LinesReplaced.{AllOutside, code_replaced, outside_of, ops_of}
 use Rattle.thumb_model.proofs.Moved.{fetch_window}
 use Rattle.liveness.specs.declared.kept.NewSets.{NewSets}
 use Rattle.liveness.specs.Live.{Sets, set_at, IsLive}
@@ -21,19 +21,6 @@ use Rattle.liveness.proofs.FlowLaws.{flow_back}
 use Rattle.liveness.proofs.GivesWay.{GivesWay, gives_way}
 use Rattle.liveness.proofs.Keeping.{alone_reads}
 use Rattle.liveness.proofs.KeptSets.{IsTested, is_live}
-
--- a window's places are instructions
-ops_of : (is : List Instr) (n : ℕ) (ps : List Place) → n ≡ length is → take n ps ≡ map plain is → AreOps n ps
-ops_of [] zero ps e h = tt
-ops_of (i ∷ is) zero ps e h = absurd (omega arith)
-ops_of [] (suc n) ps e h = absurd (omega arith)
-ops_of (i ∷ is) (suc n) [] e h = absurd (cc)
-ops_of (i ∷ is) (suc n) (Op j mention ∷ ps) e h = ops_of is n ps (omega arith) (cc)
-ops_of (i ∷ is) (suc n) (Word w ∷ ps) e h = absurd (cc)
-
-outside_of : (p count : ℕ) (ls : List Label) → ((k : ℕ) (l : Label) → slice_get ls k ≡ Some l → (l.place ≤ p) ⊎ (p + count ≤ l.place)) → AllOutside p count ls
-outside_of p count [] h = tt
-outside_of p count (l ∷ ls) h = (h 0 l refl, outside_of p count ls (λ k m e. h (suc k) m e))
 
 -- lists with the same elements
 same_elements : (xs ys : List Instr) → length xs ≡ length ys → ((k : ℕ) (x : Instr) → slice_get xs k ≡ Some x → slice_get ys k ≡ Some x) → xs ≡ ys

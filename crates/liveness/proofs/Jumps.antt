@@ -107,7 +107,7 @@ leads_told code all p q a h = go (slice_get all q) refl h
 
 -- ---- the last of the jumps to a place ----
 
-same_target : (a b : ℕ) → (let o : Option ℕ = Some a in o) ≡ Some b → a ≡ b
+pub same_target : (a b : ℕ) → (let o : Option ℕ = Some a in o) ≡ Some b → a ≡ b
 same_target a b e = cc
 
 pub target_is : (t u : ℕ) (o : Option ℕ) → Some u ≡ o → Some t ≡ o → t ≡ u

@@ -58,7 +58,7 @@ module _ (p count : ℕ) (old mid : List Items) (within : p + count ≤ length o
 
 -- ---- the sets ----
 
-set_within : (ss : List Items) (q x : ℕ) → has (set_at ss q) x ≡ true → q < length ss
+pub set_within : (ss : List Items) (q x : ℕ) → has (set_at ss q) x ≡ true → q < length ss
 set_within ss q x h =
     elim (cases_lt q (length ss)) [
       | inl l ↦ l

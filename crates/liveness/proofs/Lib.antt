@@ -3,7 +3,7 @@ pub mod FlowLaws
 mod GivesWay
 mod GaveWay
 mod Keeping
-mod KeptSets
+pub mod KeptSets
 mod Replaced
 mod Through
 pub mod Weights

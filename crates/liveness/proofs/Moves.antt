@@ -3,7 +3,7 @@ use Rattle.std.proofs.Common.{◌≡◌, ◌≢◌, ℕ, zero, suc, ◌+◌, ◌
 use Rattle.std.specs.Prelude.{slice_get}
 use Rattle.std.specs.Option.{option_map}
 use Rattle.std.specs.List.{list_all}
-use Rattle.std.proofs.lemmas.Bool.{cases_eq}
+use Rattle.std.proofs.lemmas.Bool.{cases_eq, or_right}
 use Rattle.thumb_instr.specs.declared.instr.Instr.{Instr}
 use Rattle.thumb_instr.specs.declared.instr.Instr.TheVariants as instr
 use Rattle.thumb_instr.specs.Items.{has, sp}
@@ -19,6 +19,8 @@ use Rattle.thumb_model.proofs.Lists.{get_drop, get_take, length_map, take_short,
 use Rattle.thumb_model.proofs.Moved.{IsReplacement, IsOutside, AreNoCalls, fetch_window, fetch_outside, place_moved, points_moved, return_outside, one_of_append}
 use Rattle.thumb_model.proofs.Points.{IsLabelsPlace, label_of_name, label_of_place}
 use Rattle.liveness.specs.Kept.{KeepsAt}
+use Rattle.listing_parser.proofs.ReplaceLemmas.{and_first as and_left}
+use Rattle.listing_parser.proofs.ReadingLemmas.{and_second as and_right}
 
 -- ---- lists ----
 
@@ -53,18 +55,6 @@ drop_whole [] zero e = refl
 drop_whole [] (suc k) e = refl
 drop_whole (x ∷ xs) zero e = absurd (omega arith)
 drop_whole (x ∷ xs) (suc k) e = drop_whole xs k (omega arith)
-
-and_left : (a b : Bool) → (a && b) ≡ true → a ≡ true
-and_left true b e = refl
-and_left false b e = absurd (cc)
-
-and_right : (a b : Bool) → (a && b) ≡ true → b ≡ true
-and_right true b e = e
-and_right false b e = absurd (cc)
-
-or_right : (a b : Bool) → b ≡ true → (a || b) ≡ true
-or_right true b e = refl
-or_right false b e = e
 
 -- ---- rows ----
 

@@ -16,29 +16,17 @@ use Rattle.code_flow.specs.Flow.{way_list, next_of, IsWay, AreWays}
 use Rattle.liveness.specs.Ways.{AreAllWays}
 use Rattle.liveness.specs.Live.{set_at, IsLive}
 use Rattle.liveness.specs.Passes.{there, gained, led, AreSound, AreClosed}
+pub use Rattle.std.proofs.lemmas.Bool.{or_left, or_right}
+use Rattle.listing_parser.proofs.ReplaceLemmas.{and_first as and_left}
+use Rattle.listing_parser.proofs.ReadingLemmas.{and_second as and_right}
 
 pub or_cases : (a b : Bool) → (a || b) ≡ true → (a ≡ true) ⊎ (b ≡ true)
 or_cases true b e = inl refl
 or_cases false b e = inr e
 
-pub and_left : (a b : Bool) → (a && b) ≡ true → a ≡ true
-and_left true b e = refl
-and_left false b e = absurd (cc)
-
-pub and_right : (a b : Bool) → (a && b) ≡ true → b ≡ true
-and_right true b e = e
-and_right false b e = absurd (cc)
-
 pub not_false : (a : Bool) → not a ≡ true → a ≡ false
 not_false true e = absurd (cc)
 not_false false e = refl
-
-pub or_left : (a b : Bool) → a ≡ true → (a || b) ≡ true
-or_left a b e = ap (λ c. c || b) e
-
-pub or_right : (a b : Bool) → b ≡ true → (a || b) ≡ true
-or_right true b e = refl
-or_right false b e = e
 
 -- nothing is in the empty word
 pub has_zero : (x : ℕ) → has 0 x ≡ false
@@ -107,7 +95,7 @@ goes_to code b w s p x AnyPoint h = s.point_read x h
 goes_to code b w s p x Out h = absurd (let z = has_zero x in cc)
 
 -- and back
-comes_from : (code : Code) (b : List Items) (w : ℕ) → AreSound code b w → (p x q : ℕ) (l : Leads) → Follows code p l q → has (set_at b q) x ≡ true → has (there (next_of p l) b w) x ≡ true
+pub comes_from : (code : Code) (b : List Items) (w : ℕ) → AreSound code b w → (p x q : ℕ) (l : Leads) → Follows code p l q → has (set_at b q) x ≡ true → has (there (next_of p l) b w) x ≡ true
 comes_from code b w s p x q Onward f h = subst (λ y. has (set_at b y) x ≡ true) f h
 comes_from code b w s p x q (ToPlace r) f h = subst (λ y. has (set_at b y) x ≡ true) f h
 comes_from code b w s p x q AnyPoint f h = s.point_has q x f h

@@ -22,7 +22,7 @@ use Rattle.liveness.proofs.Visits.{visit_sound, visit_keeps}
 use Rattle.liveness.proofs.Waits.{is_one, few_left}
 
 -- at first no set has an item
-nothing_at : (n p x : ℕ) (s : Items) → has s.bits x ≡ false → has (set_at (replicate n s) p) x ≡ false
+pub nothing_at : (n p x : ℕ) (s : Items) → has s.bits x ≡ false → has (set_at (replicate n s) p) x ≡ false
 nothing_at zero p x s h = has_zero x
 nothing_at (suc n) zero x s h = h
 nothing_at (suc n) (suc p) x s h = nothing_at n p x s h

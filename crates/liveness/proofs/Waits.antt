@@ -11,6 +11,8 @@ use Rattle.code_flow.specs.Points.{marked}
 use Rattle.liveness.specs.Waiting.{count_marked, left, AreWaiting, WaitMore, IsTaken}
 use Rattle.code_flow.proofs.Marking.{set_here, set_else}
 use Rattle.liveness.proofs.Paths.{or_cases, or_left, or_right}
+use Rattle.code_flow.proofs.Reaches.{in_both, marked_within}
+pub use Rattle.code_flow.proofs.Reaches.{is_one, one_is}
 
 -- ---- how many are marked ----
 
@@ -39,30 +41,10 @@ all_marked zero q h = absurd (omega arith)
 all_marked (suc n) zero h = refl
 all_marked (suc n) (suc q) h = all_marked n q (omega arith)
 
-marked_within : (ms : List Bool) (q : ℕ) → marked ms q ≡ true → q < length ms
-marked_within [] q h = absurd (cc)
-marked_within (m ∷ ms) zero h = omega arith
-marked_within (m ∷ ms) (suc q) h = let r = marked_within ms q h in omega arith
-
 -- ---- one place ----
-
-pub is_one : (q p : ℕ) → q ≡ p → one_of q (p ∷ []) ≡ true
-is_one q p e = or_left _ _ (eq-eqb q p e)
-
-pub one_is : (q p : ℕ) → one_of q (p ∷ []) ≡ true → q ≡ p
-one_is q p h = elim (or_cases (q == p) false h) [
-  | inl e ↦ eqb-true q p e
-  | inr e ↦ absurd (cc)
-]
 
 pub not_one : (q p : ℕ) → q ≢ p → one_of q (p ∷ []) ≡ false
 not_one q p d = ap (λ b. b || false) (ne_eqb q p d)
-
-in_both : (q p : ℕ) (xs : List ℕ) → one_of q (xs ++ p ∷ []) ≡ true → (one_of q xs ≡ true) ⊎ (q ≡ p)
-in_both q p xs h = elim (or_cases (one_of q xs) (one_of q (p ∷ [])) (sym (one_of_append q xs (p ∷ [])) ∙ h)) [
-  | inl o ↦ inl o
-  | inr o ↦ inr (one_is q p o)
-]
 
 -- ---- begin and cease ----
 

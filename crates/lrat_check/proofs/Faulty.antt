@@ -18,7 +18,7 @@ signs_differ hints h t = true≢false (sym t.4 ∙ All-contains (λ h. is_negati
 there_or_not : (o : Option (List ℕ)) → IsSome o → o ≡ None → ⊥
 there_or_not o s e = true≢false (sym s ∙ ap (λ (p : Option (List ℕ)). is_some p) e)
 
-deletes_or_dies : (live : ℕ → Option (List ℕ)) (ids : List ℕ) (later : ℕ → Option (List ℕ)) (n place : ℕ) → Deletes live ids later → DeadAt live ids n place → ⊥
+pub deletes_or_dies : (live : ℕ → Option (List ℕ)) (ids : List ℕ) (later : ℕ → Option (List ℕ)) (n place : ℕ) → Deletes live ids later → DeadAt live ids n place → ⊥
 deletes_or_dies live [] later n place d p = p
 deletes_or_dies live (id ∷ ids) later n place d (inl p) = there_or_not (live id) d.0 p.0
 deletes_or_dies live (id ∷ ids) later n place d (inr p) = deletes_or_dies (without live id) ids later (n + 1) place d.1 p.1

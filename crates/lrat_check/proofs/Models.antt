@@ -10,7 +10,7 @@ use Rattle.clause_model.specs.Clauses.{literal_value, code_of, codes_of, Satisfi
 use Rattle.lrat_check.specs.Checking.{State, Starts, HoldsAt, Reached, begun, accepted}
 use Rattle.lrat_check.proofs.Accepted.{accepts_sound}
 
-code_true : (m : ℕ → Bool) (z : ℤ) → number_value m z ≡ true → literal_value m (code_of z) ≡ true
+pub code_true : (m : ℕ → Bool) (z : ℤ) → number_value m z ≡ true → literal_value m (code_of z) ≡ true
 code_true m (pos zero) e = absurd (true≢false (sym e))
 code_true m (pos (suc v)) e = let f : literal_value m (2 * (suc v - 1)) ≡ m v = even v in f ∙ e
   where
@@ -21,7 +21,7 @@ code_true m (negsuc v) e = odd v ∙ e
     odd : (v : ℕ) → literal_value m (2 * v + 1) ≡ not (m v)
     odd v = grind (arith, nat_tests)
 
-clause_true : (m : ℕ → Bool) (clause : List ℤ) → clause_value m clause ≡ true → Satisfies m (map code_of clause)
+pub clause_true : (m : ℕ → Bool) (clause : List ℤ) → clause_value m clause ≡ true → Satisfies m (map code_of clause)
 clause_true m [] e = absurd (true≢false (sym e))
 clause_true m (z ∷ zs) e = elim (either (number_value m z) (clause_value m zs) e) [
   | inl t ↦ (0, code_of z, omega arith, refl, code_true m z t)
@@ -32,7 +32,7 @@ clause_true m (z ∷ zs) e = elim (either (number_value m z) (clause_value m zs)
     either true b e = inl refl
     either false b e = inr e
 
-clauses_true : (m : ℕ → Bool) (clauses : List (List ℤ)) → all_true m clauses ≡ true → All (Satisfies m) (codes_of clauses)
+pub clauses_true : (m : ℕ → Bool) (clauses : List (List ℤ)) → all_true m clauses ≡ true → All (Satisfies m) (codes_of clauses)
 clauses_true m [] e = All-nil (Satisfies m)
 clauses_true m (c ∷ cs) e = let b = both (clause_value m c) (all_true m cs) e in All-cons (Satisfies m) (map code_of c) (codes_of cs) (clause_true m c b.0) (clauses_true m cs b.1)
   where
@@ -40,7 +40,7 @@ clauses_true m (c ∷ cs) e = let b = both (clause_value m c) (all_true m cs) e 
     both true b e = (refl, e)
     both false b e = absurd (true≢false (sym e))
 
-numbered_true : (m : ℕ → Bool) (clauses : List (List ℕ)) → All (Satisfies m) clauses → SatisfiesLive m (numbered clauses)
+pub numbered_true : (m : ℕ → Bool) (clauses : List (List ℕ)) → All (Satisfies m) clauses → SatisfiesLive m (numbered clauses)
 numbered_true m clauses h id = elim (cases_eq id 0) [
   | inl e ↦ rw e tt
   | inr d ↦ let z : nat_eq id 0 ≡ false = grind (arith, nat_tests) in rw z (at (slice_get clauses (id - 1)) refl)

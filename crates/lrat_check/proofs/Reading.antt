@@ -12,10 +12,7 @@ use Rattle.std.proofs.lemmas.List.Sums.{prefix_len_passes}
 use Rattle.lrat_check.specs.Text.{end_word}
 use Rattle.lrat_check.specs.Reading.{words_left}
 use Rattle.lrat_check.proofs.Texts.{All-middle, split_unique}
-
-not_true : (b : Bool) → not b ≡ true → b ≡ false
-not_true true e = sym e
-not_true false e = refl
+use Rattle.clause_model.proofs.Sound.{flip as not_true}
 
 -- a word ends at the first blank, or where the bytes end
 pub split_at_blank : (bytes : List ℕ) (n : ℕ) → n ≡ position_or_len (λ b. eqb b 32) bytes → n < length bytes → slice_split (λ b. eqb b 32) bytes ≡ take n bytes ∷ slice_split (λ b. eqb b 32) (take (length bytes - (n + 1)) (drop (n + 1) bytes))

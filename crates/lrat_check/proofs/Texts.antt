@@ -34,17 +34,17 @@ split-join x (y ∷ words) h =
 
 -- ---- numerals
 
-own : IsNumeralModel (λ ds. all_ascii_digits ds ≡ true) (digits_value 10)
+pub own : IsNumeralModel (λ ds. all_ascii_digits ds ≡ true) (digits_value 10)
 own = numerals_by_value (λ ds. all_ascii_digits ds ≡ true) tells_all_ascii_digits
 
 both : (a b : Bool) → (a && b) ≡ true → (a ≡ true) × (b ≡ true)
 both true b e = (refl, e)
 both false b e = absurd (true≢false (sym e))
 
-digit_no_blank : (d : ℕ) → is_ascii_digit d ≡ true → eqb d 32 ≡ false
+pub digit_no_blank : (d : ℕ) → is_ascii_digit d ≡ true → eqb d 32 ≡ false
 digit_no_blank d e = grind arith
 
-digits_no_blank : (ds : List ℕ) → all_ascii_digits ds ≡ true → HasNoBlank ds
+pub digits_no_blank : (ds : List ℕ) → all_ascii_digits ds ≡ true → HasNoBlank ds
 digits_no_blank [] e = All-nil (λ b. eqb b 32 ≡ false)
 digits_no_blank (d ∷ ds) e = let b = both (is_ascii_digit d) (all_ascii_digits ds) e in All-cons (λ b. eqb b 32 ≡ false) d ds (digit_no_blank d b.0) (digits_no_blank ds b.1)
 

@@ -72,14 +72,14 @@ kept_drop (true ∷ gs) (x ∷ ps) (suc p) y m g h = kept_drop gs ps p y (omega 
 kept_drop (false ∷ gs) (x ∷ ps) (suc p) y m g h = ap (λ l. x ∷ l) (kept_drop gs ps p y (omega arith) g (omega arith))
 
 -- the places behind it then are one less
-rank_drop : (gone : List Bool) (p q : ℕ) → p < length gone → is_gone gone p ≡ false → rank (set gone p true) q ≡ moved (rank gone p) 1 (rank gone q)
+pub rank_drop : (gone : List Bool) (p q : ℕ) → p < length gone → is_gone gone p ≡ false → rank (set gone p true) q ≡ moved (rank gone p) 1 (rank gone q)
 rank_drop gone p q m g = elim (cases_lt p q) [
   | inl l ↦ let b = rank_set_behind gone p q m g l in let a = ranks_ascend gone p q g l in omega arith
   | inr l ↦ let b = rank_set_before gone p q l in let a = ranks_grow gone q p l in omega arith
 ]
 
 -- a nop still stands where a place is gone
-nops_put : (gone : List Bool) (ps : List Place) (p : ℕ) (y : Place) → is_gone gone p ≡ false → AreNops gone ps → AreNops gone (set ps p y)
+pub nops_put : (gone : List Bool) (ps : List Place) (p : ℕ) (y : Place) → is_gone gone p ≡ false → AreNops gone ps → AreNops gone (set ps p y)
 nops_put gone ps p y g n q t =
     elim (cases_eq q p) [
       | inl e ↦ absurd (let f : is_gone gone q ≡ false = ap (is_gone gone) e ∙ g in cc)
@@ -142,10 +142,10 @@ places_exchanged (p ∷ ps) (i ∷ is) gone places r n e l a =
     ∙ put_and_rest (plain i) (map plain is) r (length ps) n (kept gone places) (omega arith)
 
 -- a place outside the window moves as the replacement moves it
-move_step : (r m a b : ℕ) → b ≡ moved r 1 a → moved r m b ≡ moved r (suc m) a
+pub move_step : (r m a b : ℕ) → b ≡ moved r 1 a → moved r m b ≡ moved r (suc m) a
 move_step r m a b e = omega arith
 
-move_same : (r m k a : ℕ) → (a ≤ r) ⊎ (suc r + m ≤ a) → moved (suc r) (m - k) a ≡ moved r (suc m - suc k) a
+pub move_same : (r m k a : ℕ) → (a ≤ r) ⊎ (suc r + m ≤ a) → moved (suc r) (m - k) a ≡ moved r (suc m - suc k) a
 move_same r m k a (inl h) = omega arith
 move_same r m k a (inr h) = omega arith
 

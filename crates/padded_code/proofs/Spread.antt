@@ -17,7 +17,7 @@ use Rattle.padded_code.specs.Exchange.{places_after, exchanged}
 use Rattle.padded_code.specs.Windows.{AreRanked}
 use Rattle.padded_code.specs.Spread.{first_of, others_of, spread, last_of}
 use Rattle.padded_code.proofs.Kept.{AreNops}
-use Rattle.padded_code.proofs.Exchanged.{get_set, get_other}
+use Rattle.padded_code.proofs.Exchanged.{get_set, get_other, nops_put as still_nops}
 
 -- ---- what is read and written ----
 
@@ -67,7 +67,7 @@ spread_straight from (p ∷ ps) (i ∷ is) h =
 
 -- ---- lengths ----
 
-length_nops : (n : ℕ) → length (nops n) ≡ n
+pub length_nops : (n : ℕ) → length (nops n) ≡ n
 length_nops zero = refl
 length_nops (suc n) = ap suc (length_nops n)
 
@@ -164,10 +164,6 @@ stood gone places from r (p ∷ ps) (i ∷ is) n e a h =
     let s : rank gone from ≡ rank gone p = e ∙ sym a.2 in
     stand_from gone places from p i (spread (suc p) ps is) (λ k x y. n k (gone_between gone from p k s x y)) (not_before gone from p a.1 s) at.0
     (stood gone places (suc p) (suc r) ps is n (rank_kept gone p a.1 ∙ ap suc a.2) a.3 at.1)
-
--- a nop still stands where a place is gone
-still_nops : (gone : List Bool) (places : List Place) (p : ℕ) (y : Place) → is_gone gone p ≡ false → AreNops gone places → AreNops gone (set places p y)
-still_nops gone places p y k n q t = get_other places p q y (λ e. absurd (let f : is_gone gone q ≡ false = ap (is_gone gone) e ∙ k in cc)) ∙ n q t
 
 -- an instruction was put at p, and those behind it stand
 stands_one : (gone : List Bool) (places : List Place) (from r p : ℕ) (i : Instr) (ps : List ℕ) (is : List Instr) → length gone ≡ length places → AreNops gone places → rank gone from ≡ r → AreRanked gone r (p ∷ ps) →

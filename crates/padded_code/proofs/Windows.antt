@@ -13,7 +13,7 @@ use Rattle.kept_places.specs.Marks.{is_gone, rank}
 use Rattle.padded_code.specs.Padding.{nop, kept, IsPadded}
 use Rattle.padded_code.specs.Windows.{AreRanked}
 use Rattle.thumb_model.proofs.Lists.{present_at}
-use Rattle.rule_model.proofs.Table.{live_there}
+use Rattle.rule_model.proofs.Table.{live_there, one_way}
 use Rattle.padded_code.proofs.Padded.{nop_way, place_kept, live_alike}
 
 taken : (gone : List Bool) (ps : List Place) (r : ℕ) → r < length (kept gone ps) → (p : ℕ) × (p < length ps) × (is_gone gone p ≡ false) × (rank gone p ≡ r)
@@ -81,10 +81,6 @@ windows_stand gone padded code s m r (p ∷ ps) a =
     ∙ ap (λ l. slice_get padded.places p ∷ l) (windows_stand gone padded code s m (suc r) ps a.3)
 
 -- ---- live behind ----
-
-one_way : (aim : Option ℕ) (i : Instr) → is_in_window i ≡ true → ways_of aim i ≡ way (uses_of i) (writes_of i) Onward ∷ []
-one_way aim (instr.Mov d m) h = refl
-one_way aim i h = cc
 
 only_way : (v : Way) (k : ℕ) (w : Way) → slice_get (let l : List Way = v ∷ [] in l) k ≡ Some w → v ≡ w
 only_way v zero w e = same_Some v w e

@@ -25,6 +25,7 @@ use Rattle.proof_logs.specs.Checked.{known_of}
 use Rattle.proof_logs.proofs.Turns.{drop_got, then_passed}
 use Rattle.proof_logs.proofs.Determined.{lines_one}
 use Rattle.proof_logs.proofs.Additions.{additions_more}
+use Rattle.lrat_check.proofs.Faulty.{deletes_or_dies}
 
 pub same_known : (a b : Known) → ((id : ℕ) → a.live id ≡ b.live id) → a.last ≡ b.last → a ≡ b
 same_known a b h e = let f : a.live ≡ b.live = fun_ext h in λ i. record { live = f i; last = e i }
@@ -54,11 +55,6 @@ led_known old new (deletion id ids) a = same_known _ _ (left_all (live_at old) i
 pub led_accepts : (old new : State) (content : Content) → Leads old content new → Accepts (known_of old) content
 led_accepts old new (addition id literals hints) a = record { later = a.later; no_minus = a.no_minus; follows = a.follows }
 led_accepts old new (deletion id ids) a = deletes_all (live_at old) ids (live_at new) a.live
-
-deletes_or_dies : (live : ℕ → Option (List ℕ)) (ids : List ℕ) (later : ℕ → Option (List ℕ)) (n place : ℕ) → Deletes live ids later → DeadAt live ids n place → ⊥
-deletes_or_dies live [] later n place d p = p
-deletes_or_dies live (id ∷ ids) later n place d (inl p) = true≢false (sym d.0 ∙ ap (λ (o : Option (List ℕ)). is_some o) p.0)
-deletes_or_dies live (id ∷ ids) later n place d (inr p) = deletes_or_dies (without live id) ids later (n + 1) place d.1 p.1
 
 -- the literals of an added clause have distinct variables
 abbrev pub IsDistinct : Content → Type 0
@@ -99,7 +95,7 @@ pub passed_accepted : {F : Type 0} (fault : ℕ → F) (known : Known) (n : ℕ)
 passed_accepted fault known n [] p = tt
 passed_accepted fault known n (line ∷ lines) p = (p.0, passed_accepted fault (after_line known line) (n + 1) lines p.1)
 
-accepted_passed : {F : Type 0} (fault : ℕ → F) (known : Known) (n : ℕ) (lines : List Content) → AllAccepted known lines → LinesVerdict fault known n lines None
+pub accepted_passed : {F : Type 0} (fault : ℕ → F) (known : Known) (n : ℕ) (lines : List Content) → AllAccepted known lines → LinesVerdict fault known n lines None
 accepted_passed fault known n [] p = tt
 accepted_passed fault known n (line ∷ lines) p = (p.0, accepted_passed fault (after_line known line) (n + 1) lines p.1)
 

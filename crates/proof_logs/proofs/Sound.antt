@@ -13,46 +13,7 @@ use Rattle.lrat_check.specs.Text.{Content, addition, deletion}
 use Rattle.lrat_check.proofs.Accepted.{deleted_live}
 use Rattle.proof_logs.specs.Proofs.{Known, started, with_clause, without_all, after_line, AllAccepted, additions, HasEmpty, ProofVerdict}
 use Rattle.proof_logs.proofs.Checks.{passed_accepted}
-
-code_true : (m : ℕ → Bool) (z : ℤ) → number_value m z ≡ true → literal_value m (code_of z) ≡ true
-code_true m (pos zero) e = absurd (true≢false (sym e))
-code_true m (pos (suc v)) e = let f : literal_value m (2 * (suc v - 1)) ≡ m v = even v in f ∙ e
-  where
-    even : (v : ℕ) → literal_value m (2 * (suc v - 1)) ≡ m v
-    even v = grind (arith, nat_tests)
-code_true m (negsuc v) e = odd v ∙ e
-  where
-    odd : (v : ℕ) → literal_value m (2 * v + 1) ≡ not (m v)
-    odd v = grind (arith, nat_tests)
-
-clause_true : (m : ℕ → Bool) (clause : List ℤ) → clause_value m clause ≡ true → Satisfies m (map code_of clause)
-clause_true m [] e = absurd (true≢false (sym e))
-clause_true m (z ∷ zs) e = elim (either (number_value m z) (clause_value m zs) e) [
-  | inl t ↦ (0, code_of z, omega arith, refl, code_true m z t)
-  | inr t ↦ let s = clause_true m zs t in (suc s.0, s.1, omega (arith, s.2), s.3, s.4)
-]
-  where
-    either : (a b : Bool) → (a || b) ≡ true → (a ≡ true) ⊎ (b ≡ true)
-    either true b e = inl refl
-    either false b e = inr e
-
-clauses_true : (m : ℕ → Bool) (clauses : List (List ℤ)) → all_true m clauses ≡ true → All (Satisfies m) (codes_of clauses)
-clauses_true m [] e = All-nil (Satisfies m)
-clauses_true m (c ∷ cs) e = let b = both (clause_value m c) (all_true m cs) e in All-cons (Satisfies m) (map code_of c) (codes_of cs) (clause_true m c b.0) (clauses_true m cs b.1)
-  where
-    both : (a b : Bool) → (a && b) ≡ true → (a ≡ true) × (b ≡ true)
-    both true b e = (refl, e)
-    both false b e = absurd (true≢false (sym e))
-
-numbered_true : (m : ℕ → Bool) (clauses : List (List ℕ)) → All (Satisfies m) clauses → SatisfiesLive m (numbered clauses)
-numbered_true m clauses h id = elim (cases_eq id 0) [
-  | inl e ↦ rw e tt
-  | inr d ↦ let z : nat_eq id 0 ≡ false = grind (arith, nat_tests) in rw z (at (slice_get clauses (id - 1)) refl)
-]
-  where
-    at : (o : Option (List ℕ)) → slice_get clauses (id - 1) ≡ o → IfSome o (Satisfies m)
-    at None e = tt
-    at (Some c) e = subst (Satisfies m) (get_or_from_slice_get clauses (id - 1) c c e) (h (id - 1) c (slice_get_within clauses (id - 1) c e))
+use Rattle.lrat_check.proofs.Models.{numbered_true, clauses_true, clause_true, code_true}
 
 with_true : (m : ℕ → Bool) (live : ℕ → Option (List ℕ)) (id : ℕ) (clause : List ℕ) → Satisfies m clause → SatisfiesLive m live → SatisfiesLive m (with_clause live id clause)
 with_true m live id clause s h q = elim (cases_eq q id) [

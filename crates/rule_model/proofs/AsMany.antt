@@ -6,7 +6,7 @@ use Rattle.thumb_model.specs.Listing.{Name, Value, Statement, Runs, Words, Line,
 use Rattle.thumb_model.specs.Replaced.{moved, move_label, replaced, is_op, without, labels_kept, new_line, replaced_lines}
 use Rattle.thumb_model.specs.Cuts.{AreOps}
 use Rattle.thumb_model.proofs.Lists.{length_map, drop_back, cons_same}
-use Rattle.thumb_model.proofs.LinesReplaced.{AllOutside, all_back, no_names, places_replaced, code_replaced}
+use Rattle.thumb_model.proofs.LinesReplaced.{AllOutside, all_back, no_names, places_replaced, code_replaced, new_labels, kept_labels, past_words}
 
 -- ---- behind the first instruction that goes ----
 
@@ -36,20 +36,6 @@ labels_without p count (suc n) (l ∷ ls) q r a b c out ops =
     without_step p count n l l.statement ls refl (λ q r a b c out ops. labels_without p count n ls q r a b c out ops) (λ q r a b c out ops. labels_without p count (suc n) ls q r a b c out ops) q r a b c out ops
 
 -- ---- all lines ----
-
-kept_labels : (l : Line) (ns : List Name) (q : ℕ) (ls : List Line) → labels_from q (labels_kept l ns ++ ls) ≡ labels_at q ns ++ labels_from q ls
-kept_labels l [] q ls = refl
-kept_labels l (n ∷ ns) q ls = ap (λ r. labels_at q (n ∷ ns) ++ labels_from r ls) (let e : q + 0 ≡ q = omega arith in e)
-
-new_labels : (write : Instr → List ℕ) (is : List Instr) (q r : ℕ) (ls : List Line) → r ≡ q + length is → labels_from q (map (new_line write) is ++ ls) ≡ labels_from r ls
-new_labels write [] q r ls e = ap (λ x. labels_from x ls) (let f : q ≡ r = omega arith in f)
-new_labels write (i ∷ is) q r ls e = new_labels write is (q + 1) r ls (omega arith)
-
--- a word of data isn't an instruction
-past_words : (ws : List Value) (ps : List Place) (p n : ℕ) → AreOps (suc n) (drop p (map Word ws ++ ps)) → length ws ≤ p
-past_words [] ps p n h = omega arith
-past_words (w ∷ ws) ps zero n h = absurd h
-past_words (w ∷ ws) ps (suc p) n h = let r = past_words ws ps p n h in omega arith
 
 LabelsRec : (Instr → List ℕ) → ℕ → ℕ → List Instr → List Line → Type 0
 LabelsRec write at n is ls = (q p : ℕ) → at ≡ q + p → AllOutside at (suc n) (labels_from q ls) → AreOps (suc n) (drop p (places_of ls)) → labels_from q (replaced_lines write p (suc n) is ls) ≡ labels_from q ls

@@ -16,6 +16,7 @@ use Rattle.thumb_model.proofs.Lists.{get_drop, get_take, length_map, take_all, t
 use Rattle.thumb_model.proofs.Moved.{IsReplacement, AreNoCalls}
 use Rattle.thumb_model.proofs.Window.{StandsAt, AreStraight, sides_agree, normal_in_window, normal_after}
 use Rattle.thumb_model.proofs.Follow.{IsSound, stands_from, Keeps, replaced_keeps}
+use Rattle.thumb_model.proofs.Small.{below_more as below_wider}
 
 straight : (registers : List Low) (k : ℕ) (is : List Instr) → AreOver k is → AreStraight (map (renamed registers) is)
 straight registers k [] h = tt
@@ -31,7 +32,7 @@ straight_window (i ∷ is) (j ∷ js) e h =
     (sym (normal_in_window i) ∙ ap is_in_window here ∙ h.0, straight_window is js there h.1)
 
 -- a row: what may stand in a window goes on alone
-one_way : (aim : Option ℕ) (i : Instr) → is_in_window i ≡ true → ways_of aim i ≡ way (uses_of i) (writes_of i) Onward ∷ []
+pub one_way : (aim : Option ℕ) (i : Instr) → is_in_window i ≡ true → ways_of aim i ≡ way (uses_of i) (writes_of i) Onward ∷ []
 one_way aim (instr.Mov d m) h = refl
 one_way aim i h = cc
 
@@ -60,11 +61,6 @@ no_calls (i ∷ is) h = (no_call i h.0, no_calls is h.1)
 -- the window has as many instructions as the left side
 pub window_length : (rule : Rule) (registers : List Low) (code : Code) (p : ℕ) → (a : Applies rule registers code p) → length a.window ≡ length rule.left
 window_length rule registers code p a = sym (length_map normalised a.window) ∙ ap length a.matches ∙ length_map (renamed registers) rule.left
-
--- what names registers below a count does so below a greater one
-below_wider : (j k : ℕ) (xs : List ℕ) → j ≤ k → AreBelow j xs → AreBelow k xs
-below_wider j k [] l h = tt
-below_wider j k (x ∷ xs) l h = (omega (arith, h.0), below_wider j k xs l h.1)
 
 pub over_wider : (j k : ℕ) (is : List Instr) → j ≤ k → AreOver j is → AreOver k is
 over_wider j k [] l h = tt

@@ -13,6 +13,7 @@ use Rattle.thumb_instr.proofs.RenamingLemmas.{named_renamed, named_low}
 use Rattle.rule_table.specs.Canonical.{has, with_first, firsts, name_in, numbers_of}
 use Rattle.rule_table.proofs.Orders.{name_stands, has_firsts}
 use Rattle.rule_table.proofs.Renamings.{AllNamed, ComesBack, renamed_back}
+use Rattle.seq_enum.proofs.CostReading.{itself as eqb_same}
 
 abbrev pub eight : List ℕ
 eight = 0 ∷ 1 ∷ 2 ∷ 3 ∷ 4 ∷ 5 ∷ 6 ∷ 7 ∷ []
@@ -127,10 +128,6 @@ all_below registers names are (i ∷ is) w k =
     below_both (length registers) (named (renamed names i)) (flat_map named (map (renamed names) is))
     (subst (AreBelow (length registers)) (sym (named_renamed names i both.0)) first)
     (all_below registers names are is both.1 split.1)
-
--- each register that is named appears
-eqb_same : (n : ℕ) → (n == n) ≡ true
-eqb_same n = eq-eqb n n refl
 
 has_itself : (seen : List ℕ) (r : ℕ) → has (with_first seen r) r ≡ true
 has_itself seen r = by (has seen r) refl

@@ -3,7 +3,7 @@ use Rattle.std.proofs.Common.{◌≡◌, ℕ, suc, ◌+◌, ◌-◌, ◌<◌, �
 use Rattle.std.specs.List.{flat_map, All}
 use Rattle.std.specs.Option.{option_map}
 use Rattle.std.proofs.Math.Seq.{take-append_seam}
-use Rattle.std.proofs.lemmas.Bool.{and_parts, cases_Bool}
+use Rattle.std.proofs.lemmas.Bool.{and_parts, cases_Bool, true_from_ne_false as unopened}
 use Rattle.std.proofs.lemmas.Nat.Bits.{bit_at-zero}
 use Rattle.std.specs.Prelude.{◌==◌, ◌⊎◌, if◌then◌else◌, IfSome, IsSome, is_some, None, Option, replicate}
 use Rattle.std.proofs.lemmas.Option.{cond_some, same_Some, option_and_then_some}
@@ -784,10 +784,6 @@ no_mask x h = absurd (let k = bit_at-zero x in let bad : (0 == 1) ≡ true = rw 
 from_some : (t : Table) (ls rs : List Instr) → Fine (Sided t ls rs) → 0 < length ls → Opens (written (Sided t ls rs))
 unfolding step
 from_some t ls rs f some = by_step (Sided t ls rs) (Mask 0) (Masked t ls rs 0) f no_mask (rw (lt-ltb 0 (length ls) some) refl) (from_masked t ls rs 0)
-
-unopened : (b : Bool) → (b ≡ false → ⊥) → b ≡ true
-unopened true h = refl
-unopened false h = absurd (h refl)
 
 from_sided : (t : Table) (ls rs : List Instr) → Fine (Sided t ls rs) → Opens (written (Sided t ls rs))
 unfolding step Fine

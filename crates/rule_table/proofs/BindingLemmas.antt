@@ -11,7 +11,7 @@ use Rattle.rule_table.specs.Binding.{given_at, IsOneToOne, Agrees, Binds, Clashe
 
 -- ---- one register more
 
-set_here : {A : Type 0} (xs : List A) (p : ℕ) (x : A) → p < length xs → slice_get (slice_set xs p x) p ≡ Some x
+pub set_here : {A : Type 0} (xs : List A) (p : ℕ) (x : A) → p < length xs → slice_get (slice_set xs p x) p ≡ Some x
 set_here [] p x h = absurd (omega arith)
 set_here (y ∷ xs) zero x h = refl
 set_here (y ∷ xs) (suc p) x h = set_here xs p x (omega arith)

@@ -20,6 +20,7 @@ use Rattle.lrat_check.specs.Numbers.{IsId, IsHint}
 use Rattle.lrat_check.proofs.Numerals.{hint_fits, literal_fits}
 use Rattle.window_exec.specs.State.{Seen}
 use Rattle.rule_table.specs.Text.{hex_digit, hex_of, after_blanks, named}
+use Rattle.lrat_check.proofs.Texts.{own}
 
 abbrev pub IsInside : List ℕ → Type 0
 IsInside bs = list_all is_inside bs ≡ true
@@ -28,9 +29,6 @@ pub inside_both : (xs ys : List ℕ) → IsInside xs → IsInside ys → IsInsid
 inside_both xs ys a b = list_all-append is_inside xs ys ∙ and_from (list_all is_inside xs) (list_all is_inside ys) a b
 
 -- ---- numbers
-
-own : IsNumeralModel (λ ds. all_ascii_digits ds ≡ true) (digits_value 10)
-own = numerals_by_value (λ ds. all_ascii_digits ds ≡ true) tells_all_ascii_digits
 
 pub decimal_digits : (n : ℕ) → n < 2 ^ 64 → all_ascii_digits (decimal n) ≡ true
 decimal_digits n h = digits_decimal own n h

@@ -10,19 +10,10 @@ use Rattle.std.proofs.lemmas.List.Elements.{All-nil, All-cons, All-head, All-tai
 use Rattle.std.proofs.lemmas.List.Splits.{slice_split_none, slice_split_at, length-slice_split, join_with_byte-slice_split}
 use Rattle.seq_enum.specs.Alphabet.{is_pool, inside}
 use Rattle.seq_enum.specs.Costs.{AreCosts}
-use Rattle.lrat_check.proofs.Texts.{map-injective, HasNoBlank}
+use Rattle.lrat_check.proofs.Texts.{map-injective, HasNoBlank, digits_no_blank, digit_no_blank}
 use Rattle.rule_table.specs.Text.{after_blanks}
 use Rattle.rule_table.specs.Words.{AreBytes, AreWords}
 use Rattle.rule_table.proofs.InsideLines.{IsInside, blanks_inside, decimal_digits, decimal_inside}
-
-digit_no_blank : (d : ℕ) → is_ascii_digit d ≡ true → eqb d 32 ≡ false
-digit_no_blank d e = grind arith
-
-digits_no_blank : (ds : List ℕ) → all_ascii_digits ds ≡ true → HasNoBlank ds
-digits_no_blank [] e = All-nil (λ b. eqb b 32 ≡ false)
-digits_no_blank (d ∷ ds) e =
-    let b = and_parts (is_ascii_digit d) (all_ascii_digits ds) e in
-    All-cons (λ b. eqb b 32 ≡ false) d ds (digit_no_blank d b.0) (digits_no_blank ds b.1)
 
 -- numbers of 64 bits
 abbrev pub IsShort : ℕ → Type 0
@@ -103,7 +94,7 @@ made_list P each bs numbers (Some p) bytes e made = (subst P (sym made.0) made.1
 
 -- ---- pools
 
-inside_most : (n : ℕ) → inside 0 256 n ≡ true → n ≤ 255
+pub inside_most : (n : ℕ) → inside 0 256 n ≡ true → n ≤ 255
 inside_most n e = grind arith
 
 pub pool_bytes : (ns : List ℕ) → is_pool ns ≡ true → AreBytes ns

@@ -14,6 +14,7 @@ use Rattle.rule_table.specs.Text.{mask_rows, mask_text}
 use Rattle.rule_table.specs.Table.{IsMask}
 use Rattle.rule_table.specs.Fronts.{strip, left_of, is_taken, and_taken, taken}
 use Rattle.rule_table.proofs.FrontLemmas.{strip_front, strip_sound}
+use Rattle.cnf_gates.proofs.Tables.{or_assoc as or_later}
 
 -- the texts of those rows whose items are wanted
 abbrev pub row_texts : (ℕ → Bool) → List (ℕ × List ℕ) → List ℕ
@@ -224,10 +225,6 @@ pub not_mask : (m : ℕ) (bs : List ℕ) → mask_text m ≡ bs → (taken mask_
 not_mask m bs e = ap (λ us. (taken mask_rows us).1) (sym e) ∙ ap (λ (p : List ℕ × List ℕ). p.1) (taken_mask m)
 
 -- ---- one row after the other
-
-or_later : (a b c : Bool) → (a || (b || c)) ≡ ((a || b) || c)
-or_later true b c = refl
-or_later false b c = refl
 
 taken_more : (r : ℕ × List ℕ) (rs : List (ℕ × List ℕ)) (bs : List ℕ) (x : ℕ)
     → (one_of x (taken (r ∷ rs) bs).0 ≡ (is_taken r.0 (strip r.1 bs) x || one_of x (taken rs (left_of bs (strip r.1 bs))).0)) × ((taken (r ∷ rs) bs).1 ≡ (taken rs (left_of bs (strip r.1 bs))).1)

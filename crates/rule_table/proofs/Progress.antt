@@ -27,6 +27,7 @@ use Rattle.rule_table.proofs.Beginnings.{Opens, read_opens, read_whole}
 use Rattle.rule_table.proofs.HexTexts.{same_front}
 use Rattle.rule_table.proofs.InsideLines.{IsInside}
 use Rattle.rule_table.proofs.LinesTell.{line_inside, lines_tell}
+use Rattle.seq_enum.proofs.EndedLines.{open_content, whole_open}
 
 -- ---- lines with their newlines
 
@@ -51,14 +52,6 @@ content_ended (b ∷ t) h = elim (cases_Bool (b == 10)) [
 is_ended_last : (t : List ℕ) → is_ended (t ++ 10 ∷ []) ≡ true
 is_ended_last [] = refl
 is_ended_last (b ∷ t) = elim (cases_Bool (b == 10)) [ inl e ↦ rw e refl | inr e ↦ rw e (is_ended_last t) ]
-
--- what isn't ended is its own content
-open_content : (l : List ℕ) → is_ended l ≡ false → content_of l ≡ l
-open_content [] h = refl
-open_content (b ∷ l) h = elim (cases_Bool (b == 10)) [
-  | inl e ↦ absurd (true≢false (rw e at h))
-  | inr e ↦ rw e (ap (λ us. b ∷ us) (open_content l (rw e at h)))
-]
 
 pub lines_items : (is : List Item) → All IsItem is → lines_of (text_of_items is) ≡ map ended is
 lines_items [] all = lines_nil
@@ -230,9 +223,6 @@ next_run is i s e = run-append Start is (i ∷ []) ∙ ap (option_and_then (λ u
 
 whole_ended : (p : Placed) → p.is_ended ≡ true → whole p ≡ p.text ++ 10 ∷ []
 whole_ended p e = rw e refl
-
-whole_open : (p : Placed) → p.is_ended ≡ false → whole p ≡ p.text
-whole_open p e = rw e refl
 
 pub more : (bytes : List ℕ) (p : Placed) (left : List Placed) (s t : Stage) (n : ℕ) → Progress bytes (p ∷ left) s n → Follows s p t → Progress bytes left t (n + 1)
 more bytes p left s t n g f = record {

@@ -7,6 +7,7 @@ use Rattle.std.proofs.lemmas.Option.{slice_get_past, same_Some}
 use Rattle.seq_enum.specs.Alphabet.{numbers_from, ascends_from, IsPlace}
 use Rattle.seq_enum.specs.Places.{place_of}
 use Rattle.seq_enum.proofs.Numbered.{length-numbers, numbers_at, number_here, number_past, get_front, get_back}
+pub use Rattle.ascii_scan.proofs.NumeralLemmas.{both}
 
 -- the first k numbers, and the same without one
 abbrev pub firsts : ℕ → List ℕ
@@ -96,11 +97,6 @@ others_above k d i h low high =
 
 pub others_past : (k d i : ℕ) → d < k → k ≤ i + 1 → slice_get (firsts_but k d) i ≡ None
 others_past k d i h past = slice_get_past (firsts_but k d) i (omega (arith, length-others k d h))
-
--- ascending lists
-pub both : (a b : Bool) → (a && b) ≡ true → (a ≡ true) × (b ≡ true)
-both true b e = (refl, e)
-both false b e = cc
 
 pub ascends_lower : (low m : ℕ) (xs : List ℕ) → low ≤ m → ascends_from m xs ≡ true → ascends_from low xs ≡ true
 unfolding ascends_from

@@ -123,7 +123,7 @@ costs_said-append (x ∷ xs) ys m = elim (cases_Bool (x.mnemonic == m)) [
   | inr e ↦ rw e (costs_said-append xs ys m)
 ]
 
-itself : (n : ℕ) → (n == n) ≡ true
+pub itself : (n : ℕ) → (n == n) ≡ true
 itself n = grind arith
 
 own_cost : (s : Said) (rest : List Said) → costs_said (s ∷ rest) s.mnemonic ≡ s.cost ∷ costs_said rest s.mnemonic

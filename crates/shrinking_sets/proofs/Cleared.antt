@@ -19,7 +19,7 @@ use Rattle.shrinking_sets.proofs.Exchange.{Runs, old_runs, new_runs, apart_or, w
 abbrev pub Through : List Instr → ℕ → Type 0 → Type 0
 Through is x A = (reads_first is x ≡ true) ⊎ ((writes_in is x ≡ false) × A)
 
-passing : (a b : Bool) → a ≡ true → b ≡ false → (a && not b) ≡ true
+pub passing : (a b : Bool) → a ≡ true → b ≡ false → (a && not b) ≡ true
 passing true false e f = refl
 passing true true e f = absurd (cc)
 passing false b e f = absurd (cc)

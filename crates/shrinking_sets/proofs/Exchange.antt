@@ -20,7 +20,7 @@ use Rattle.shrinking_sets.specs.Marks.{Passes}
 -- ---- straight code ----
 
 -- a row: a straight instruction goes to the next place alone
-straight_way : (o : Option ℕ) (i : Instr) → is_straight i ≡ true → ways_of o i ≡ way (uses_of i) (writes_of i) Onward ∷ []
+pub straight_way : (o : Option ℕ) (i : Instr) → is_straight i ≡ true → ways_of o i ≡ way (uses_of i) (writes_of i) Onward ∷ []
 straight_way o (instr.Bx m) h = absurd (cc)
 straight_way o (instr.Blx m) h = absurd (cc)
 straight_way o (instr.Pop l) h = go (has l.number 8) h

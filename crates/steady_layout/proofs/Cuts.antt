@@ -11,6 +11,7 @@ use Rattle.thumb_model.proofs.Lists.{drop_back, length_map}
 use Rattle.steady_layout.specs.declared.starts.Start.{Start}
 use Rattle.steady_layout.specs.Steady.{most_of, ends_aligned, steady_at}
 use Rattle.steady_layout.proofs.Walks.{Sizes, after, look, ending, steady_by, ends_within}
+use Rattle.thumb_model.proofs.Cuts.{without_none as inner_end, without_none as left_out}
 
 abbrev pub most : Sizes
 most s at = most_of s
@@ -111,10 +112,6 @@ pub record IsInner (n : ℕ) (ls : List Line) : Type 0 where
   pub bytes : total old ≡ total new + 2 * n
   pub aligned : (x y : Bool) → (x ≡ true → y ≡ true) → flags x old ≡ true → flags y new ≡ true
   pub sets : (name : Name) (ms : List Line) → set_address name (old ++ ms) ≡ set_address name (new ++ ms)
-
-inner_end : (ls : List Line) → without 0 ls ≡ ls
-inner_end [] = refl
-inner_end (l ∷ ls) = refl
 
 inner_none : (ls : List Line) → IsInner 0 ls
 inner_none ls = record { old = []; new = []; back = ls; is_old = refl; is_new = inner_end ls; bare_old = tt; bare_new = tt; bytes = refl; aligned = λ x y h e. h e; sets = λ name ms. refl }
@@ -310,10 +307,6 @@ cut write at n is short twos (l ∷ ls) q p e out h = cut_step write at n q p is
 -- of one that surely ends at a multiple of 4 so does what stands before it
 begins_aligned : (x : Bool) (i : Instr) (m : Option Mention) → ends_aligned x (Runs i m) ≡ true → x ≡ true
 begins_aligned x i m h = (and_parts x (instr_size i == 4) h).0
-
-left_out : (ls : List Line) → without 0 ls ≡ ls
-left_out [] = refl
-left_out (l ∷ ls) = refl
 
 cut_head : (write : Instr → List ℕ) (l : Line) (i : Instr) (m : Option Mention) (ls : List Line) → l.statement ≡ Runs i m → IsCut (l ∷ ls) (labels_kept l l.names ++ (map (new_line write) [] ++ without (1 - 1) ls))
 cut_head write l i m ls e = record {

@@ -71,7 +71,7 @@ normals_under registers (i ∷ is) h =
 
 -- ---- registers ----
 
-names_under : (registers : List Low) (is : List Instr) → list_all is_in_window is ≡ true → flat_map named (map (renamed registers) is) ≡ map (item_under registers) (flat_map named is)
+pub names_under : (registers : List Low) (is : List Instr) → list_all is_in_window is ≡ true → flat_map named (map (renamed registers) is) ≡ map (item_under registers) (flat_map named is)
 names_under registers [] w = refl
 names_under registers (i ∷ is) w =
     let both = and_parts (is_in_window i) (list_all is_in_window is) w in

@@ -12,6 +12,7 @@ use Rattle.rule_table.specs.Canonical.{has, with_first, firsts, appearing}
 use Rattle.table_audit.specs.Shorter.{named_count, IsCanonicalSide}
 use Rattle.table_audit.specs.Soundness.{items_in}
 use Rattle.table_audit.proofs.Appearing.{has_low}
+pub use Rattle.window_exec.proofs.Differences.{of_four}
 
 -- ---- membership, said in two ways ----
 
@@ -141,13 +142,6 @@ any_of P (y ∷ ys) x all h = elim (or_cases (x == y) (one_of x ys) h) [
   | inl same ↦ subst P (sym (eqb-true x y same)) all.0
   | inr later ↦ any_of P ys x all.1 later
 ]
-
-pub of_four : (P : ℕ → Type 0) → P 0 → P 1 → P 2 → P 3 → (x : ℕ) → x < 4 → P x
-of_four P a b c d zero h = a
-of_four P a b c d (suc zero) h = b
-of_four P a b c d (suc (suc zero)) h = c
-of_four P a b c d (suc (suc (suc zero))) h = d
-of_four P a b c d (suc (suc (suc (suc x)))) h = absurd (omega arith)
 
 all_items : List ℕ
 all_items = 0 ∷ 1 ∷ 2 ∷ 3 ∷ 15 ∷ 16 ∷ 17 ∷ 18 ∷ []

@@ -62,7 +62,7 @@ below_push : (k : ℕ) (seen : List ℕ) (r : ℕ) → AreBelow k seen → r < k
 below_push k [] r b low = (low, tt)
 below_push k (x ∷ seen) r b low = (b.0, below_push k seen r b.1 low)
 
-below_first : (k : ℕ) (seen : List ℕ) (r : ℕ) → AreBelow k seen → r < k → AreBelow k (with_first seen r)
+pub below_first : (k : ℕ) (seen : List ℕ) (r : ℕ) → AreBelow k seen → r < k → AreBelow k (with_first seen r)
 below_first k seen r b low = elim (has seen r) as (λ c. AreBelow k (cond c seen (seen ++ r ∷ []))) [ true ↦ b | false ↦ below_push k seen r b low ]
 
 pub firsts_below : (k : ℕ) (seen rs : List ℕ) → AreBelow k seen → AreBelow k rs → AreBelow k (firsts seen rs)

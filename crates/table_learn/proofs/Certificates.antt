@@ -23,9 +23,9 @@ use Rattle.lrat_check.specs.declared.line.Addition.{Addition}
 use Rattle.lrat_check.specs.Numbers.{is_negative, IsHint}
 use Rattle.lrat_check.specs.Text.{Content, content_of, IsLine}
 use Rattle.proof_logs.specs.Proofs.{Known, started, with_clause, after_line, Accepts, AllAccepted, additions, IsSpentLog, EachIsNew, LinesVerdict, ProofVerdict}
-use Rattle.proof_logs.proofs.Checks.{same_known}
+use Rattle.proof_logs.proofs.Checks.{same_known, accepted_passed}
 use Rattle.cdcl_core.specs.Solved.{RefutesTidily, Adds, literals_in, with_log, Teaches, Refutes, IsLog}
-use Rattle.cdcl_core.proofs.Logs.{asserting_some}
+use Rattle.cdcl_core.proofs.Logs.{asserting_some, with_more}
 use Rattle.table_learn.specs.Learnt.{IsRefutation as IsRefutationOf, IsSpentSearch}
 
 any_behind : (xs ys : List (List ℕ)) → Any (λ clause. clause ≡ []) ys → Any (λ clause. clause ≡ []) (xs ++ ys)
@@ -44,9 +44,6 @@ any_before xs ys a =
 abbrev pub AllTeach : List (List ℕ) → List Line → Type 0
 AllTeach clauses [] = Unit {0}
 AllTeach clauses (line ∷ lines) = Teaches clauses line × AllTeach (clauses ++ literals_in line ∷ []) lines
-
-with_more : (formula : List (List ℕ)) (log : List Line) (line : Line) → with_log formula (log ++ line ∷ []) ≡ with_log formula log ++ literals_in line ∷ []
-with_more formula log line = ap (λ (cs : List (List ℕ)). formula ++ cs) (map_push literals_in log line) ∙ sym (append_assoc formula (map literals_in log) (literals_in line ∷ []))
 
 get_seam : (front rest : List Line) (line d : Line) → get_or (front ++ line ∷ rest) (length front) d ≡ line
 get_seam [] rest line d = refl
@@ -219,10 +216,6 @@ refuted_lines clauses (Adding a ∷ front) last small t r =
 refuted_lines clauses (Deleting d ∷ front) last small t r = absurd t.0
 
 -- ---- verdicts
-
-accepted_passed : {F : Type 0} (fault : ℕ → F) (known : Known) (n : ℕ) (lines : List Content) → AllAccepted known lines → LinesVerdict fault known n lines None
-accepted_passed fault known n [] p = tt
-accepted_passed fault known n (line ∷ lines) p = (p.0, accepted_passed fault (after_line known line) (n + 1) lines p.1)
 
 empty_code : (clauses : List (List ℤ)) → Any (λ clause. clause ≡ []) clauses → Any (λ clause. clause ≡ []) (codes_of clauses)
 empty_code clauses a =

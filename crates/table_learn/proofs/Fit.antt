@@ -17,6 +17,9 @@ use Rattle.table_learn.specs.Fitness.{IsFit, tells_number, stays_open, without_t
 use Rattle.table_learn.specs.Progress.{table_with}
 use Rattle.table_learn.proofs.Certificates.{refutation_passes, search_spends}
 use Rattle.table_learn.proofs.Telling.{told_is, untold, told_more, told-append, untold_both}
+use Rattle.clause_model.proofs.Sound.{flip as not_flip}
+use Rattle.fingerprints.proofs.Letters.{at_cons}
+pub use Rattle.fingerprints.proofs.Letters.{filter_at}
 
 -- ---- the audit ----
 
@@ -91,22 +94,6 @@ fit_more s tellers more silent e f = record {
 
 -- ---- filters ----
 
-at_cons : {X : Type 0} (x : X) (ys : List X) (i : ℕ) (o : X) → slice_get (x ∷ ys) i ≡ Some o → (x ≡ o) ⊎ ((k : ℕ) × (slice_get ys k ≡ Some o))
-at_cons x ys zero o h = let e : x ≡ o = cc in inl e
-at_cons x ys (suc i) o h = inr (i, h)
-
--- what a filter keeps passes, and is an element
-pub filter_at : {X : Type 0} (p : X → Bool) (xs : List X) (i : ℕ) (o : X) → slice_get (filter p xs) i ≡ Some o → (p o ≡ true) × ((j : ℕ) × (slice_get xs j ≡ Some o))
-filter_at p [] i o h = absurd (cc)
-filter_at p (x ∷ xs) i o h =
-    elim (p x) as (λ b. p x ≡ b → slice_get (cond b (x ∷ filter p xs) (filter p xs)) i ≡ Some o → (p o ≡ true) × ((j : ℕ) × (slice_get (x ∷ xs) j ≡ Some o))) [
-      | true ↦ λ e k. elim (at_cons x (filter p xs) i o k) [
-        | inl q ↦ (ap p (sym q) ∙ e, (0, ap (λ z. Some z) q))
-        | inr r ↦ (let later = filter_at p xs r.0 o r.1 in (later.0, (suc later.1.0, later.1.1)))
-      ]
-      | false ↦ λ e k. let later = filter_at p xs i o k in (later.0, (suc later.1.0, later.1.1))
-    ] refl h
-
 -- a filter that passes all of a number's names keeps the number named
 pub named-filter : (p : Opened → Bool) (opens : List Opened) (q : ℕ) → ((o : Opened) → o.number ≡ q → p o ≡ true) → is_named opens q ≡ true → is_named (filter p opens) q ≡ true
 named-filter p [] q h k = absurd (cc)
@@ -141,10 +128,6 @@ ascends-filter p low (o ∷ opens) a =
     ]
 
 -- ---- without what the found states tell ----
-
-not_flip : (b : Bool) → not b ≡ true → b ≡ false
-not_flip true h = sym h
-not_flip false h = refl
 
 pub fit_without : (s : Settings) (silent found : List Seen) (e : Rule) → IsFit s (silent ++ found) silent e → IsFit s (silent ++ found) (silent ++ found) (without_told s found e)
 fit_without s silent found e f = record {

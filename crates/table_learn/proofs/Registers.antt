@@ -7,6 +7,7 @@ use Rattle.table_audit.proofs.Appearing.{names_register}
 use Rattle.table_audit.proofs.Fitting.{ordered_of}
 use Rattle.table_learn.specs.Learnt.{Settings, Window}
 use Rattle.table_learn.specs.Given.{IsWindow}
+use Rattle.table_audit.proofs.Walking.{mask_more as mask_wider}
 
 -- no fewer than it names
 pub more_registers : (s : Settings) (left : List Instr) → named_count left ≤ 4 → named_count left ≤ alphabet_registers s left
@@ -23,9 +24,6 @@ some_registers s w i =
 
 pub narrow_registers : (s : Settings) (w : Window) → IsWindow s w → alphabet_registers s w.seq ≤ with_scratch s s.regs
 narrow_registers s w i = let few = i.few in omega (arith, few)
-
-pub mask_wider : (k m mask : ℕ) → k ≤ m → IsMaskOver k mask → IsMaskOver m mask
-mask_wider k m mask h over x is = elim (over x is) [ inl low ↦ inl (omega (arith, low, h)) | inr flag ↦ inr flag ]
 
 -- the mask has no register but theirs
 pub mask_registers : (s : Settings) (w : Window) → IsWindow s w → IsMaskOver (alphabet_registers s w.seq) w.mask

@@ -31,6 +31,7 @@ use Rattle.table_learn.proofs.Registers.{more_registers}
 use Rattle.table_learn.proofs.Wider.{over_wider}
 use Rattle.table_learn.proofs.Telling.{told_more, told_last, untold, untold_before, apart_tells}
 use Rattle.table_learn.proofs.Fit.{ascends-filter, filter_at, named-filter}
+use Rattle.fingerprints.proofs.Letters.{at_cons as head_or}
 
 -- ---- lists ----
 
@@ -69,10 +70,6 @@ named_itself o (x ∷ opens) q e = elim (cases_Bool (nat_lt x.number o.number)) 
   | inl before ↦ rw before (or_right (x.number == q) (is_named (put_in o opens) q) (named_itself o opens q e))
   | inr behind ↦ rw behind (or_left (o.number == q) (is_named (x ∷ opens) q) (eq-eqb o.number q e))
 ]
-
-head_or : {X : Type 0} (x : X) (ys : List X) (i : ℕ) (z : X) → slice_get (x ∷ ys) i ≡ Some z → (x ≡ z) ⊎ ((j : ℕ) × (slice_get ys j ≡ Some z))
-head_or x ys zero z h = inl (same_Some x z h)
-head_or x ys (suc i) z h = inr (i, h)
 
 put_in_at : (o : Opened) (opens : List Opened) (i : ℕ) (z : Opened) → slice_get (put_in o opens) i ≡ Some z → (o ≡ z) ⊎ ((j : ℕ) × (slice_get opens j ≡ Some z))
 put_in_at o [] i z h = elim (head_or o [] i z h) [ inl same ↦ inl same | inr later ↦ absurd (cc (later.1)) ]

@@ -58,7 +58,7 @@ flawless : (base : ℕ) (all : List Line) (n : ℕ) (before after : List Line) (
 flawless base all n [] after l e = (no_flaw n (flaw_of base all l.statement) (flaws_from base all (n + 1) after) e).0
 flawless base all n (b ∷ bs) after l e = flawless base all (n + 1) bs after l (no_flaw n (flaw_of base all b.statement) (flaws_from base all (n + 1) (bs ++ l ∷ after)) e).1
 
-labelled : (name : Name) (p at : ℕ) (ls : List Line) → has_label name (labels_from p ls) ≡ is_some (label_address name at ls)
+pub labelled : (name : Name) (p at : ℕ) (ls : List Line) → has_label name (labels_from p ls) ≡ is_some (label_address name at ls)
 labelled name p at [] = refl
 labelled name p at (l ∷ ls) = elim (cases_Bool (is_among name l.names)) [
   | inl t ↦ label_among name p l.names _ ∙ rw t refl

@@ -15,6 +15,7 @@ use Rattle.thumb_assembler.specs.Bytes.{lies_at, mention_lies, IsSetBy, lies_now
 use Rattle.listing_parser.specs.Targets.{from_label, reaches, is_literal, is_code_label, is_aimed}
 use Rattle.thumb_machine.specs.Words.{fixed_by, fixed_word}
 use Rattle.thumb_assembler.specs.Fair.{label_in, keeps_even, is_fair, are_fair}
+use Rattle.listing_parser.proofs.LabelLemmas.{passed_by as skipped}
 
 -- ---- words of names ----
 
@@ -114,13 +115,6 @@ unlabelled name at [] e = refl
 unlabelled name at (l ∷ ls) e = elim (cases_Bool (is_among name l.names)) [
   | inl t ↦ absurd (let bad : Some at ≡ None = rw t at e in cc)
   | inr t ↦ rw t (unlabelled name (at + size_at l.statement at) ls (rw t at e))
-]
-
-skipped : (name : Name) (places : List Place) (p : ℕ) (ns : List Name) (rest : List Label) → is_among name ns ≡ false → place_among name places (labels_at p ns ++ rest) ≡ place_among name places rest
-skipped name places p [] rest e = refl
-skipped name places p (n ∷ ns) rest e = elim (cases_Bool (bytes_eq name n)) [
-  | inl t ↦ absurd (true≢false (rw t at e))
-  | inr t ↦ rw t (skipped name places p ns rest (rw t at e))
 ]
 
 no_code : (name : Name) (places : List Place) (p at : ℕ) (ls : List Line) → label_address name at ls ≡ None → place_among name places (labels_from p ls) ≡ None

@@ -115,7 +115,7 @@ lies_fixed None c (Some a) = refl
 lies_fixed (Some a) None s = refl
 lies_fixed (Some a) (Some p) s = refl
 
-some_or : (a b : Option ℕ) → is_some (or_else a b) ≡ (is_some a || is_some b)
+pub some_or : (a b : Option ℕ) → is_some (or_else a b) ≡ (is_some a || is_some b)
 some_or None b = refl
 some_or (Some a) b = refl
 

@@ -34,7 +34,7 @@ without_between (l ∷ ls) after = elim (cases_Bool (is_op l.statement)) [
   | inr h ↦ rw h (other_stays (op_count ls) l (ls ++ after) h ∙ ap (λ (xs : List Line). l ∷ xs) (without_between ls after))
 ]
 
-op_takes : (s : Statement) → is_op s ≡ true → length (places_in s) ≡ 1
+pub op_takes : (s : Statement) → is_op s ≡ true → length (places_in s) ≡ 1
 op_takes Nothing e = absurd (true≢false (sym e))
 op_takes (Runs i mention) e = refl
 op_takes (Words vs) e = absurd (true≢false (sym e))

@@ -311,7 +311,7 @@ pub record Keeps (a b : Code) : Type 0 where
   pub fits : (names : Naming) → Fits names a → Fits names b
   pub entry : (label : Name) → IsSome (place_of a label) → IsSome (place_of b label)
 
-is_some_moved : (f : ℕ → ℕ) (o : Option ℕ) → IsSome o → IsSome (option_map f o)
+pub is_some_moved : (f : ℕ → ℕ) (o : Option ℕ) → IsSome o → IsSome (option_map f o)
 is_some_moved f None h = absurd (cc)
 is_some_moved f (Some x) h = h
 

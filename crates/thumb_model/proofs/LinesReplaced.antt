@@ -28,12 +28,12 @@ new_places : (write : Instr → List ℕ) (is : List Instr) (ls : List Line) →
 new_places write [] ls = refl
 new_places write (i ∷ is) ls = ap (λ l. plain i ∷ l) (new_places write is ls)
 
-kept_places : (l : Line) (ns : List Name) (ls : List Line) → places_of (labels_kept l ns ++ ls) ≡ places_of ls
+pub kept_places : (l : Line) (ns : List Name) (ls : List Line) → places_of (labels_kept l ns ++ ls) ≡ places_of ls
 kept_places l [] ls = refl
 kept_places l (n ∷ ns) ls = refl
 
 -- an instruction doesn't stand among words
-past_words : (ws : List Value) (ps : List Place) (p n : ℕ) → AreOps (suc n) (drop p (map Word ws ++ ps)) → length ws ≤ p
+pub past_words : (ws : List Value) (ps : List Place) (p n : ℕ) → AreOps (suc n) (drop p (map Word ws ++ ps)) → length ws ≤ p
 past_words [] ps p n h = omega arith
 past_words (w ∷ ws) ps zero n h = absurd h
 past_words (w ∷ ws) ps (suc p) n h = let r = past_words ws ps p n h in omega arith
@@ -142,11 +142,11 @@ labels_without p count gone zero (l ∷ ls) q r a b c d out ops = behind_moved p
 labels_without p count gone (suc n) (l ∷ ls) q r a b c d out ops =
     without_step p count gone n l l.statement ls refl (λ q r a b c d out ops. labels_without p count gone n ls q r a b c d out ops) (λ q r a b c d out ops. labels_without p count gone (suc n) ls q r a b c d out ops) q r a b c d out ops
 
-kept_labels : (l : Line) (ns : List Name) (q : ℕ) (ls : List Line) → labels_from q (labels_kept l ns ++ ls) ≡ labels_at q ns ++ labels_from q ls
+pub kept_labels : (l : Line) (ns : List Name) (q : ℕ) (ls : List Line) → labels_from q (labels_kept l ns ++ ls) ≡ labels_at q ns ++ labels_from q ls
 kept_labels l [] q ls = refl
 kept_labels l (n ∷ ns) q ls = ap (λ r. labels_at q (n ∷ ns) ++ labels_from r ls) (let e : q + 0 ≡ q = omega arith in e)
 
-new_labels : (write : Instr → List ℕ) (is : List Instr) (q r : ℕ) (ls : List Line) → r ≡ q + length is → labels_from q (map (new_line write) is ++ ls) ≡ labels_from r ls
+pub new_labels : (write : Instr → List ℕ) (is : List Instr) (q r : ℕ) (ls : List Line) → r ≡ q + length is → labels_from q (map (new_line write) is ++ ls) ≡ labels_from r ls
 new_labels write [] q r ls e = ap (λ x. labels_from x ls) (let f : q ≡ r = omega arith in f)
 new_labels write (i ∷ is) q r ls e = new_labels write is (q + 1) r ls (omega arith)
 
@@ -200,12 +200,12 @@ code_replaced write p n is ls short ops out =
 -- ---- how many lines ----
 
 -- each instruction that goes is a line
-lines_step : (n : ℕ) (l : Line) (s : Statement) (ls : List Line) → (AreOps n (places_of ls) → n + length (without n ls) ≡ length ls) → (AreOps (suc n) (places_of ls) → suc n + length (without (suc n) ls) ≡ length ls) → AreOps (suc n) (places_in s ++ places_of ls) → suc n + length (if is_op s then without n ls else l ∷ without (suc n) ls) ≡ suc (length ls)
+pub lines_step : (n : ℕ) (l : Line) (s : Statement) (ls : List Line) → (AreOps n (places_of ls) → n + length (without n ls) ≡ length ls) → (AreOps (suc n) (places_of ls) → suc n + length (without (suc n) ls) ≡ length ls) → AreOps (suc n) (places_in s ++ places_of ls) → suc n + length (if is_op s then without n ls else l ∷ without (suc n) ls) ≡ suc (length ls)
 lines_step n l (Runs i mention) ls f g h = let e = f h in omega arith
 lines_step n l (Words (w ∷ ws)) ls f g h = absurd h
 lines_step n l s ls f g h = let e = g h in omega arith
 
-lines_without : (n : ℕ) (ls : List Line) → AreOps n (places_of ls) → n + length (without n ls) ≡ length ls
+pub lines_without : (n : ℕ) (ls : List Line) → AreOps n (places_of ls) → n + length (without n ls) ≡ length ls
 lines_without zero [] h = refl
 lines_without (suc n) [] h = absurd h
 lines_without zero (l ∷ ls) h = omega arith

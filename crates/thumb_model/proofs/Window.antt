@@ -97,7 +97,7 @@ led code lands point p q Over l ks ws m g = absurd g
 led code lands point p q n l ks ws m g = absurd m
 
 -- the place that is aimed at, as the target says it
-aim_is : (names : Naming) (mention : Option Mention) (o : Option ℕ) → inside_of (target_at names mention o) ≡ o
+pub aim_is : (names : Naming) (mention : Option Mention) (o : Option ℕ) → inside_of (target_at names mention o) ≡ o
 aim_is names mention None = refl
 aim_is names mention (Some p) = refl
 

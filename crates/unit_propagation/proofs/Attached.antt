@@ -9,26 +9,10 @@ use Rattle.clause_model.specs.Clauses.{negated}
 use Rattle.clause_arena.specs.Contents.{Clause, Content, HasClause, HasLiteral, Watches, IsWhole, references_of, literals_of, literals_in, clause_among, with_clause}
 use Rattle.unit_propagation.specs.Watching.{IsWatched, IsAttached, IsKnown, IsAdded}
 use Rattle.unit_propagation.proofs.Steps.{Contains-first, Contains-cases}
+use Rattle.clause_arena.proofs.Copies.{among_earlier, among_new}
 
 pub none_in : (x : ℕ) → Contains [] x → ⊥
 none_in x c = let b : c.0 < 0 = c.1 in absurd (omega arith)
-
-among_earlier : (clauses : List Clause) (new : Clause) (r : ℕ) → Contains (map (λ (c : Clause). c.at) clauses) r → clause_among (clauses ++ new ∷ []) r ≡ clause_among clauses r
-among_earlier [] new r c = absurd (none_in r c)
-among_earlier (clause ∷ clauses) new r c = elim (cases_eq clause.at r) [
-  | inl e ↦ let z : nat_eq clause.at r ≡ true = grind (arith, nat_tests) in rw z refl
-  | inr n ↦ let z : nat_eq clause.at r ≡ false = grind (arith, nat_tests) in rw z (elim (Contains-cases clause.at (map (λ (d : Clause). d.at) clauses) r c) [
-    | inl e ↦ absurd (n e)
-    | inr d ↦ among_earlier clauses new r d
-  ])
-]
-
-among_new : (clauses : List Clause) (new : Clause) → (Contains (map (λ (c : Clause). c.at) clauses) new.at → ⊥) → clause_among (clauses ++ new ∷ []) new.at ≡ Some new
-among_new [] new n = let z : nat_eq new.at new.at ≡ true = grind (arith, nat_tests) in rw z refl
-among_new (clause ∷ clauses) new n =
-    let d : clause.at ≢ new.at = λ e. n (subst (λ (x : ℕ). Contains (map (λ (c : Clause). c.at) (clause ∷ clauses)) x) e (Contains-first clause.at (map (λ (c : Clause). c.at) clauses))) in
-    let z : nat_eq clause.at new.at ≡ false = grind (arith, nat_tests) in
-    rw z (among_new clauses new (λ c. n (suc c.0, (let b : c.0 < length (map (λ (x : Clause). x.at) clauses) = c.1 in omega arith), c.2)))
 
 module _ (earlier pushed later : Content) (at : ℕ) (literals : List ℕ) (push : pushed ≡ with_clause earlier record { at = at; literals = literals; is_dropped = false }) (above : All (λ r. r < at) (references_of earlier))
     (clauses : later.clauses ≡ pushed.clauses) (size : length later.chains ≡ length pushed.chains) where

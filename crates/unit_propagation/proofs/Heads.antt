@@ -11,6 +11,7 @@ use Rattle.clause_model.specs.Clauses.{negated}
 use Rattle.clause_arena.specs.Contents.{Content, Watches}
 use Rattle.unit_propagation.specs.Watching.{IsOtherTrue, RuleUpTo, Rule, IsLater}
 use Rattle.unit_propagation.proofs.Steps.{later_after}
+use Rattle.clause_model.proofs.LiteralLaws.{negated-negated as negated_twice}
 
 distinct_from_pairs : (xs : List ℕ) → AllPairs (λ l m. l ≢ m) xs → IsDistinct nat_eq xs
 unfolding IsDistinct
@@ -30,9 +31,6 @@ any_below n q (x ∷ xs) h e = elim (cases_eq q x) [
 -- different numbers below n are at most n
 pub length_below : (n : ℕ) (xs : List ℕ) → AllPairs (λ l m. l ≢ m) xs → All (λ l. l < n) xs → length xs ≤ n
 length_below n xs d h = length-le_from_distinct_below xs n (distinct_from_pairs xs d) (λ q e. any_below n q xs h e)
-
-negated_twice : (l : ℕ) → negated (negated l) ≡ l
-negated_twice l = grind (arith, nat_tests)
 
 -- so far the rule of watches holds for the first literals of the assignment
 pub record IsAt (start : Content) (a : List ℕ) (r : List (Option ℕ)) (content : Content) (b : List ℕ) (s : List (Option ℕ)) (head : ℕ) : Type 0 where

@@ -8,13 +8,7 @@ use Rattle.std.proofs.lemmas.List.Elements.{Contains-append_left, Contains-appen
 use Rattle.clause_model.specs.Clauses.{negated, IsConsistent, IsFalse, IsUnit}
 use Rattle.clause_arena.specs.Contents.{Clause, Content, HasClause, HasLiteral, Watches, IsWhole, IsAfter, chain_of, literals_of, literals_in, clause_among, watched, with_chain}
 use Rattle.unit_propagation.specs.Watching.{IsWatched, IsAttached, IsOtherTrue, RuleUpTo, Rule, IsLater, IsMoved, IsReason, Due}
-
-pub Contains-first : {X : Type 0} (x : X) (xs : List X) → Contains (x ∷ xs) x
-Contains-first x xs = (0, omega arith, refl)
-
-pub Contains-cases : {X : Type 0} (y : X) (xs : List X) (x : X) → Contains (y ∷ xs) x → (y ≡ x) ⊎ Contains xs x
-Contains-cases y xs x (zero, b, e) = inl e
-Contains-cases y xs x (suc k, b, e) = inr (k, omega arith, e)
+pub use Rattle.clause_arena.proofs.Lists.{Contains-cases, Contains-first}
 
 pub Contains-part : (n : ℕ) (xs : List ℕ) (x : ℕ) → Contains (take n xs) x → Contains xs x
 Contains-part n xs x c = subst (λ (ys : List ℕ). Contains ys x) (take-append-drop n xs) (Contains-append_left (take n xs) (drop n xs) x c)

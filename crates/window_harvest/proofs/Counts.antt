@@ -15,6 +15,7 @@ use Rattle.thumb_model.specs.Effect.{above, register_count}
 use Rattle.rule_table.specs.Canonical.{has, with_first, firsts, numbers_of, appearing, IsRenamable, IsCanonical}
 use Rattle.window_harvest.proofs.Once.{AreDistinct, distinct_firsts, or_false, or_parts, has_append, has_at, name_at}
 use Rattle.window_harvest.proofs.Pairs.{seq_letters}
+use Rattle.thumb_model.proofs.Small.{below_append}
 
 -- ---- counts and bounds ----
 
@@ -29,10 +30,6 @@ count_least k (i ∷ is) h = let p = below_parts k (named i) (flat_map named is)
 above_below : (k : ℕ) (xs : List ℕ) → above xs ≤ k → AreBelow k xs
 above_below k [] h = tt
 above_below k (x ∷ xs) h = (omega arith, above_below k xs (omega arith))
-
-below_append : (k : ℕ) (xs ys : List ℕ) → AreBelow k xs → AreBelow k ys → AreBelow k (xs ++ ys)
-below_append k [] ys a b = b
-below_append k (x ∷ xs) ys a b = (a.0, below_append k xs ys a.1 b)
 
 count_below : (k : ℕ) (is : List Instr) → register_count is ≤ k → AreBelow k (flat_map named is)
 count_below k [] h = tt

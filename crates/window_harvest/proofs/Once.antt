@@ -18,6 +18,7 @@ use Rattle.thumb_instr.proofs.RenamingLemmas.{below_parts}
 use Rattle.rule_table.specs.Canonical.{has, with_first, firsts, name_in, numbers_of, appearing, masked, IsCanonical}
 use Rattle.rule_table.proofs.Backs.{windows_normal, eight, eight_at}
 use Rattle.rule_table.proofs.Renamings.{AllNamed, ComesBack, renamed_back}
+pub use Rattle.std.proofs.lemmas.Bool.{or_parts}
 
 -- ---- there and back ----
 
@@ -43,10 +44,6 @@ AreDistinct (x ∷ xs) = (has xs x ≡ false) × AreDistinct xs
 pub or_false : (a b : Bool) → a ≡ false → b ≡ false → (a || b) ≡ false
 or_false true b e f = e
 or_false false b e f = f
-
-pub or_parts : (a b : Bool) → (a || b) ≡ false → (a ≡ false) × (b ≡ false)
-or_parts true b e = absurd (cc)
-or_parts false b e = (refl, e)
 
 pub has_append : (xs ys : List ℕ) (x : ℕ) → has (xs ++ ys) x ≡ (has xs x || has ys x)
 has_append xs ys x = list_any-append (λ y. y == x) xs ys

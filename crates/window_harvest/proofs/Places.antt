@@ -13,11 +13,7 @@ use Rattle.window_harvest.specs.Harvest.{Pair, Limits, spot_of, StandsThere, IsP
 use Rattle.window_harvest.specs.Keys.{AreSeen}
 use Rattle.window_harvest.specs.LimitsOf.{AreOf}
 use Rattle.window_runs.proofs.Joined.{run_window, window_in_run}
-
-length-take : {A : Type 0} (n : ℕ) (xs : List A) → n ≤ length xs → length (take n xs) ≡ n
-length-take zero xs h = refl
-length-take (suc n) [] h = absurd (omega arith)
-length-take (suc n) (x ∷ xs) h = ap suc (length-take n xs (omega arith))
+use Rattle.thumb_model.proofs.Lists.{take_all as length-take}
 
 -- the front of the run from a place is a window there
 pub stands_there : (lines : List Line) (rows : List Row) (sets : LiveSets) (place most last items : ℕ) (is : List Instr) → AreOf lines rows sets → is ≡ run true most (drop place rows) → last < length is

@@ -37,6 +37,7 @@ use Rattle.window_rewrite.proofs.Live.{Allowed, allowed_true, true_allowed}
 use Rattle.window_rewrite.proofs.Sides.{window_count}
 use Rattle.window_rewrite.proofs.Weights.{lighter_some, lowers_same, same_lowers}
 use Rattle.window_rewrite.proofs.Whole.{front_allowed, front_apart, front_matches, left_few, whole_allowed, whole_apart, whole_free}
+use Rattle.rule_model.proofs.Unique.{plain_same}
 
 -- ---- the window ----
 
@@ -49,15 +50,6 @@ window_gap lines place window is w some no_longer = record {
   first = first_op window (length window) (places_of lines) place refl (omega arith) w.stands;
   unlabelled = w.unlabelled;
 }
-
-plain_same : (is js : List Instr) → map plain is ≡ map plain js → is ≡ js
-plain_same [] [] e = refl
-plain_same [] (j ∷ js) e = absurd (cc)
-plain_same (i ∷ is) [] e = absurd (cc)
-plain_same (i ∷ is) (j ∷ js) e =
-    let here : i ≡ j = cc in
-    let there : map plain is ≡ map plain js = cc in
-    ap (λ k. k ∷ is) here ∙ ap (λ ks. j ∷ ks) (plain_same is js there)
 
 -- the window that gives way where a rule applies is the one that stands there
 same_window : (rule : Rule) (registers : List Low) (lines : List Line) (place : ℕ) (window : List Instr) → length rule.left ≡ length window → IsWindow lines place window

@@ -34,6 +34,7 @@ use Rattle.window_rewrite.specs.Choices.{Awaits, choice_of, FitsIn, IsChoice, Is
 use Rattle.window_rewrite.proofs.Applied.{made, rule_there, fits_some, back_lightens, meets, meets_less}
 use Rattle.window_rewrite.proofs.Keys.{awaited, none_awaited}
 use Rattle.window_rewrite.proofs.Alike.{led_to}
+use Rattle.window_rewrite.proofs.RuleWindows.{letters_of as straight_letters}
 
 -- ---- counts of rules ----
 
@@ -288,10 +289,6 @@ none_formed asked costs base longest table lines place window fit there none o a
     none i.rule i.registers f.sound f.canonical i.lightens.stands
 
 -- ---- the best entry of a place ----
-
-straight_letters : (is : List Instr) → AreStraight is → list_all is_in_window is ≡ true
-straight_letters [] h = refl
-straight_letters (i ∷ is) h = rw (h.0) (straight_letters is h.1)
 
 -- where a rule fits stands a window as long as its left side, which is no longer than the longest
 pub record IsApplicable (costs : Option (List ℕ)) (lines : List Line) (base longest : ℕ) (table : List (List Rule)) (o : Replacement) : Type 0 where

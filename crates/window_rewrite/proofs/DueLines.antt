@@ -5,6 +5,8 @@ use Rattle.thumb_instr.specs.declared.instr.Instr.{Instr}
 use Rattle.thumb_model.specs.Listing.{Name, Statement, Nothing, Runs, Words, Aligns, Sets, Line, Place, places_in, places_of}
 use Rattle.thumb_model.specs.Replaced.{is_op, is_align, without, labels_kept, new_line, replaced_lines, are_joined, are_joined_from}
 use Rattle.thumb_model.specs.Cuts.{AreOps}
+use Rattle.thumb_model.proofs.Cuts.{op_takes as one_place}
+use Rattle.listing_parser.proofs.ReplacedTargets.{op_next as op_line}
 
 -- ---- the places of a line ----
 
@@ -16,20 +18,6 @@ other_line n (Words []) ps e h = refl
 other_line n (Words (v ∷ vs)) ps e h = absurd h
 other_line n (Aligns size most) ps e h = refl
 other_line n (Sets name address) ps e h = refl
-
-op_line : (n : ℕ) (s : Statement) (ps : List Place) → is_op s ≡ true → AreOps (suc n) (places_in s ++ ps) → AreOps n ps
-op_line n (Runs i m) ps e h = h
-op_line n Nothing ps e h = absurd (cc)
-op_line n (Words vs) ps e h = absurd (cc)
-op_line n (Aligns size most) ps e h = absurd (cc)
-op_line n (Sets name address) ps e h = absurd (cc)
-
-one_place : (s : Statement) → is_op s ≡ true → length (places_in s) ≡ 1
-one_place (Runs i m) e = refl
-one_place Nothing e = absurd (cc)
-one_place (Words vs) e = absurd (cc)
-one_place (Aligns size most) e = absurd (cc)
-one_place (Sets name address) e = absurd (cc)
 
 -- the place at q isn't within a line that isn't an instruction's
 not_within : (q n : ℕ) (s : Statement) (ps : List Place) → is_op s ≡ false → AreOps (suc n) (drop q (places_in s ++ ps)) → length (places_in s) ≤ q

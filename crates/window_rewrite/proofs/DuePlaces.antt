@@ -11,7 +11,8 @@ use Rattle.thumb_model.specs.Replaced.{moved}
 use Rattle.padded_code.specs.Padding.{nop}
 use Rattle.padded_code.specs.Exchange.{marks_after, places_after}
 use Rattle.padded_code.specs.Windows.{AreRanked}
-use Rattle.padded_code.proofs.Exchanged.{get_other}
+use Rattle.padded_code.proofs.Exchanged.{get_other, move_step, move_same, rank_drop}
+use Rattle.window_rewrite.proofs.DueMarks.{set_length as length_set}
 
 -- ---- kept places by their ranks ----
 
@@ -105,12 +106,6 @@ was_kept [] is gone p h = h
 was_kept (q ∷ qs) [] gone p h = was_unmarked gone q p (was_kept qs [] (set gone q true) p h)
 was_kept (q ∷ qs) (i ∷ is) gone p h = was_kept qs is gone p h
 
-rank_drop : (gone : List Bool) (p q : ℕ) → p < length gone → is_gone gone p ≡ false → rank (set gone p true) q ≡ moved (rank gone p) 1 (rank gone q)
-rank_drop gone p q l g = elim (cases_lt p q) [
-  | inl h ↦ (let b = rank_set_behind gone p q l g h in let a = ranks_ascend gone p q g h in omega arith)
-  | inr h ↦ (let b = rank_set_before gone p q h in let a = ranks_grow gone q p h in omega arith)
-]
-
 ranked_drop : (gone : List Bool) (p r s : ℕ) (ps : List ℕ) → p < length gone → is_gone gone p ≡ false → rank gone p ≡ r → r ≤ s → length (set gone p true) ≡ length gone → AreRanked gone (suc s) ps → AreRanked (set gone p true) s ps
 ranked_drop gone p r s [] l g e h n a = tt
 ranked_drop gone p r s (q ∷ qs) l g e h n a =
@@ -121,18 +116,6 @@ ranked_drop gone p r s (q ∷ qs) l g e h n a =
       omega (arith, d, a.2),
       ranked_drop gone p r (suc s) qs l g e (omega arith) n a.3,
     )
-
-length_set : (ms : List Bool) (p : ℕ) (b : Bool) → length (set ms p b) ≡ length ms
-length_set [] p b = refl
-length_set (m ∷ ms) zero b = refl
-length_set (m ∷ ms) (suc p) b = ap suc (length_set ms p b)
-
-move_step : (r m a b : ℕ) → b ≡ moved r 1 a → moved r m b ≡ moved r (suc m) a
-move_step r m a b e = omega arith
-
-move_same : (r m k a : ℕ) → (a ≤ r) ⊎ (suc r + m ≤ a) → moved (suc r) (m - k) a ≡ moved r (suc m - suc k) a
-move_same r m k a (inl h) = omega arith
-move_same r m k a (inr h) = omega arith
 
 -- a rank outside the window's moves as the replacement moves it
 pub ranks_after : (ps : List ℕ) (is : List Instr) (gone : List Bool) (r q : ℕ) → length is ≤ length ps → AreRanked gone r ps → (rank gone q ≤ r) ⊎ (r + length ps ≤ rank gone q)

@@ -17,11 +17,10 @@ use Rattle.window_rewrite.specs.Forms.{form_from, form_of, letter_number, next_f
 use Rattle.window_rewrite.specs.declared.chains.Chains.{Chains}
 use Rattle.window_rewrite.specs.Fitting.{Lightens}
 use Rattle.window_rewrite.specs.Choices.{Awaits}
+use Rattle.liveness.proofs.Jumps.{same_target as number_head}
+pub use Rattle.rule_table.proofs.BindingLemmas.{set_here}
 
 -- ---- the rules with some number ----
-
-number_head : (a b : ℕ) → (let o : Option ℕ = Some a in o) ≡ Some b → a ≡ b
-number_head a b e = cc
 
 drop_there : (forms : List ℕ) (k own : ℕ) → slice_get forms k ≡ Some own → drop k forms ≡ own ∷ drop (k + 1) forms
 drop_there [] k own e = absurd (cc)
@@ -160,11 +159,6 @@ small_map form h (x ∷ xs) zero n e = subst (λ m. m < 65536) (number_head (for
 small_map form h (x ∷ xs) (suc k) n e = small_map form h xs k n e
 
 -- ---- building the chains ----
-
-pub set_here : {A : Type 0} (xs : List A) (p : ℕ) (y : A) → p < length xs → slice_get (slice_set xs p y) p ≡ Some y
-set_here [] p y h = absurd (omega arith)
-set_here (x ∷ xs) zero y h = refl
-set_here (x ∷ xs) (suc p) y h = set_here xs p y (omega arith)
 
 pub set_other : {A : Type 0} (xs : List A) (p q : ℕ) (y : A) → (p ≡ q → ⊥) → slice_get (slice_set xs p y) q ≡ slice_get xs q
 set_other [] p q y h = refl

@@ -37,6 +37,7 @@ use Rattle.window_rewrite.specs.Forms.{form_of}
 use Rattle.window_rewrite.specs.Shapes.{blind}
 use Rattle.window_rewrite.proofs.Heads.{blind_instance}
 use Rattle.window_rewrite.proofs.Opened.{fit_open}
+use Rattle.thumb_model.proofs.Lists.{present_at as some_at}
 
 -- ---- the value of a side ----
 
@@ -152,11 +153,6 @@ form_read r n f i at =
 -- there are as many
 pub forms_many : (es : List tables.Rule) (fs : List tables.Family) → length (raised_forms es fs) ≡ length fs
 forms_many es fs = length-map fs (λ f. raised_form (entry_at es f.entry))
-
-some_at : {A : Type 0} (xs : List A) (n : ℕ) → n < length xs → (x : A) × (slice_get xs n ≡ Some x)
-some_at [] n h = absurd (omega arith)
-some_at (x ∷ xs) zero h = (x, refl)
-some_at (x ∷ xs) (suc n) h = some_at xs n (omega arith)
 
 pub raised_is : (r : Rules) (n : ℕ) (f : Family) (i : IsRaised (map rule_of r.entries.now) (family_of f)) → slice_get r.families.now n ≡ Some f → IsFamily r n (family_of f) i.entry
 raised_is r n f i at = record { at = slice_get-map family_of r.families.now n ∙ ap (option_map family_of) at; is_entry = i.is_entry; bytes = i.bytes; held = i.held }

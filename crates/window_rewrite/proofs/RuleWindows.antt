@@ -20,7 +20,7 @@ use Rattle.steady_layout.proofs.Laws.{twos_of, renamed_in, window_in, plain_of, 
 
 -- ---- the kept sets ----
 
-letters_of : (is : List Instr) → AreStraight is → list_all is_in_window is ≡ true
+pub letters_of : (is : List Instr) → AreStraight is → list_all is_in_window is ≡ true
 letters_of [] h = refl
 letters_of (i ∷ is) h = both (is_in_window i) _ h.0 (letters_of is h.1)
   where

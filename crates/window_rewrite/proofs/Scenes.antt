@@ -49,6 +49,8 @@ use Rattle.window_rewrite.specs.Choices.{setting_of, choice_of, IsChoice}
 use Rattle.window_rewrite.specs.Settled.{IsSettled, MayGiveWay}
 use Rattle.window_rewrite.specs.Layouts.{is_steady, Allows, AreOver, HasLayout, IsSteadyIf, Moves, StandsNear}
 use Rattle.window_rewrite.proofs.ScenesWindows.{gives_way, many_marks, many_places, ranked_at, ranked_front, still_padded}
+use Rattle.liveness.proofs.Moves.{letter_at}
+use Rattle.edited_listing.proofs.Unchanged.{length_given as many_given}
 
 -- ---- at first ----
 
@@ -60,10 +62,6 @@ none_gone (suc n) (suc p) = none_gone n p
 as_given : (xs : List Place) → standing_places (replicate (length xs) standing.Given) xs ≡ xs
 as_given [] = refl
 as_given (x ∷ xs) = ap (λ ys. x ∷ ys) (as_given xs)
-
-many_given : (n : ℕ) → length (replicate n standing.Given) ≡ n
-many_given zero = refl
-many_given (suc n) = ap suc (many_given n)
 
 -- a listing of which nothing is changed has all its places
 pub first_many : (lines : List Line) (e : Edited) → e ≡ unchanged lines → length e.stands ≡ length (places_of lines)
@@ -111,11 +109,6 @@ run_front lines most number count letters e some few =
     let many : length (take count letters) ≡ count = take_many count letters few in
     let all : length (take count (run true most (drop number (rows_from false lines)))) ≡ length (take count letters) = ap (λ (is : List Instr). length (take count is)) (sym e) in
     subst (λ (is : List Instr). IsWindow lines number (take count is)) (sym e) (run_window lines number most count (omega arith))
-
-letter_at : (is : List Instr) (k : ℕ) (i : Instr) → list_all is_in_window is ≡ true → slice_get is k ≡ Some i → is_in_window i ≡ true
-letter_at [] k i h e = absurd (cc)
-letter_at (j ∷ is) zero i h e = let same : j ≡ i = cc in ap is_in_window (sym same) ∙ (and_parts (is_in_window j) (list_all is_in_window is) h).0
-letter_at (j ∷ is) (suc k) i h e = letter_at is k i (and_parts (is_in_window j) (list_all is_in_window is) h).1 e
 
 -- an instruction of a run stands at its place
 pub record StandsInRun (lines : List Line) (number k : ℕ) : Type 0 where

@@ -15,12 +15,11 @@ use Rattle.rule_table.specs.Canonical.{has, with_first, firsts, numbers_of, appe
 use Rattle.table_audit.specs.Shorter.{IsCanonicalSide, named_count}
 use Rattle.table_audit.proofs.Names.{count_same}
 use Rattle.window_rewrite.specs.Fitting.{Stands}
+use Rattle.table_audit.proofs.CanonicalForms.{names_under as names_renamed}
+use Rattle.thumb_model.proofs.Small.{below_append as below_both}
+use Rattle.table_audit.proofs.OneToOne.{below_first as first_below}
 
 -- ---- names ----
-
-pub below_both : (k : ℕ) (xs ys : List ℕ) → AreBelow k xs → AreBelow k ys → AreBelow k (xs ++ ys)
-below_both k [] ys g h = h
-below_both k (x ∷ xs) ys g h = (g.0, below_both k xs ys g.1 h)
 
 -- instructions over so many registers name those below their count
 pub names_below : (k : ℕ) (is : List Instr) → AreOver k is → AreBelow k (flat_map named is)
@@ -30,15 +29,6 @@ names_below k (i ∷ is) h = below_both k (named i) (flat_map named is) h.1 (nam
 pub windows_over : (k : ℕ) (is : List Instr) → AreOver k is → list_all is_in_window is ≡ true
 windows_over k [] h = refl
 windows_over k (i ∷ is) h = rw (h.0) (windows_over k is h.2)
-
--- renamed instructions name the renamed registers
-names_renamed : (r : List Low) (is : List Instr) → list_all is_in_window is ≡ true → flat_map named (map (renamed r) is) ≡ map (item_under r) (flat_map named is)
-names_renamed r [] w = refl
-names_renamed r (i ∷ is) w =
-    let both = and_parts (is_in_window i) (list_all is_in_window is) w in
-    ap (λ ns. ns ++ flat_map named (map (renamed r) is)) (named_renamed r i both.0)
-    ∙ ap (λ ns. map (item_under r) (named i) ++ ns) (names_renamed r is both.1)
-    ∙ sym (map-append (item_under r) (named i) (flat_map named is))
 
 -- ---- first appearances under a map ----
 
@@ -64,12 +54,6 @@ first_map k f seen x a b h =
       | true ↦ refl
       | false ↦ sym (map-append f seen (x ∷ []))
     ]
-
-first_below : (k : ℕ) (seen : List ℕ) (x : ℕ) → AreBelow k seen → x < k → AreBelow k (with_first seen x)
-first_below k seen x b h = elim (has seen x) as (λ t. AreBelow k (cond t seen (seen ++ x ∷ []))) [
-  | true ↦ b
-  | false ↦ below_both k seen (x ∷ []) b (h, tt)
-]
 
 firsts_map : (k : ℕ) (f : ℕ → ℕ) (seen xs : List ℕ) → AreApart k f → AreBelow k seen → AreBelow k xs → firsts (map f seen) (map f xs) ≡ map f (firsts seen xs)
 unfolding firsts

@@ -1,7 +1,7 @@
 -- Registers of a rule: those that its left side names, and a scratch register behind them.
 use Rattle.std.proofs.Common.{◌≡◌, ℕ, zero, suc, ◌+◌, ◌<◌, ◌≤◌, ◌==◌, ◌||◌, ◌&&◌, not, Bool, true, false, List, [], ◌∷◌, ◌++◌, length, length-append, map, take, Option, Some, None, refl, sym, ap, ◌∙◌, subst, ◌⊎◌, inl, inr, arith, eqb-true, eq-eqb, true≢false, lt-ltb, ltb-true}
 use Rattle.std.specs.Prelude.{slice_get, slice_set}
-use Rattle.std.proofs.lemmas.Bool.{cases_Bool, cases_lt, or_cases}
+use Rattle.std.proofs.lemmas.Bool.{cases_Bool, cases_lt, or_cases, or_right}
 use Rattle.std.proofs.lemmas.Option.{slice_get_within, slice_get_past, same_Some}
 use Rattle.thumb_instr.specs.Items.{has}
 use Rattle.thumb_instr.specs.Window.{Low, renamed, item_under, number_or}
@@ -17,10 +17,6 @@ use Rattle.window_rewrite.proofs.Maps.{all_alike}
 use Rattle.window_rewrite.proofs.Sides.{names_below, register_at, windows_over}
 
 -- ---- items ----
-
-pub or_right : (a b : Bool) → b ≡ true → (a || b) ≡ true
-or_right true b e = refl
-or_right false b e = e
 
 -- an item of a mask that becomes another
 pub record ComesOf (f : ℕ → ℕ) (xs : List ℕ) (y : ℕ) : Type 0 where

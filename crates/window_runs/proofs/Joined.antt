@@ -11,6 +11,7 @@ use Rattle.window_runs.specs.declared.rows.Row.{Row}
 use Rattle.window_runs.specs.Windows.{IsWindow}
 use Rattle.window_runs.specs.Rows.{is_unlabelled, letter_of, rows_of, stays_joined, rows_from}
 use Rattle.window_runs.specs.Runs.{letter_at, before, run}
+use Rattle.thumb_model.proofs.Lists.{take_short as take_less, length_map as map_length}
 
 -- the instructions stand in the rows, joined; of the first it may not matter
 abbrev pub Fits : Bool → List Instr → List Row → Type 0
@@ -241,7 +242,7 @@ drop_none : {A : Type 0} (p : ℕ) → drop p (let xs : List A = [] in xs) ≡ [
 drop_none zero = refl
 drop_none (suc p) = refl
 
-drop_past : {A : Type 0} (xs ys : List A) (p : ℕ) → length xs ≤ p → drop p (xs ++ ys) ≡ drop (p - length xs) ys
+pub drop_past : {A : Type 0} (xs ys : List A) (p : ℕ) → length xs ≤ p → drop p (xs ++ ys) ≡ drop (p - length xs) ys
 drop_past [] ys p h = ap (λ n. drop n ys) (let e : p ≡ p - 0 = omega arith in e)
 drop_past (x ∷ xs) ys zero h = absurd (omega arith)
 drop_past (x ∷ xs) ys (suc p) h = drop_past xs ys p (omega arith) ∙ ap (λ n. drop n ys) (let e : p - length xs ≡ suc p - suc (length xs) = omega arith in e)
@@ -260,11 +261,7 @@ word_stands_not [] p places rest n i h e = omega arith
 word_stands_not (v ∷ vs) zero places rest n i h e = let g = (head_of (Word v) (plain i) _ rest e).0 in absurd (cc)
 word_stands_not (v ∷ vs) (suc p) places rest n i h e = word_stands_not vs p places rest n i (omega arith) e
 
-map_length : {A B : Type 0} (f : A → B) (xs : List A) → length (map f xs) ≡ length xs
-map_length f [] = refl
-map_length f (x ∷ xs) = ap suc (map_length f xs)
-
-no_place : (q : ℕ) → (suc q == 0) ≡ false
+pub no_place : (q : ℕ) → (suc q == 0) ≡ false
 no_place q = ne_eqb (suc q) 0 (λ e. omega arith)
 
 fits_span : (lines : List Line) (b : Bool) (c p low high : ℕ) (i : Instr) (is : List Instr) → low ≡ c + p → high ≡ low + suc (length is) → Fits true (i ∷ is) (drop p (rows_from b lines)) → Span c p low high lines (i ∷ is)
@@ -397,11 +394,6 @@ window_fits lines p (i ∷ is) h f =
       free = all_clear p (p + suc (length is)) (labels_from 0 lines) f.unlabelled;
       joined = f.joined;
     })
-
-take_less : {A : Type 0} (n : ℕ) (xs : List A) → length (take n xs) ≤ length xs
-take_less zero xs = omega arith
-take_less (suc n) [] = omega arith
-take_less (suc n) (x ∷ xs) = let h = take_less n xs in omega arith
 
 -- each front of the run from a place is a window, and each window of at most so many instructions is a front of it
 pub run_window : (lines : List Line) (p most n : ℕ) → 1 ≤ length (take n (run true most (drop p (rows_from false lines)))) → IsWindow lines p (take n (run true most (drop p (rows_from false lines))))

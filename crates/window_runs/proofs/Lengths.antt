@@ -5,6 +5,7 @@ use Rattle.thumb_model.specs.Listing.{Statement, Nothing, Runs, Words, Aligns, S
 use Rattle.window_runs.specs.declared.rows.Row.{Row}
 use Rattle.window_runs.specs.Rows.{is_unlabelled, rows_of, stays_joined, rows_from}
 use Rattle.window_runs.specs.Runs.{letter_at, before, run}
+use Rattle.thumb_model.proofs.Lists.{length_drop as length-drop, length_map as map_length}
 
 -- a run is no longer than the rows
 run_less : (begins : Bool) (n : ℕ) (rows : List Row) → length (run begins n rows) ≤ length rows
@@ -26,17 +27,8 @@ run_short begins (suc n) (r ∷ rs) = go (letter_at begins (r ∷ rs)) (run_shor
     go None h = omega arith
     go (Some i) h = omega arith
 
-length-drop : {A : Type 0} (n : ℕ) (xs : List A) → length (drop n xs) ≡ length xs - n
-length-drop zero xs = omega arith
-length-drop (suc n) [] = omega arith
-length-drop (suc n) (x ∷ xs) = length-drop n xs ∙ omega arith
-
 pub run_within : (most place last : ℕ) (rows : List Row) (is : List Instr) → is ≡ run true most (drop place rows) → place < length rows → last < length is → place + last < length rows
 run_within most place last rows is e h k = omega (arith, ap (λ (l : List Instr). length l) e, run_less true most (drop place rows), length-drop place rows)
-
-map_length : {A B : Type 0} (f : A → B) (xs : List A) → length (map f xs) ≡ length xs
-map_length f [] = refl
-map_length f (x ∷ xs) = ap suc (map_length f xs)
 
 -- a row for each place
 statement_length : (b : Bool) (s : Statement) → length (rows_of b s) ≡ length (places_in s)

@@ -125,7 +125,7 @@ rotated_once x n h =
     (cases_lt k 31)
 
 -- no rotation
-rotated-zero : (x : ℕ) → x < 2 ^ 32 → shifted Ror x 0 ≡ x
+pub rotated-zero : (x : ℕ) → x < 2 ^ 32 → shifted Ror x 0 ≡ x
 rotated-zero x h = omega arith
 
 -- a rotated word is a word
@@ -139,7 +139,7 @@ rotated-lt x n h =
     let part : (x % 2 ^ k + 1) * 2 ^ (32 - k) ≤ 2 ^ k * 2 ^ (32 - k) = mul-le-mul_right (2 ^ (32 - k)) (omega arith) in
     rw (rotated x n) (omega (arith, part, power, high))
 
-ror_value : (x i j : ℕ) → x < 2 ^ 32 → shifted Ror (shifted Ror x i) j ≡ shifted Ror x (i + j)
+pub ror_value : (x i j : ℕ) → x < 2 ^ 32 → shifted Ror (shifted Ror x i) j ≡ shifted Ror x (i + j)
 ror_value x i zero h = rotated-zero (shifted Ror x i) (rotated-lt x i h) ∙ ap (λ n. shifted Ror x n) (let e : i ≡ i + 0 = omega arith in e)
 ror_value x i (suc j) h =
     let one : j + 1 ≡ suc j = omega arith in
