@@ -1,5 +1,5 @@
 -- The first token of bytes.
-use Rattle.std.proofs.Common.{◌≡◌, ◌∙◌, ◌⊎◌, inl, inr, ℕ, suc, ◌+◌, ◌&&◌, Bool, true, false, not, List, [], ◌∷◌, ◌++◌, drop, take, refl, sym, ap, arith, cond, true≢false}
+use Rattle.std.proofs.Common.{◌≡◌, ◌∙◌, inl, inr, ℕ, suc, ◌+◌, ◌&&◌, Bool, true, false, not, List, [], ◌∷◌, ◌++◌, drop, take, refl, sym, ap, arith, cond, true≢false}
 use Rattle.std.specs.List.{prefix_len, list_all}
 use Rattle.ascii_scan.specs.Tokens.{word, mark, is_blank, is_mark, is_inner, begins_blank, begins_inner, tokens, grown, front, rest}
 use Rattle.ascii_scan.proofs.LineLemmas.{either}

@@ -1,5 +1,5 @@
 -- The lines of the listing that `demo` makes: its text is the listing of these, and they mention no name.
-use Rattle.std.proofs.Common.{◌≡◌, ◌∙◌, ℕ, zero, suc, ◌+◌, ◌*◌, ◌<◌, ◌≤◌, ◌%◌, ◌==◌, true, false, List, [], ◌∷◌, ◌++◌, length, map, inl, inr, refl, sym, ap, ap₂, subst, arith, true≢false, codes, append_assoc, append-nil, length-append, if◌then◌else◌, None, Ok}
+use Rattle.std.proofs.Common.{◌≡◌, ◌∙◌, ℕ, zero, suc, ◌+◌, ◌*◌, ◌<◌, ◌≤◌, ◌%◌, ◌==◌, true, false, List, [], ◌∷◌, ◌++◌, length, map, inl, inr, refl, sym, ap, ap₂, subst, arith, codes, append_assoc, append-nil, length-append, if◌then◌else◌, None, Ok}
 use Rattle.std.specs.List.{list_all}
 use Rattle.std.specs.Fmt.{decimal}
 use Rattle.std.proofs.Math.Nat.{mod-lt}
@@ -7,8 +7,7 @@ use Rattle.std.proofs.lemmas.Bool.{cases_Bool, and_parts, and_from, lt-ltb}
 use Rattle.std.proofs.lemmas.Fmt.{decimal_digit, decimal_step}
 use Rattle.std.proofs.lemmas.List.{length-map}
 use Rattle.std.proofs.lemmas.List.Folds.{list_all-append}
-use Rattle.ascii_scan.specs.Lines.{Placed, content_of, is_ended, placed, placed_from, whole}
-use Rattle.ascii_scan.specs.FirstLine.{is_inside}
+use Rattle.ascii_scan.specs.Lines.{content_of, is_ended, placed, placed_from, whole}
 use Rattle.ascii_scan.specs.Names.{registers}
 use Rattle.thumb_instr.specs.declared.instr.Instr.{Instr}
 use Rattle.thumb_instr.specs.declared.instr.Instr.TheVariants as instr
@@ -29,12 +28,12 @@ use Rattle.listing_parser.proofs.TwiceLemmas.{none_once}
 use Rattle.listing_parser.specs.Targets.{functions}
 use Rattle.listing_parser.specs.Parsing.{IsListing, text_of_lines, own_line}
 use Rattle.listing_parser.specs.Replacing.{names_no_label}
-use Rattle.listing_parser.proofs.CanonicalLines.{is_clear, unnamed, told_of, labels_only, canonical_text, canonical_line_checked, label_line_checked}
+use Rattle.listing_parser.proofs.CanonicalLines.{unnamed, told_of, labels_only, canonical_line_checked, label_line_checked}
 use Rattle.listing_parser.proofs.JoinedLines.{Ends, AreEnded, inside_ends, text, joined_split, ReadsAs, AreRead, all_same, all_read}
 use Rattle.listing_parser.proofs.OldLines.{content_newline}
 use Rattle.audit_cli.specs.Demo.{own, pair, window_text, windows_text, demo_text}
 use Rattle.audit_cli.proofs.MuteLines.{AreMute, all_aimed}
-use Rattle.listing_parser.proofs.ReplacedLines.{own_ends, own_inside, all_inside, whole_ended, clear_inside}
+use Rattle.listing_parser.proofs.ReplacedLines.{own_ends, own_inside, whole_ended}
 
 -- ---- instructions ----
 

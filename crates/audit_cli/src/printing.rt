@@ -1,7 +1,7 @@
 //! What is kept and printed, as bytes.
 ghost use Rattle.std.specs.Prelude.{◌≡◌, ◌∷◌, [], IfOk};
 ghost use Rattle.audit_cli.specs.Printed.{report_of, image_line, entries_line, learnt_line, demo_line, formula_line, trimmed_line, families_line, tidied_report};
-ghost use Rattle.command_runs.specs.Outcomes.{deed_view, outcome_view};
+ghost use Rattle.command_runs.specs.Outcomes.{outcome_view};
 ghost use Rattle.command_runs.specs.Plans.{Does};
 
 use command_runs::{Deed, Outcome};

@@ -7,7 +7,7 @@ use Rattle.word_bits.specs.declared.Shift.{Shift}
 use Rattle.word_bits.specs.declared.Shift.TheVariants.{Lsl, Lsr, Asr, Ror}
 use Rattle.word_bits.specs.Word.{shifted, last_out, shift_of}
 use Rattle.word_bits.proofs.Words.{pow_le, lsl_far, lsr_far, asr_far}
-use Rattle.word_bits.proofs.Successive.{shift_of-shift_of, shift_of-some, rotated-lt, ror_value as rotated_twice, rotated-zero as not_rotated}
+use Rattle.word_bits.proofs.Successive.{shift_of-shift_of, shift_of-some, ror_value as rotated_twice, rotated-zero as not_rotated}
 use Rattle.cnf_gates.specs.declared.bit.Bit.{Bit}
 use Rattle.cnf_gates.specs.declared.bit.Bit.TheVariants.{Constant}
 use Rattle.cnf_gates.specs.Gates.{Built, or_of, ite_of}

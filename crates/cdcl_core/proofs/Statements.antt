@@ -1,6 +1,6 @@
 -- Formulas clause by clause.
 use Rattle.std.proofs.Common.{◌≡◌, ◌≢◌, ℕ, ◌+◌, ◌-◌, ◌*◌, ◌/◌, ◌%◌, ◌<◌, ◌≤◌, List, [], ◌∷◌, ◌++◌, length, get_or, take, map, refl, sym, ◌∙◌, ap, inl, inr, arith, Option, Some, None, subst, zero, suc, true, false, Bool, pos, negsuc, ℤ, nat_eq, true≢false}
-use Rattle.std.specs.Prelude.{All, Any, Contains, FitsSigned, slice_get, replicate, max, not, IsTrue, ◌↔◌, ◌||◌, ◌&&◌}
+use Rattle.std.specs.Prelude.{All, Any, Contains, FitsSigned, slice_get, replicate, max, not, IsTrue, ◌↔◌}
 use Rattle.std.proofs.lemmas.Bool.{cases_eq, cases_lt, and_from as both, or_left, or_right}
 use Rattle.std.proofs.lemmas.Int.{ints}
 use Rattle.std.specs.Int.{w32}

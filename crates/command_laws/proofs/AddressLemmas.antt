@@ -9,8 +9,8 @@ use Rattle.thumb_instr.specs.declared.instr.Instr.{Instr}
 use Rattle.thumb_instr.specs.declared.instr.Instr.TheVariants as instr
 use Rattle.thumb_instr.specs.Window.{is_in_window, Low, renamed}
 use Rattle.thumb_instr.proofs.RenamingLemmas.{window_renamed}
-use Rattle.thumb_model.specs.Listing.{Name, Mention, Value, Number, OfName, Statement, Nothing, Runs, Words, Aligns, Sets, Line, Place, Word, Label, places_in, places_of, labels_from, code_of, has_label}
-use Rattle.thumb_model.specs.Layout.{instr_size, padding, size_at, end_of, is_among, label_address, set_in, set_address, cleared, or_else, lies_in}
+use Rattle.thumb_model.specs.Listing.{Name, Mention, Value, Number, OfName, Statement, Nothing, Runs, Words, Aligns, Sets, Line, Word, Label, places_in, places_of, labels_from, code_of, has_label}
+use Rattle.thumb_model.specs.Layout.{instr_size, padding, size_at, end_of, label_address, set_in, set_address, cleared, lies_in}
 use Rattle.rule_model.specs.Rules.{Rule, AreSound}
 use Rattle.thumb_model.specs.Effect.{AreOver}
 use Rattle.thumb_model.specs.Replaced.{move_label, is_op, is_align, are_joined, are_joined_from, without, labels_kept, new_line, replaced_lines}
@@ -20,7 +20,6 @@ use Rattle.thumb_model.proofs.Lists.{length_map, drop_back}
 use Rattle.rule_model.proofs.Table.{window_length}
 use Rattle.thumb_model.proofs.LinesReplaced.{ops_of, before, past_words}
 use Rattle.rule_model.proofs.LinesKept.{some_left as some_instruction, code_of_after}
-use Rattle.listing_parser.proofs.LabelLemmas.{label_among}
 use Rattle.thumb_assembler.specs.Bytes.{lies_nowhere, may_leave, branch_lost, value_lost, values_lost, lies_inside, flaw_of, or_first, flaws_from, first_flaw}
 use Rattle.thumb_machine.proofs.WordLemmas.{some_or as some_else}
 use Rattle.listing_laws.proofs.Fitted.{two_bytes as some_bytes}

@@ -1,20 +1,20 @@
 -- Each status but Done and Memory has its cause, and none comes where the texts that were read are fit.
-use Rattle.std.proofs.Common.{◌≡◌, ◌≤◌, ◌<◌, inl, inr, ℕ, Bool, true, false, List, [], ◌∷◌, Option, Some, None, length, refl, subst, arith}
+use Rattle.std.proofs.Common.{◌≡◌, inl, inr, ℕ, Bool, true, false, List, [], ◌∷◌, Option, Some, None, refl, subst, arith}
 use Rattle.std.specs.Prelude.{All}
 use Rattle.std.specs.Str.{IsUtf8}
 use Rattle.command_line.specs.CommandLine.{Request, AskFor}
 use Rattle.command_line.proofs.Usage.{asks_once}
-use Rattle.outer_store.specs.Outside.{Seen, Sunk, Shows, IsTooBig, MissedAt, TooBigAt, limit}
+use Rattle.outer_store.specs.Outside.{Seen, Sunk, MissedAt, TooBigAt}
 use Rattle.command_runs.specs.declared.status.Status.{Status}
 use Rattle.command_runs.specs.declared.status.Status.TheVariants as status
 use Rattle.command_runs.specs.Plans.{StopsAt}
 use Rattle.command_runs.specs.Runs.{IsRefused}
 use Rattle.audit_cli.specs.Peep.{plan_of, Peeps, Ran}
-use Rattle.audit_cli.specs.Complete.{IsWithin, CanBeFetched, CanAllBeFetched, IsUnhindered, IsCarriedOut, IsCarriedOutOrFull}
+use Rattle.audit_cli.specs.Complete.{CanBeFetched, IsUnhindered, IsCarriedOut, IsCarriedOutOrFull}
 use Rattle.command_laws.specs.Once.{AsksSolver}
 use Rattle.command_laws.specs.Fit.{WereRead, ReadsFit, FitTextsAreCarriedOut, FitTextsAreLearntFrom}
 use Rattle.command_laws.proofs.FitLemmas.{never_refuses, fit_full}
-use Rattle.audit_cli.proofs.CompleteLemmas.{not_missed, not_too_big, none_stops, not_both, clash, within_not_big}
+use Rattle.audit_cli.proofs.CompleteLemmas.{not_missed, not_too_big, none_stops}
 
 module _ (words : List (List ℕ)) (r : Request) (old new : Seen) (before after : Sunk) (text : All IsUtf8 words) (asks : AskFor words r) where
   -- the run stopped at a name

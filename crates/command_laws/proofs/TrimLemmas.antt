@@ -13,7 +13,7 @@ use Rattle.lrat_check.specs.Numbers.{IsHint}
 use Rattle.lrat_check.proofs.Parts.{trimmed_once, trimmed_refutes, trimmed_again}
 use Rattle.rule_table.specs.Header.{Header}
 use Rattle.rule_table.specs.Table.{Opened, Rule, Family, Table, IsRule, IsFamily, IsTable}
-use Rattle.rule_table.specs.Text.{Item, State, Entry, Left, Right, Mask, Proof, Logged, Open, End, line_of, text_of_items, open_items, rule_items, family_items, header_items, items_of}
+use Rattle.rule_table.specs.Text.{Item, State, Entry, Left, Right, Mask, Proof, Logged, End, line_of, text_of_items, open_items, rule_items, family_items, header_items, items_of}
 use Rattle.rule_table.specs.Text as item
 use Rattle.proof_logs.specs.Proofs.{InTurn}
 use Rattle.table_audit.specs.declared.errors.EntryFault.TheVariants as fault

@@ -1,5 +1,5 @@
 -- What tests say.
-use Rattle.std.proofs.Common.{◌≡◌, ◌⊎◌, inl, inr, ◌&&◌, ◌||◌, Bool, true, false, not, refl, sym, true≢false}
+use Rattle.std.proofs.Common.{◌≡◌, ◌||◌, Bool, true, false, not, refl, sym, true≢false}
 pub use Rattle.ascii_scan.proofs.NumeralLemmas.{both}
 pub use Rattle.ascii_scan.proofs.LineLemmas.{either}
 

@@ -1,6 +1,6 @@
 -- The numbers of a pool's text.
-use Rattle.std.proofs.Common.{Bor, ◌≡◌, ◌∙◌, ◌↔◌, ◌⊎◌, inl, inr, ◌≤◌, ◌<◌, ℕ, zero, suc, true, false, List, [], ◌∷◌, length, map, Option, Some, None, refl, sym, ap, arith, subst, if◌then◌else◌, option_map, ltb-true, get_or, IsTrue, true≢false}
-use Rattle.std.specs.Prelude.{All, IfSome, IsSome, option_and_then, nat_le, nat_lt}
+use Rattle.std.proofs.Common.{Bor, ◌≡◌, ◌∙◌, ◌↔◌, ◌⊎◌, inl, inr, ◌≤◌, ◌<◌, ℕ, zero, suc, true, false, List, [], ◌∷◌, length, map, Option, Some, None, refl, sym, ap, arith, subst, if◌then◌else◌, option_map, get_or, IsTrue, true≢false}
+use Rattle.std.specs.Prelude.{All, IfSome, IsSome, option_and_then}
 use Rattle.std.specs.List.{list_all}
 use Rattle.std.proofs.lemmas.List.Elements.{All-cons, All-head, All-tail}
 use Rattle.seq_enum.specs.Alphabet.{ascends_from, is_pool, inside}

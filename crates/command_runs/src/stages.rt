@@ -2,9 +2,9 @@
 ghost use Rattle.std.specs.Prelude.{◌≡◌, ℕ, ◌⊎◌, List, [], ◌∷◌, Result, IfOk, length, map};
 ghost use Rattle.std.specs.Result.{result_map_both};
 ghost use Rattle.command_runs.specs.declared.status.Status.TheVariants as status;
-ghost use Rattle.outer_store.specs.Outside.{Seen, SameHeld, Sunk};
+ghost use Rattle.outer_store.specs.Outside.{SameHeld};
 ghost use Rattle.outer_store.specs.Answers.{Grows, SinkGrows};
-ghost use Rattle.command_runs.specs.Plans.{Keep, Outcome as Comes};
+ghost use Rattle.command_runs.specs.Plans.{Outcome as Comes};
 ghost use Rattle.command_runs.specs.Runs.{Runs};
 ghost use Rattle.command_runs.specs.Stages.{Reads, Gathers, StoresOne, Stores, Prints, Finishes};
 ghost use Rattle.command_runs.specs.Outcomes.{deed_view, outcome_view};

@@ -15,7 +15,7 @@ use Rattle.edited_listing.specs.Counting.{one_if, item_labelled, some_name, is_l
 use Rattle.edited_listing.proofs.Free.{past_words, drop_past}
 use Rattle.edited_listing.proofs.Sorted.{sorted_less, not_given}
 use Rattle.edited_listing.proofs.Printed.{and_both, op_takes, not_first, free_behind, words_behind, words_past, stand_behind, other_line, labels_free_from}
-use Rattle.thumb_model.proofs.LinesReplaced.{lines_step as without_step, lines_without as without_count}
+use Rattle.thumb_model.proofs.LinesReplaced.{lines_without as without_count}
 
 label_lines : (l : Line) (ns : List Name) → length (labels_kept l ns) ≡ one_if (some_name ns)
 label_lines l [] = refl

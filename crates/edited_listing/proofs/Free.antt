@@ -1,8 +1,8 @@
 -- Instructions of lines that may give way: none but the first has a label.
-use Rattle.std.proofs.Common.{◌≡◌, ℕ, zero, suc, ◌+◌, ◌-◌, ◌<◌, ◌≤◌, ◌==◌, ◌&&◌, true, false, List, [], ◌∷◌, ◌++◌, length, map, drop, Some, refl, sym, ap, ◌∙◌, subst, ◌⊎◌, arith, ne_eqb, true≢false, if◌then◌else◌}
+use Rattle.std.proofs.Common.{◌≡◌, ℕ, zero, suc, ◌+◌, ◌-◌, ◌<◌, ◌≤◌, ◌==◌, ◌&&◌, true, false, List, [], ◌∷◌, ◌++◌, length, map, drop, Some, refl, ap, ◌∙◌, subst, ◌⊎◌, arith, ne_eqb, if◌then◌else◌}
 use Rattle.std.specs.Prelude.{slice_get, nat_le}
 use Rattle.std.proofs.lemmas.Bool.{le-leb}
-use Rattle.thumb_model.specs.Listing.{Name, Value, Statement, Runs, Words, Line, Place, Op, Word, Label, places_in, places_of, labels_at, labels_from, is_op_place}
+use Rattle.thumb_model.specs.Listing.{Name, Value, Statement, Runs, Words, Line, Place, Word, Label, places_in, places_of, labels_at, labels_from, is_op_place}
 use Rattle.thumb_model.specs.Replaced.{is_op}
 use Rattle.thumb_model.specs.Cuts.{AreOps}
 use Rattle.thumb_model.proofs.Lists.{get_drop}

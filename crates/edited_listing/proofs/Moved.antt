@@ -6,7 +6,7 @@ use Rattle.std.proofs.lemmas.List.{map-append}
 use Rattle.std.proofs.lemmas.Option.{same_Some}
 use Rattle.thumb_instr.specs.declared.instr.Instr.{Instr}
 use Rattle.thumb_model.specs.Listing.{Name, Line, Label, places_in, labels_at, labels_from}
-use Rattle.thumb_model.specs.Replaced.{is_op, labels_kept}
+use Rattle.thumb_model.specs.Replaced.{is_op}
 use Rattle.edited_listing.specs.Items.{Item, AsGiven, New, home_of, has_given, AreSorted}
 use Rattle.edited_listing.specs.Printing.{is_given_at, print_at, line_at, lines_from}
 use Rattle.edited_listing.specs.Giving.{WordsStand}

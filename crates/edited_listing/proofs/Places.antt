@@ -4,8 +4,8 @@ use Rattle.std.specs.Prelude.{slice_get, Option, None, is_some}
 use Rattle.std.proofs.lemmas.Bool.{cases_Bool, eqb-true, eqb-false}
 use Rattle.std.proofs.lemmas.List.{map-append}
 use Rattle.thumb_instr.specs.declared.instr.Instr.{Instr}
-use Rattle.thumb_model.specs.Listing.{Name, Statement, Nothing, Runs, Words, Aligns, Sets, Line, Place, Op, plain, places_in, places_of, is_op_place}
-use Rattle.thumb_model.specs.Replaced.{is_op, labels_kept}
+use Rattle.thumb_model.specs.Listing.{Statement, Nothing, Runs, Words, Aligns, Sets, Line, Place, Op, plain, places_in, places_of, is_op_place}
+use Rattle.thumb_model.specs.Replaced.{is_op}
 use Rattle.thumb_model.proofs.Lists.{get_front, get_back}
 use Rattle.edited_listing.specs.Items.{Item, AsGiven, New, has_given, AreSorted}
 use Rattle.edited_listing.specs.Printing.{is_given_at, print_at, line_at, lines_from}

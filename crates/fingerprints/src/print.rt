@@ -1,7 +1,7 @@
 //! Prints of what sequences leave in states.
 
 ghost use Rattle.std.specs.Prelude.{◌≡◌, ℕ, ◌<◌, ◌≤◌, fold, map, bit_and, slice_index};
-ghost use Rattle.thumb_model.specs.Effect.{after_all, AreOver};
+ghost use Rattle.thumb_model.specs.Effect.{AreOver};
 ghost use Rattle.window_exec.specs.State.{values_of};
 ghost use Rattle.fingerprints.specs.Print.{mixed, one_if, masked, nzcv_of, in_mask, print_from, print_after};
 ghost use Rattle.fingerprints.specs.Columns.{lanes_from, states_of, states_in};

@@ -8,7 +8,7 @@ use Rattle.std.proofs.lemmas.Slice.Eq.{bytes_eq-Decides}
 use Rattle.thumb_instr.specs.declared.instr.Instr.{Instr}
 use Rattle.thumb_instr.specs.declared.instr.Instr.TheVariants as instr
 use Rattle.thumb_model.specs.Effect.{one_of}
-use Rattle.thumb_model.specs.Listing.{Name, Mention, Value, Statement, Nothing, Runs, Words, Aligns, Sets, Line, Place, Op, Word, Label, Code, code_of, places_in, places_of, labels_at, labels_from, is_op_place, is_code, place_among, place_of, has_label, place_mentions, is_mentioned, is_call, call_count, label_places, return_places, IsPoint}
+use Rattle.thumb_model.specs.Listing.{Name, Mention, Value, Statement, Runs, Words, Line, Place, Op, Word, Label, Code, code_of, places_in, places_of, labels_at, labels_from, is_op_place, is_code, place_among, place_of, has_label, place_mentions, is_mentioned, is_call, call_count, label_places, return_places, IsPoint}
 use Rattle.thumb_model.specs.Naming.{Naming, Fits, points_of, returns_from, points}
 use Rattle.thumb_model.specs.Steps.{label_place, loads_literal, word_of_place, word_behind, literal_word, word_of_mention, literal_at, aim_of}
 use Rattle.thumb_model.specs.Literals.{HasLiterals, is_word_place}

@@ -14,7 +14,7 @@ use Rattle.thumb_model.specs.Literals.{HasLiterals}
 use Rattle.thumb_model.specs.Flow.{Leads, Onward, ways, ways_on, ways_of, Follows}
 use Rattle.thumb_model.specs.Same.{has_ended, Alike, here_or_ended, begun}
 use Rattle.thumb_model.specs.Replaced.{replaced}
-use Rattle.thumb_model.proofs.Law.{inside_of, Matches, Taken, law, keys}
+use Rattle.thumb_model.proofs.Law.{Matches, Taken, law, keys}
 use Rattle.thumb_model.proofs.Simulation.{Advance, sooner, reached}
 use Rattle.thumb_model.proofs.Tied.{TargetTied, LandingTied, NextTied, ActTied, AroundTied, looks_tied, act_tied}
 use Rattle.thumb_model.proofs.Moved.{data_moved, label_place_moved, point_at_moved, count_stays, place_moved, fits_stays, literals_stay}

@@ -10,7 +10,7 @@ ghost use Rattle.listing_draft.specs.Drafted.{lines_now};
 ghost use Rattle.flow_tidy.specs.Due.{AreDue};
 ghost use Rattle.flow_tidy.specs.Ground.{IsGround};
 ghost use Rattle.flow_tidy.specs.Quick.{left, IsSure};
-ghost use Rattle.flow_tidy.specs.Tidying.{setting, tidying_cost, AreTidiedBy, IsRefusal};
+ghost use Rattle.flow_tidy.specs.Tidying.{tidying_cost, AreTidiedBy, IsRefusal};
 
 use crate::chain_ends::Ends;
 use crate::due::Due;

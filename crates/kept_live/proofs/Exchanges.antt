@@ -5,10 +5,10 @@ use Rattle.std.proofs.lemmas.Bool.{cases_eq, cases_lt}
 use Rattle.std.proofs.lemmas.Option.{same_Some}
 use Rattle.thumb_instr.specs.declared.instr.Instr.{Instr}
 use Rattle.thumb_instr.specs.declared.instr.Instr.TheVariants as instr
-use Rattle.thumb_instr.specs.Shape.{uses_of, writes_of, registers_in}
-use Rattle.thumb_instr.specs.Items.{sp, one_of, has}
+use Rattle.thumb_instr.specs.Shape.{uses_of, writes_of}
+use Rattle.thumb_instr.specs.Items.{one_of, has}
 use Rattle.thumb_model.specs.Listing.{Code}
-use Rattle.thumb_model.specs.Flow.{Way as ModelWay, Onward, AnyPoint, Out, way, left_but, ways_of, ways}
+use Rattle.thumb_model.specs.Flow.{Way as ModelWay, Onward, way, ways_of, ways}
 use Rattle.thumb_model.proofs.Lists.{get_front, get_back}
 use Rattle.shrinking_sets.specs.Straight.{is_straight, nop, nops, reads_first, writes_in, IsApart}
 use Rattle.shrinking_sets.proofs.Exchange.{Runs, old_runs, new_runs, apart_or, straight_at, ways_same, straight_way}

@@ -1,24 +1,24 @@
 -- Visits that let sets grow, against the law of marks.
-use Rattle.std.proofs.Common.{◌≡◌, ◌≢◌, ℕ, zero, suc, ◌+◌, ◌<◌, ◌==◌, ◌&&◌, ◌||◌, not, true, false, List, [], ◌∷◌, ◌++◌, length, length-append, Option, None, refl, sym, ap, ◌∙◌, subst, ◌⊎◌, inl, inr, arith, ◌↔◌, eqb-true}
+use Rattle.std.proofs.Common.{◌≡◌, ◌≢◌, ℕ, ◌+◌, ◌<◌, ◌==◌, ◌&&◌, ◌||◌, not, true, false, List, [], ◌∷◌, ◌++◌, length, length-append, Option, None, refl, sym, ap, ◌∙◌, subst, ◌⊎◌, inl, inr, arith, ◌↔◌, eqb-true}
 use Rattle.std.specs.Prelude.{slice_set}
 use Rattle.std.proofs.lemmas.Bool.{cases_eq, cases_lt, cases_Bool, or_cases, or_left, or_right}
 use Rattle.std.proofs.lemmas.Option.{slice_get_past}
 use Rattle.thumb_instr.specs.declared.items.Items.{Items}
 use Rattle.thumb_instr.specs.Items.{one_of, has}
 use Rattle.thumb_model.specs.Listing.{Code, IsPoint}
-use Rattle.thumb_model.specs.Flow.{Way as ModelWay, Leads, Onward, ToPlace, AnyPoint, Out, ways, Follows, Reads}
+use Rattle.thumb_model.specs.Flow.{Way as ModelWay, Leads, AnyPoint, ways, Follows, Reads}
 use Rattle.shrinking_sets.specs.Marks.{some_reads, Passes}
 use Rattle.shrinking_sets.proofs.Points.{to_points}
 use Rattle.shrinking_sets.proofs.Growing.{visits_keep_closed, closed_have_all}
 use Rattle.code_flow.specs.declared.way.Way.{Way}
 use Rattle.code_flow.specs.declared.way.Ways.{Ways}
-use Rattle.code_flow.specs.Flow.{way_list, next_of, AreWays}
+use Rattle.code_flow.specs.Flow.{way_list, AreWays}
 use Rattle.liveness.specs.declared.graph.Graph.{Graph}
 use Rattle.liveness.specs.Live.{set_at}
 use Rattle.liveness.specs.Passes.{there, gained, weight_below, total, AreSound}
 use Rattle.liveness.specs.Graph.{some_leads, some_return, ways_in, ways_at, JumpsTo, AreCallers, AreReturns, IsGraph}
 use Rattle.liveness.proofs.Weights.{grows, total_set}
-use Rattle.liveness.proofs.Paths.{has_zero, found, way_gains, gained_reads, comes_from}
+use Rattle.liveness.proofs.Paths.{found, way_gains, gained_reads, comes_from}
 use Rattle.kept_live.specs.declared.counted.PointSets.{PointSets}
 use Rattle.kept_live.specs.Stack.{Stack}
 use Rattle.kept_live.specs.Counted.{AreCounted}

@@ -2,14 +2,12 @@
 //! read from there for sure.
 ghost use Rattle.std.specs.Prelude.{[], ◌∷◌, ◌≡◌, ◌≢◌, ◌<◌, ◌≤◌, ◌+◌, ◌-◌, ◌^◌, ◌&&◌, ◌||◌, not, true, false, ℕ, length, ◌⊎◌};
 ghost use Rattle.thumb_instr.specs.Items.{has, one_of};
-ghost use Rattle.shrinking_sets.specs.Straight.{IsApart};
 ghost use Rattle.liveness.specs.Live.{set_at};
-ghost use Rattle.code_flow.specs.Points.{marked};
 ghost use Rattle.liveness.specs.Graph.{JumpsTo, ways_at, AreCallers, AreReturns};
 ghost use Rattle.kept_live.specs.Counted.{AreCounted};
 ghost use Rattle.kept_live.specs.Passing.{passes_points, passes_to, Keeps};
 ghost use Rattle.kept_live.specs.Walk.{cleared, start_at, ClearsOn, IsFitWalk};
-ghost use Rattle.kept_live.specs.Within.{AreWithin, IsInside, IsWired};
+ghost use Rattle.kept_live.specs.Within.{AreWithin, IsInside};
 ghost use Rattle.kept_live.specs.Clears.{Begins, ClearsStep, IsSettledBy, ReturnsClear};
 
 use crate::counted::PointSets;

@@ -6,7 +6,7 @@ ghost use Rattle.liveness.specs.Live.{set_at};
 ghost use Rattle.liveness.specs.Graph.{JumpsTo, some_leads, ways_at, AreCallers};
 ghost use Rattle.kept_live.specs.Counted.{AreCounted};
 ghost use Rattle.kept_live.specs.Grows.{GrowsAt, IsGrownBy};
-ghost use Rattle.kept_live.specs.Within.{AreWithin, IsInside, IsWired};
+ghost use Rattle.kept_live.specs.Within.{AreWithin, IsInside};
 
 use crate::counted::{PointSets, put};
 use crate::stack::PlaceStack;

@@ -9,12 +9,12 @@ ghost use Rattle.kept_places.specs.Marks.{marked};
 ghost use Rattle.liveness.specs.Graph.{IsGraph};
 ghost use Rattle.liveness.specs.Live.{set_at};
 ghost use Rattle.kept_live.specs.Ahead.{IsAhead};
-ghost use Rattle.kept_live.specs.Grows.{IsGrowing, IsGrownBy};
+ghost use Rattle.kept_live.specs.Grows.{IsGrowing};
 ghost use Rattle.kept_live.specs.KeptLive.{parts_of, IsFitKept, IsIdle, IsKeptLive, IsShrunkBy, LosesAt};
 ghost use Rattle.kept_live.specs.Passing.{reads_from, writes_from};
-ghost use Rattle.kept_live.specs.Walk.{start_at, IsFitWalk};
+ghost use Rattle.kept_live.specs.Walk.{start_at};
 ghost use Rattle.kept_live.specs.Window.{AreAscending, ArePut, GivesWay};
-ghost use Rattle.kept_live.specs.Within.{IsInside, IsWired};
+ghost use Rattle.kept_live.specs.Within.{IsWired};
 
 use crate::clearing::{begin, clear};
 use crate::counted::PointSets;

@@ -2,8 +2,6 @@
 ghost use Rattle.std.specs.Prelude.{◌≡◌, ◌<◌, ◌≤◌, ◌-◌, ◌^◌, true, false, ℕ, length, get_or, slice_get, Some, None, Option};
 ghost use Rattle.thumb_instr.specs.Items.{has, one_of};
 ghost use Rattle.thumb_model.specs.Flow.{ways_of};
-ghost use Rattle.code_flow.specs.declared.way.Ways.{Ways as SomeWays};
-ghost use Rattle.code_flow.specs.Flow.{AreWays, way_list};
 ghost use Rattle.kept_live.specs.Passing.{reads_from, writes_from};
 ghost use Rattle.kept_live.specs.Window.{nth_or_nop, AreAscending, ArePut};
 

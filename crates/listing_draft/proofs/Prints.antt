@@ -2,7 +2,7 @@
 use Rattle.std.proofs.Common.{◌≡◌, ◌∙◌, ℕ, zero, suc, ◌+◌, ◌<◌, ◌≤◌, Bool, true, false, List, [], ◌∷◌, ◌++◌, length, drop, get_or, Option, Some, refl, sym, ap, arith, append_assoc, if◌then◌else◌}
 use Rattle.std.specs.Prelude.{slice_get}
 use Rattle.std.proofs.lemmas.List.{length-append}
-use Rattle.thumb_model.specs.Listing.{Name, Statement, Nothing, Runs, Words, Aligns, Sets, Line, places_in, places_of}
+use Rattle.thumb_model.specs.Listing.{Name, Line, places_in, places_of}
 use Rattle.thumb_model.specs.Replaced.{is_op}
 use Rattle.kept_places.specs.Marks.{is_gone}
 use Rattle.listing_draft.specs.Drafted.{aim_at, line_now, now_of}

@@ -4,11 +4,10 @@ use Rattle.std.specs.Prelude.{nat_lt, nat_le, slice_get}
 use Rattle.std.specs.Str.{bytes_eq}
 use Rattle.std.proofs.lemmas.Bool.{cases_Bool, and_from, le-leb, lt-ltb}
 use Rattle.std.proofs.lemmas.List.{length-append}
-use Rattle.std.proofs.lemmas.Option.{slice_get_within}
 use Rattle.std.proofs.lemmas.Slice.Eq.{bytes_eq-Decides}
 use Rattle.thumb_instr.specs.declared.instr.Instr.{Instr}
 use Rattle.thumb_instr.specs.declared.instr.Instr.TheVariants as instr
-use Rattle.thumb_model.specs.Listing.{Name, Mention, Value, Statement, Nothing, Runs, Words, Aligns, Sets, Line, Place, Op, Word, Label, places_in, places_of, labels_at, labels_from, code_of, has_label, is_call, is_call_instr, is_code, is_op_place, place_among, place_of, call_count}
+use Rattle.thumb_model.specs.Listing.{Name, Mention, Value, Statement, Nothing, Runs, Words, Aligns, Sets, Line, Place, Op, Word, Label, places_in, places_of, labels_at, labels_from, code_of, has_label, is_call, is_call_instr, is_code, place_among, place_of, call_count}
 use Rattle.thumb_model.specs.Layout.{instr_size, size_at, end_of, is_among, label_address}
 use Rattle.thumb_model.specs.Naming.{Naming, Fits, is_in_range, is_odd, points, points_of, returns_from, laid, word_by, ends_in_call, last_is_call, return_address}
 use Rattle.thumb_model.specs.Steps.{label_place}

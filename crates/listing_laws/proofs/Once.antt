@@ -1,18 +1,15 @@
 -- Where no name is defined twice, each label is the first one of its name.
-use Rattle.std.proofs.Common.{◌≡◌, ◌∙◌, ◌⊎◌, inl, inr, ℕ, zero, suc, ◌+◌, ◌||◌, Bool, true, false, List, [], ◌∷◌, ◌++◌, length, refl, sym, ap, subst, true≢false, Some, None}
+use Rattle.std.proofs.Common.{◌≡◌, ℕ, zero, suc, Bool, true, false, List, [], ◌∷◌, refl, subst, Some, None}
 use Rattle.std.specs.Prelude.{slice_get}
 use Rattle.std.specs.Str.{bytes_eq}
-use Rattle.std.proofs.lemmas.Bool.{cases_Bool, or_right as or_more}
+use Rattle.std.proofs.lemmas.Bool.{or_right as or_more}
 use Rattle.std.proofs.lemmas.Slice.Eq.{bytes_eq-Decides}
-use Rattle.thumb_model.specs.Listing.{Name, Line, Label, places_in, labels_at, labels_from}
+use Rattle.thumb_model.specs.Listing.{Name, Line, Label, labels_at, labels_from}
 use Rattle.thumb_model.specs.Layout.{is_among}
 use Rattle.thumb_model.specs.Steps.{label_place}
 use Rattle.listing_parser.specs.Parsing.{IsListing}
-use Rattle.listing_parser.specs.Targets.{defined_in, set_names}
-use Rattle.listing_parser.proofs.FirstTwice.{first_twice, is_again}
 use Rattle.listing_parser.proofs.TwiceLemmas.{once_none}
-use Rattle.listing_parser.proofs.LabelLemmas.{again_front, among_append, label_at, not_again, or_false}
-use Rattle.listing_parser.proofs.Namings.{fresh, own}
+use Rattle.listing_parser.proofs.Namings.{own}
 pub use Rattle.listing_parser.proofs.Namings.{either_part}
 
 -- a label at this place has one of these names

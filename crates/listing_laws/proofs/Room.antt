@@ -22,10 +22,10 @@ use Rattle.listing_parser.specs.declared.directive.Directive.{Directive}
 use Rattle.listing_parser.specs.declared.directive.Directive.TheVariants as directive
 use Rattle.listing_parser.specs.Values.{value, values, onto_values, alone, gapped, pair}
 use Rattle.listing_parser.specs.Directives.{Unmarked, NextMarked, NameMarked, Said, Plain, Instruction, Told, says, says_if, marks, size_of, aligns_at_most, whole_size, aligned, sets, sets_by, typed_by, directed, directed_by, directive_named, is_word_byte, is_bare, is_alone, is_code_section, instruction, said, statement}
-use Rattle.listing_parser.specs.Grammar.{Bare, Read, labels_at_front, body, code, read_lines, said_of, bare, most_lines}
+use Rattle.listing_parser.specs.Grammar.{Bare, Read, labels_at_front, body, code, read_lines, said_of, bare}
 use Rattle.listing_parser.proofs.ReadingLemmas.{rest_short}
 use Rattle.listing_parser.proofs.PrintLemmas.{OfLine, of_checked, cut, none_read}
-use Rattle.listing_parser.proofs.FewLemmas.{or_false, tokens_short, labels_short, code_short, body_short, all_few}
+use Rattle.listing_parser.proofs.FewLemmas.{tokens_short, labels_short, code_short, body_short, all_few}
 use Rattle.listing_laws.specs.Limits.{TextsEndInCode}
 
 -- ---- the most that a statement takes ----

@@ -6,7 +6,6 @@ use Rattle.std.proofs.lemmas.Bool.Decides.{nat_tests}
 use Rattle.std.proofs.lemmas.Bool.{cases_Bool}
 use Rattle.std.proofs.lemmas.List.{length-append}
 use Rattle.std.proofs.lemmas.Option.{slice_get_within}
-use Rattle.std.proofs.lemmas.Slice.Eq.{bytes_eq-Decides}
 use Rattle.ascii_scan.specs.Lines.{lines_of}
 use Rattle.thumb_model.specs.Listing.{Name, Line, Place, Label, Code, places_in, places_of, labels_at, labels_from, code_of, has_label, is_call, is_code, is_op_place, place_of, return_places}
 use Rattle.thumb_model.specs.Layout.{is_among}

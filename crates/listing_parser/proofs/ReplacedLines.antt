@@ -3,7 +3,6 @@ use Rattle.std.proofs.Common.{◌≡◌, ◌∙◌, ◌⊎◌, inl, inr, ℕ, ze
 use Rattle.std.specs.Prelude.{slice_get, if◌then◌else◌}
 use Rattle.std.specs.List.{list_all}
 use Rattle.std.proofs.lemmas.Bool.{cases_Bool, and_parts, and_from}
-use Rattle.std.proofs.lemmas.Slice.Eq.{bytes_eq-Decides}
 use Rattle.ascii_scan.specs.Lines.{Placed, lines_of, content_of, is_ended, placed, placed_from, whole}
 use Rattle.ascii_scan.specs.FirstLine.{is_inside}
 use Rattle.ascii_scan.proofs.LineLemmas.{map-whole}

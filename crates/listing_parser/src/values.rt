@@ -1,8 +1,7 @@
 //! Words of data.
 ghost use Rattle.std.specs.Prelude.{◌≡◌, ◌==◌, ◌&&◌, map, option_map, IfOk, Some};
 ghost use Rattle.std.specs.List.{prefix_len};
-ghost use Rattle.ascii_scan.specs.Names.{is_digit, is_name_byte};
-ghost use Rattle.ascii_scan.specs.Tokens.{front, rest, tokens};
+ghost use Rattle.ascii_scan.specs.Tokens.{rest, tokens};
 ghost use Rattle.thumb_syntax.specs.Operands.{is_name};
 ghost use Rattle.listing_parser.specs.Values.{added, named_value, negated, sum, value, values};
 ghost use Rattle.listing_parser.specs.Results.{first_value};

@@ -4,12 +4,11 @@ use Rattle.std.specs.Prelude.{slice_get}
 use Rattle.thumb_instr.specs.declared.instr.Instr.{Instr}
 use Rattle.thumb_instr.specs.declared.items.Items.{Items}
 use Rattle.thumb_instr.specs.Items.{has}
-use Rattle.thumb_model.specs.Listing.{Place, Op, Word, plain, Label, Line, Code, code_of, is_code, labels_from, places_of}
+use Rattle.thumb_model.specs.Listing.{Place, plain, Label, Line, Code, code_of, is_code, labels_from, places_of}
 use Rattle.thumb_model.specs.Flow.{Way, ways}
 use Rattle.thumb_model.specs.Replaced.{moved, move_label, replaced, replaced_lines}
-use Rattle.thumb_model.specs.Cuts.{AreOps}
 use Rattle.thumb_model.proofs.Lists.{cons_same, length_drop, length_map, take_short}
-use Rattle.thumb_model.proofs.LinesReplaced.{AllOutside, code_replaced, outside_of, ops_of}
+use Rattle.thumb_model.proofs.LinesReplaced.{code_replaced, outside_of, ops_of}
 use Rattle.thumb_model.proofs.Moved.{fetch_window}
 use Rattle.liveness.specs.declared.kept.NewSets.{NewSets}
 use Rattle.liveness.specs.Live.{Sets, set_at, IsLive}

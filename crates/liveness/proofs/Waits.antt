@@ -1,5 +1,5 @@
 -- Places that begin to wait, and cease to.
-use Rattle.std.proofs.Common.{◌≡◌, ◌≢◌, ℕ, zero, suc, ◌+◌, ◌<◌, ◌≤◌, ◌==◌, ◌||◌, Bool, true, false, List, [], ◌∷◌, ◌++◌, length, length-append, replicate, refl, sym, ap, ◌∙◌, ◌⊎◌, inl, inr, arith, eq-eqb, eqb-true, ne_eqb}
+use Rattle.std.proofs.Common.{◌≡◌, ◌≢◌, ℕ, zero, suc, ◌+◌, ◌<◌, ◌≤◌, ◌||◌, Bool, true, false, List, [], ◌∷◌, ◌++◌, length, length-append, replicate, refl, sym, ap, ◌∙◌, ◌⊎◌, inl, inr, arith, ne_eqb}
 use Rattle.std.specs.Prelude.{slice_set}
 use Rattle.std.specs.Int.{from_bool}
 use Rattle.std.proofs.lemmas.Bool.{cases_eq}
@@ -10,7 +10,7 @@ use Rattle.liveness.specs.declared.waiting.Waiting.{Waiting}
 use Rattle.code_flow.specs.Points.{marked}
 use Rattle.liveness.specs.Waiting.{count_marked, left, AreWaiting, WaitMore, IsTaken}
 use Rattle.code_flow.proofs.Marking.{set_here, set_else}
-use Rattle.liveness.proofs.Paths.{or_cases, or_left, or_right}
+use Rattle.liveness.proofs.Paths.{or_left, or_right}
 use Rattle.code_flow.proofs.Reaches.{in_both, marked_within}
 pub use Rattle.code_flow.proofs.Reaches.{is_one, one_is}
 

@@ -3,7 +3,7 @@ ghost use Rattle.std.specs.Prelude.{◌≡◌, ◌≢◌, ℕ, ℤ, List, [], �
 ghost use Rattle.std.specs.Fmt.{signed_decimal};
 ghost use Rattle.std.specs.List.{slice_split};
 ghost use Rattle.clause_model.specs.Clauses.{HasDistinctVariables, variable_of};
-ghost use Rattle.lrat_check.specs.Numbers.{IsId, IsHint, AllWithin};
+ghost use Rattle.lrat_check.specs.Numbers.{IsId, AllWithin};
 ghost use Rattle.lrat_check.specs.Text.{Content, content_of, addition, deletion, text_of, words_of, middle_of, id_of, spaced, literal_text, end_word, deletion_word, HasGoodParts, IsLine};
 ghost use Rattle.lrat_check.specs.Reading.{IsLineWith, words_left};
 

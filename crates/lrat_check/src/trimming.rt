@@ -3,7 +3,7 @@
 ghost use Rattle.std.specs.Prelude.{◌≡◌, ℕ, ◌+◌, ◌<◌, ◌≤◌, List, [], AllPairs, IfOk, length, map};
 ghost use Rattle.clause_model.specs.Clauses.{codes_of, hint_lengths};
 ghost use Rattle.step_ledger.specs.Counts.{RisesByAtLeast, RisesBy};
-ghost use Rattle.lrat_check.specs.Text.{Content, content_of, names_of, IsTrimmed, IsUsedPart, HasEmpty, EachIsNamed, used_lengths};
+ghost use Rattle.lrat_check.specs.Text.{Content, content_of, names_of, IsTrimmed, IsUsedPart, EachIsNamed, used_lengths};
 ghost use Rattle.lrat_check.specs.Checking.{State, Starts};
 ghost use Rattle.lrat_check.specs.Runs.{contents_of, IsRefutation, Costs};
 ghost use Rattle.lrat_check.specs.Ending.{adds_of, up_to_empty};

@@ -2,9 +2,8 @@
 ghost use Rattle.std.specs.Prelude.{◌≡◌, ℕ, ◌+◌, ◌<◌, ◌≤◌, ◌==◌, ◌&&◌, ◌||◌, not, true, false, IfOk, IfSome, OnOk, filter, get_or, length};
 ghost use Rattle.std.specs.Int.{bit_at};
 ghost use Rattle.thumb_instr.specs.Items.{has};
-ghost use Rattle.window_exec.specs.State.{values_of};
 ghost use Rattle.seq_enum.specs.Alphabet.{numbers_from};
-ghost use Rattle.outcomes.specs.Columns.{column_of, outcome_at, AreFull};
+ghost use Rattle.outcomes.specs.Columns.{AreFull};
 ghost use Rattle.outcomes.specs.Looks.{flags_differ, keeps_word, AreAmong, AreThose, IsLike};
 
 use crate::columns::{Columns, word_at};

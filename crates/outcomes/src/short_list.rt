@@ -2,7 +2,7 @@
 ghost use Rattle.std.specs.Prelude.{◌≡◌, ◌≤◌, ◌+◌, IfOk, OnOk, IfErr};
 ghost use Rattle.seq_enum.specs.Alphabet.{numbers_from};
 ghost use Rattle.step_ledger.specs.Counts.{RisesBy};
-ghost use Rattle.outcomes.specs.Outcomes.{grown_to, sequences_below};
+ghost use Rattle.outcomes.specs.Outcomes.{sequences_below};
 ghost use Rattle.outcomes.specs.Candidates.{AreCandidates, BeginsAt, grown_for, added_for};
 
 use crate::outcomes::Outcomes;

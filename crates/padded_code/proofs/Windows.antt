@@ -8,7 +8,7 @@ use Rattle.thumb_instr.specs.Shape.{uses_of, writes_of}
 use Rattle.thumb_instr.specs.Window.{is_in_window}
 use Rattle.thumb_model.specs.Effect.{one_of}
 use Rattle.thumb_model.specs.Listing.{Place, plain, Code}
-use Rattle.thumb_model.specs.Flow.{Way, way, Onward, ways_of, ways, ways_on, Follows, Reads, now, later, LiveAfter}
+use Rattle.thumb_model.specs.Flow.{Way, way, Onward, ways, ways_on, Follows, Reads, now, later, LiveAfter}
 use Rattle.kept_places.specs.Marks.{is_gone, rank}
 use Rattle.padded_code.specs.Padding.{nop, kept, IsPadded}
 use Rattle.padded_code.specs.Windows.{AreRanked}

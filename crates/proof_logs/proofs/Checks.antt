@@ -1,6 +1,6 @@
 -- A checker that has accepted the lines so far knows what they say, and refuses what they don't accept.
 use Rattle.std.proofs.Common.{◌≡◌, ℕ, ◌+◌, ◌≤◌, ◌⊎◌, List, [], ◌∷◌, ◌++◌, length, take, drop, sym, ◌∙◌, ap, subst, arith, refl, inl, inr, map, slice_get, Option, Some, None, true, false, nat_eq, append_assoc}
-use Rattle.std.specs.Prelude.{Any, Contains, IsTrue, ◌↔◌, is_some, unsigned_abs}
+use Rattle.std.specs.Prelude.{Any, Contains, IsTrue, ◌↔◌, unsigned_abs}
 use Rattle.std.proofs.Math.Path.{fun_ext}
 use Rattle.std.proofs.lemmas.Bool.{cases_eq, true≢false}
 use Rattle.std.proofs.lemmas.Bool.Decides.{nat_tests}
@@ -14,7 +14,7 @@ use Rattle.lrat_check.specs.declared.fault.LineFault.{LineFault}
 use Rattle.lrat_check.specs.Numbers.{is_negative}
 use Rattle.lrat_check.specs.declared.line.Line.{Line}
 use Rattle.lrat_check.specs.declared.line.Line.TheVariants.{Addition as Adding, Deletion as Deleting}
-use Rattle.lrat_check.specs.Text.{Content, addition, deletion, content_of, without, Deletes, DeadAt}
+use Rattle.lrat_check.specs.Text.{Content, addition, deletion, content_of, without, Deletes}
 use Rattle.lrat_check.specs.Costs.{cost_of}
 use Rattle.lrat_check.specs.Live.{Adds}
 use Rattle.lrat_check.specs.Checking.{State, live_at, Starts, Accepts as Leads}

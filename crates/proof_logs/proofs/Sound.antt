@@ -1,19 +1,18 @@
 -- A formula of which a proof is accepted has no model.
-use Rattle.std.proofs.Common.{◌≡◌, ℕ, ◌+◌, ◌-◌, ◌*◌, ◌⊎◌, ℤ, List, [], ◌∷◌, ◌++◌, map, refl, sym, ◌∙◌, inl, inr, arith, Option, Some, None, subst, Bool, true, false, zero, suc, true≢false, append_assoc}
-use Rattle.std.specs.Prelude.{All, IfSome, nat_eq, slice_get, ◌||◌, ◌&&◌, not, pos, negsuc, unsigned_abs}
+use Rattle.std.proofs.Common.{◌≡◌, ℕ, ◌+◌, ◌-◌, ℤ, List, [], ◌∷◌, ◌++◌, map, refl, sym, inl, inr, arith, Option, Some, None, subst, Bool, true, false, append_assoc}
+use Rattle.std.specs.Prelude.{All, nat_eq, unsigned_abs}
 use Rattle.std.proofs.lemmas.Bool.{cases_eq}
 use Rattle.std.proofs.lemmas.Bool.Decides.{nat_tests}
 use Rattle.std.proofs.lemmas.List.{append-nil}
-use Rattle.std.proofs.lemmas.List.Elements.{All-contains, All-cons, All-nil, All-push}
-use Rattle.std.proofs.lemmas.Option.{slice_get_within, get_or_from_slice_get}
-use Rattle.cnf_gates.specs.Meaning.{number_value, clause_value, all_true}
-use Rattle.clause_model.specs.Clauses.{literal_value, code_of, codes_of, Satisfies, numbered, SatisfiesLive}
+use Rattle.std.proofs.lemmas.List.Elements.{All-contains, All-push}
+use Rattle.cnf_gates.specs.Meaning.{all_true}
+use Rattle.clause_model.specs.Clauses.{codes_of, Satisfies, SatisfiesLive}
 use Rattle.clause_model.proofs.Sound.{rup_sound}
 use Rattle.lrat_check.specs.Text.{Content, addition, deletion}
 use Rattle.lrat_check.proofs.Accepted.{deleted_live}
 use Rattle.proof_logs.specs.Proofs.{Known, started, with_clause, without_all, after_line, AllAccepted, additions, HasEmpty, ProofVerdict}
 use Rattle.proof_logs.proofs.Checks.{passed_accepted}
-use Rattle.lrat_check.proofs.Models.{numbered_true, clauses_true, clause_true, code_true}
+use Rattle.lrat_check.proofs.Models.{numbered_true, clauses_true}
 
 with_true : (m : ℕ → Bool) (live : ℕ → Option (List ℕ)) (id : ℕ) (clause : List ℕ) → Satisfies m clause → SatisfiesLive m live → SatisfiesLive m (with_clause live id clause)
 with_true m live id clause s h q = elim (cases_eq q id) [

@@ -5,7 +5,7 @@ ghost use Rattle.clause_model.specs.Clauses.{codes_of};
 ghost use Rattle.step_ledger.specs.Counts.{RisesByAtLeast};
 ghost use Rattle.proof_logs.specs.Proofs.{Answers, started, LinesVerdict, HasEmpty, ProofVerdict};
 ghost use Rattle.proof_logs.specs.Costs.{lines_cost};
-ghost use Rattle.proof_logs.specs.Checked.{known_of, contents_of};
+ghost use Rattle.proof_logs.specs.Checked.{contents_of};
 
 use crate::faults::ProofFault;
 use cnf_gates::Formula;

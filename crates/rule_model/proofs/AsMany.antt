@@ -2,7 +2,7 @@
 use Rattle.std.proofs.Common.{◌≡◌, ℕ, zero, suc, ◌+◌, ◌-◌, ◌<◌, ◌≤◌, ◌==◌, ◌&&◌, List, [], ◌∷◌, ◌++◌, length, drop, map, refl, sym, ap, ◌∙◌, subst, inl, inr, arith, ne_eqb, if◌then◌else◌}
 use Rattle.std.proofs.lemmas.Bool.{cases_lt}
 use Rattle.thumb_instr.specs.declared.instr.Instr.{Instr}
-use Rattle.thumb_model.specs.Listing.{Name, Value, Statement, Runs, Words, Line, Place, Word, Label, Code, places_in, places_of, labels_at, labels_from, code_of}
+use Rattle.thumb_model.specs.Listing.{Statement, Runs, Words, Line, Place, Word, Label, Code, places_in, places_of, labels_at, labels_from, code_of}
 use Rattle.thumb_model.specs.Replaced.{moved, move_label, replaced, is_op, without, labels_kept, new_line, replaced_lines}
 use Rattle.thumb_model.specs.Cuts.{AreOps}
 use Rattle.thumb_model.proofs.Lists.{length_map, drop_back, cons_same}

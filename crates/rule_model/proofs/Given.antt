@@ -1,5 +1,5 @@
 -- A naming that fits what rewriting leaves fits the given lines too, where it tells their code points apart.
-use Rattle.std.proofs.Common.{◌≡◌, ◌≢◌, ℕ, zero, suc, ◌+◌, ◌-◌, ◌||◌, true, false, List, [], ◌∷◌, ◌++◌, length, take, drop, map, refl, sym, ap, ◌∙◌, subst, arith}
+use Rattle.std.proofs.Common.{◌≡◌, ℕ, zero, suc, ◌+◌, ◌-◌, ◌||◌, true, false, List, [], ◌∷◌, ◌++◌, length, take, drop, map, refl, sym, ap, ◌∙◌, subst, arith}
 use Rattle.std.specs.Prelude.{Option, Some, slice_get, bytes_eq}
 use Rattle.std.specs.Option.{option_map, unwrap_or}
 use Rattle.std.proofs.lemmas.Option.{slice_get-map}
@@ -10,8 +10,8 @@ use Rattle.thumb_model.specs.Naming.{Naming, Fits, points}
 use Rattle.thumb_model.specs.Replaced.{moved, move_label, replaced}
 use Rattle.thumb_model.proofs.Moved.{points_moved}
 use Rattle.thumb_model.proofs.Follow.{IsSound}
-use Rattle.rule_model.specs.Rules.{Rule, IsSoundRule, AreSound, Applies}
-use Rattle.rule_model.specs.Rewriting.{Setting, Replacement, AppliesIn, AreRewritten, lines_after}
+use Rattle.rule_model.specs.Rules.{AreSound}
+use Rattle.rule_model.specs.Rewriting.{Setting, Replacement, AppliesIn, lines_after}
 use Rattle.rule_model.specs.Laws.{TellsApart, LeftNamingsFitGiven}
 use Rattle.rule_model.proofs.Table.{window_length, applies_sound}
 use Rattle.rule_model.proofs.LinesKept.{some_left, code_of_after}

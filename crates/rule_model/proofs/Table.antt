@@ -4,7 +4,7 @@ use Rattle.std.specs.Prelude.{slice_get}
 use Rattle.thumb_instr.specs.declared.instr.Instr.{Instr}
 use Rattle.thumb_instr.specs.declared.instr.Instr.TheVariants as instr
 use Rattle.thumb_instr.specs.Shape.{uses_of, writes_of}
-use Rattle.thumb_instr.specs.Window.{is_in_window, Low, AreBelow, named, renamed}
+use Rattle.thumb_instr.specs.Window.{is_in_window, Low, named, renamed}
 use Rattle.thumb_instr.proofs.RenamingLemmas.{window_renamed}
 use Rattle.thumb_model.specs.Effect.{Values, after_all, register_count, AreOver, normalised}
 use Rattle.thumb_model.specs.Listing.{Place, plain, Code, is_op_place, is_code, is_call_instr}

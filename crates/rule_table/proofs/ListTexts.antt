@@ -1,8 +1,6 @@
 -- Lists of numbers, a blank before each, and the words of bytes.
 use Rattle.std.proofs.Common.{◌≡◌, ℕ, ◌<◌, ◌≤◌, ◌^◌, ◌&&◌, true, false, List, [], ◌∷◌, ◌++◌, length, map, refl, sym, ◌∙◌, ap, arith, subst, eqb, append-nil, leb-true, Option, Some, None}
 use Rattle.std.specs.Prelude.{decimal, nat_lt, nat_le, MatchOption, IsSome, IfSome, IsTrue, ◌↔◌}
-use Rattle.std.specs.Char.{is_ascii_digit}
-use Rattle.std.specs.Str.{all_ascii_digits}
 use Rattle.std.specs.List.{All, slice_split, join_with_byte, list_all}
 use Rattle.std.proofs.lemmas.Fmt.{decimal_injective}
 use Rattle.std.proofs.lemmas.Bool.{and_parts, false≢true}
@@ -10,7 +8,7 @@ use Rattle.std.proofs.lemmas.List.Elements.{All-nil, All-cons, All-head, All-tai
 use Rattle.std.proofs.lemmas.List.Splits.{slice_split_none, slice_split_at, length-slice_split, join_with_byte-slice_split}
 use Rattle.seq_enum.specs.Alphabet.{is_pool, inside}
 use Rattle.seq_enum.specs.Costs.{AreCosts}
-use Rattle.lrat_check.proofs.Texts.{map-injective, HasNoBlank, digits_no_blank, digit_no_blank}
+use Rattle.lrat_check.proofs.Texts.{map-injective, HasNoBlank, digits_no_blank}
 use Rattle.rule_table.specs.Text.{after_blanks}
 use Rattle.rule_table.specs.Words.{AreBytes, AreWords}
 use Rattle.rule_table.proofs.InsideLines.{IsInside, blanks_inside, decimal_digits, decimal_inside}

@@ -1,9 +1,9 @@
 -- What replacing does to lines: what stands before stays, a run without names gives way to one of no more bytes, and what stands behind stays.
-use Rattle.std.proofs.Common.{◌≡◌, ◌∙◌, inl, inr, ℕ, zero, suc, ◌+◌, ◌-◌, ◌*◌, ◌<◌, ◌≤◌, ◌==◌, ◌&&◌, Bool, true, false, List, [], ◌∷◌, ◌++◌, length, drop, map, Option, Some, None, refl, sym, ap, subst, arith, append_assoc, ne_eqb, if◌then◌else◌}
+use Rattle.std.proofs.Common.{◌≡◌, ◌∙◌, ℕ, zero, suc, ◌+◌, ◌-◌, ◌*◌, ◌<◌, ◌≤◌, ◌==◌, ◌&&◌, Bool, true, false, List, [], ◌∷◌, ◌++◌, length, drop, map, Option, Some, None, refl, sym, ap, subst, arith, append_assoc, ne_eqb, if◌then◌else◌}
 use Rattle.std.specs.Prelude.{slice_get}
 use Rattle.std.proofs.lemmas.Bool.{and_parts, and_from, eqb-true}
 use Rattle.thumb_instr.specs.declared.instr.Instr.{Instr}
-use Rattle.thumb_model.specs.Listing.{Name, Mention, Value, Statement, Nothing, Runs, Words, Aligns, Sets, Line, Place, Op, Word, Label, places_in, places_of, is_op_place, labels_at, labels_from}
+use Rattle.thumb_model.specs.Listing.{Name, Mention, Value, Statement, Nothing, Runs, Words, Line, Place, Op, Word, places_in, places_of, is_op_place, labels_at, labels_from}
 use Rattle.thumb_model.specs.Layout.{instr_size, is_among, set_in, set_address}
 use Rattle.thumb_model.specs.Replaced.{is_op, without, labels_kept, new_line, replaced_lines}
 use Rattle.thumb_model.proofs.LinesReplaced.{AllOutside, all_back, no_names}

@@ -1,26 +1,21 @@
 -- A steady listing can be laid out, and stays steady when instructions are replaced by runs that are no longer.
-use Rattle.std.proofs.Common.{◌≡◌, ◌∙◌, ◌⊎◌, inl, inr, ℕ, zero, suc, ◌+◌, ◌%◌, ◌<◌, ◌≤◌, ◌&&◌, true, false, List, [], ◌∷◌, ◌++◌, length, take, drop, map, Option, Some, None, refl, sym, ap, subst, arith, if◌then◌else◌}
-use Rattle.std.specs.Prelude.{slice_get}
+use Rattle.std.proofs.Common.{◌≡◌, ◌∙◌, inl, inr, ℕ, zero, suc, ◌+◌, ◌%◌, ◌≤◌, ◌&&◌, true, false, List, [], ◌∷◌, ◌++◌, length, take, map, Option, Some, None, refl, sym, ap, subst, arith, if◌then◌else◌}
 use Rattle.std.proofs.lemmas.Bool.{cases_Bool, and_parts, and_from}
 use Rattle.std.proofs.lemmas.List.{append-nil}
-use Rattle.thumb_model.proofs.LinesReplaced.{outside_of, before}
 use Rattle.thumb_instr.specs.declared.instr.Instr.{Instr}
 use Rattle.thumb_instr.specs.declared.instr.Instr.TheVariants as instr
 use Rattle.thumb_instr.specs.Window.{Low, renamed, is_in_window}
 use Rattle.thumb_instr.proofs.RenamingLemmas.{window_renamed}
-use Rattle.thumb_model.specs.Listing.{Name, Statement, Nothing, Runs, Words, Aligns, Sets, Line, Place, Op, Word, plain, Label, code_of, places_of, labels_from}
+use Rattle.thumb_model.specs.Listing.{Name, Statement, Runs, Line, Place, Op, Word, plain}
 use Rattle.thumb_model.specs.Layout.{instr_size, size_at, is_among, label_address, set_in, set_address, cleared, or_else, lies_in, fault_at, faults_from, Layable}
 use Rattle.thumb_model.specs.Effect.{AreOver, normalised}
-use Rattle.thumb_model.specs.Replaced.{replaced_lines}
-use Rattle.thumb_model.proofs.Lists.{length_map}
 use Rattle.thumb_model.proofs.Window.{normal_in_window}
-use Rattle.thumb_model.proofs.LinesReplaced.{AllOutside}
 use Rattle.steady_layout.specs.declared.starts.Start.{Start}
 use Rattle.steady_layout.specs.Steady.{first, widest_end, label_start, steady_at, all_steady, labels_in, sets_in, IsSteady}
 use Rattle.steady_layout.proofs.Nearer.{IsWithin, IsTold, AreTold, address_of, aim_free}
 use Rattle.steady_layout.proofs.Padding.{some_bytes, size_most, ends_told}
 use Rattle.steady_layout.proofs.Walks.{after, look, ending, steady_by, AreLess, IsLater, ahead_earlier, Tails, no_tails, ahead, backs_later, Known, IsWalked, walk, ending_append, steady_append}
-use Rattle.steady_layout.proofs.Cuts.{most, IsNoLonger, ending_is, look_bare, look_unnamed, steady_bare, ArePlain, AreTwos, IsCut, cut}
+use Rattle.steady_layout.proofs.Cuts.{most, IsNoLonger, ending_is, look_bare, look_unnamed, steady_bare, ArePlain, AreTwos, IsCut}
 
 -- ---- the definitions' layout is that of the greatest sizes ----
 

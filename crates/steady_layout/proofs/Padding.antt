@@ -6,7 +6,7 @@ use Rattle.std.proofs.lemmas.Nat.{mod_below, div-add-mod', mod-mul-add, mul-mod_
 use Rattle.std.proofs.Math.Nat.{mod-eq_of_lt, suc-mul}
 use Rattle.thumb_instr.specs.declared.instr.Instr.{Instr}
 use Rattle.thumb_instr.specs.declared.instr.Instr.TheVariants as instr
-use Rattle.thumb_model.specs.Listing.{Statement, Nothing, Runs, Words, Aligns, Sets}
+use Rattle.thumb_model.specs.Listing.{Statement, Runs, Aligns}
 use Rattle.thumb_model.specs.Layout.{instr_size, padding, size_at}
 use Rattle.steady_layout.specs.Steady.{most_of, aligns_surely, ends_aligned}
 

@@ -1,5 +1,5 @@
 -- Sequences below a side: by number, by weight, and how many numbers can have one.
-use Rattle.std.proofs.Common.{◌≡◌, ℕ, zero, suc, ◌+◌, ◌-◌, ◌*◌, ◌<◌, ◌≤◌, ◌⊎◌, ◌&&◌, inl, inr, Bool, true, false, List, [], ◌∷◌, ◌++◌, Option, Some, None, IfSome, Contains, cond, filter, get_or, length, nat_le, nat_lt, slice_get, sum_by, refl, sym, ◌∙◌, ap, subst, arith, le-leb, lt-ltb, length-append}
+use Rattle.std.proofs.Common.{◌≡◌, ℕ, suc, ◌+◌, ◌-◌, ◌*◌, ◌<◌, ◌≤◌, ◌⊎◌, ◌&&◌, inl, inr, Bool, true, false, List, [], ◌∷◌, ◌++◌, Option, Some, None, IfSome, Contains, cond, filter, length, nat_le, nat_lt, slice_get, sum_by, refl, sym, ◌∙◌, ap, subst, arith, le-leb, lt-ltb, length-append}
 use Rattle.std.specs.Option.{option_and_then}
 use Rattle.std.proofs.Math.Nat.{mul-le-mul_left}
 use Rattle.std.proofs.lemmas.Bool.{and_parts, and_from, cases_lt, leb-true, ltb-true, lt-leb, le-ltb}

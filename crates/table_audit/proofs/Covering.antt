@@ -1,12 +1,11 @@
 -- The numbers that are tried have each untold sequence among them, and the table of outcomes has no more than 128 sequences for each that is below the right side.
-use Rattle.std.proofs.Common.{◌≡◌, ℕ, zero, suc, ◌+◌, ◌-◌, ◌*◌, ◌<◌, ◌≤◌, ◌⊎◌, inl, inr, true, Bool, List, [], ◌∷◌, ◌++◌, Option, Some, None, IfSome, Contains, filter, length, map, min, slice_get, refl, sym, ◌∙◌, ap, subst, arith, lt-ltb, length-append}
+use Rattle.std.proofs.Common.{◌≡◌, ℕ, zero, suc, ◌+◌, ◌-◌, ◌*◌, ◌<◌, ◌≤◌, ◌⊎◌, inl, inr, true, Bool, List, [], ◌∷◌, Option, Some, None, IfSome, filter, length, min, slice_get, refl, sym, ◌∙◌, ap, subst, arith, lt-ltb, length-append}
 use Rattle.std.proofs.Math.Nat.{mul-le-mul_left}
 use Rattle.std.proofs.lemmas.List.Elements.{filter-append}
-use Rattle.std.proofs.lemmas.Option.{same_Some, slice_get_within}
 use Rattle.thumb_instr.specs.declared.instr.Instr.{Instr}
 use Rattle.thumb_instr.specs.Items.{has, is_in_masks}
 use Rattle.seq_enum.specs.Costs.{AreCosts, weight_under}
-use Rattle.seq_enum.specs.Alphabet.{alphabet, sequences, sequences_of}
+use Rattle.seq_enum.specs.Alphabet.{alphabet}
 use Rattle.outcomes.specs.declared.trials.Trial.{Trial}
 use Rattle.outcomes.specs.Trials.{AreTrials}
 use Rattle.outcomes.specs.Outcomes as table
@@ -18,7 +17,7 @@ use Rattle.rule_table.specs.Header.{Header}
 use Rattle.rule_table.specs.Table.{Rule, Table}
 use Rattle.table_audit.specs.Shorter.{alphabet_registers, sequences_below, weight_in, IsBelow, is_lighter, below}
 use Rattle.table_audit.specs.Lighter.{AreLighter, IsWithin, CoverUntold}
-use Rattle.table_audit.specs.Acceptance.{IsUntold, lengths_below}
+use Rattle.table_audit.specs.Acceptance.{lengths_below}
 use Rattle.table_audit.specs.Costs.{runs_cost}
 use Rattle.table_audit.proofs.Numbering.{below_in, below_from}
 use Rattle.table_audit.proofs.Below.{length_within, some_below}

@@ -1,11 +1,11 @@
 -- Light sequences are found by putting letters behind those that were found before.
-use Rattle.std.proofs.Common.{◌≡◌, ℕ, zero, suc, ◌+◌, ◌-◌, ◌*◌, ◌/◌, ◌%◌, ◌^◌, ◌<◌, ◌≤◌, ◌⊎◌, ◌&&◌, inl, inr, Bool, true, false, List, [], ◌∷◌, ◌++◌, Option, Some, None, Contains, cond, filter, get_or, length, map, nat_lt, slice_get, refl, sym, ◌∙◌, ap, subst, arith, lt-ltb, add-one, append-nil, append_assoc, length-append, ◌↔◌}
+use Rattle.std.proofs.Common.{◌≡◌, ℕ, zero, suc, ◌+◌, ◌-◌, ◌*◌, ◌/◌, ◌%◌, ◌^◌, ◌<◌, ◌≤◌, ◌⊎◌, ◌&&◌, inl, inr, Bool, true, false, List, [], ◌∷◌, ◌++◌, Option, Some, None, Contains, cond, filter, get_or, length, map, nat_lt, slice_get, refl, sym, ◌∙◌, ap, subst, arith, lt-ltb, add-one, append-nil, append_assoc, length-append}
 use Rattle.std.specs.Option.{option_map, option_and_then}
 use Rattle.std.proofs.Math.Nat.{mul-le-mul_left, mul-le-mul_right, pow-suc, pow-zero}
 use Rattle.std.proofs.lemmas.Bool.{and_parts, and_from, cases_lt, ltb-true}
 use Rattle.std.proofs.lemmas.List.{get_or_default, length-map}
 use Rattle.std.proofs.lemmas.List.Elements.{Contains-append_left, Contains-append_right, Contains-append_cases, Contains-get_or, filter-append}
-use Rattle.std.proofs.lemmas.Nat.{div-add-mod', mod_below}
+use Rattle.std.proofs.lemmas.Nat.{div-add-mod'}
 use Rattle.std.proofs.lemmas.Option.{slice_get_within, slice_get_cases, slice_get-map, slice_get-get_or, get_or_from_slice_get, option_and_then_some, same_Some}
 use Rattle.thumb_instr.specs.declared.instr.Instr.{Instr}
 use Rattle.seq_enum.specs.Alphabet.{numbers_from, ascends_from, words, sequences_of}
@@ -13,7 +13,7 @@ use Rattle.seq_enum.specs.Costs.{cost_under, weight_under}
 use Rattle.seq_enum.proofs.Numbered.{get_front, get_back, get-flat_map, get-flat_map-digits, length-numbers, numbers_at}
 use Rattle.seq_enum.proofs.Words.{length-words, word_length, power_small}
 use Rattle.outcomes.specs.Outcomes.{sequences_below}
-use Rattle.outcomes.proofs.Growing.{below_none, below_more, below_longest, below_longer}
+use Rattle.outcomes.proofs.Growing.{below_none, below_more, below_longest}
 use Rattle.outcomes.proofs.Looking.{filter_has, filter_in, filter_does, filter_ascends, numbers_ascend}
 use Rattle.fingerprints.proofs.Candidates.{numbers_split}
 use Rattle.table_audit.specs.Shorter.{is_lighter}

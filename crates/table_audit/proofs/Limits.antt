@@ -3,7 +3,6 @@ use Rattle.std.proofs.Common.{◌≡◌, ℕ, zero, suc, ◌+◌, ◌*◌, ◌^�
 use Rattle.std.proofs.Math.Nat.{one-le-mul, pow-le-pow_left}
 use Rattle.std.proofs.lemmas.Bool.{cases_lt}
 use Rattle.std.proofs.lemmas.Option.{slice_get_within}
-use Rattle.thumb_instr.specs.declared.instr.Instr.{Instr}
 use Rattle.rand_pcg.specs.Lcg.{Lcg}
 use Rattle.fingerprints.specs.Seeded.{states_from, seeded_states}
 use Rattle.seq_enum.specs.Alphabet.{alphabet}

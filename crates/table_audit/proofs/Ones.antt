@@ -1,5 +1,5 @@
 -- Where each mnemonic costs 1, the sequences below a side are those that are shorter.
-use Rattle.std.proofs.Common.{◌≡◌, ℕ, ◌<◌, ◌≤◌, inl, inr, List, [], ◌∷◌, Some, None, length, replicate, refl, ◌∙◌, ap, arith}
+use Rattle.std.proofs.Common.{◌≡◌, ℕ, inl, inr, List, [], ◌∷◌, Some, None, length, replicate, refl, ◌∙◌, ap, arith}
 use Rattle.std.proofs.lemmas.Bool.{cases_lt}
 use Rattle.std.proofs.lemmas.List.{get_or-replicate, get_or_past}
 use Rattle.std.proofs.lemmas.List.Sums.{sum_by-cons}
@@ -8,7 +8,7 @@ use Rattle.thumb_instr.specs.Parts.{parts_of}
 use Rattle.seq_enum.specs.Costs.{mnemonic, cost_in, weight_under}
 use Rattle.rule_table.specs.Header.{Header}
 use Rattle.table_audit.specs.Shorter.{IsBelow, weight_in}
-use Rattle.table_audit.specs.Soundness.{IsShortest, CheapestIsShortest}
+use Rattle.table_audit.specs.Soundness.{CheapestIsShortest}
 
 costs_one : (i : Instr) → cost_in (replicate 28 1) i ≡ 1
 costs_one i =

@@ -24,7 +24,7 @@ use Rattle.table_audit.specs.declared.errors.EntryFault.TheVariants.{Proof, Unfi
 use Rattle.table_audit.specs.declared.errors.AuditError.TheVariants.{Entry}
 use Rattle.table_audit.specs.declared.errors.AuditError.TheVariants as error
 use Rattle.table_audit.specs.declared.errors.FamilyKind.TheVariants as family
-use Rattle.table_audit.specs.Shorter.{named_count, alphabet_registers, SidesFit, formula_of, IsBelow, values_in, IsTold, is_named as is_open}
+use Rattle.table_audit.specs.Shorter.{named_count, alphabet_registers, SidesFit, formula_of, values_in, IsTold}
 use Rattle.table_audit.specs.Canonical.{HasFormula}
 use Rattle.table_audit.specs.Acceptance.{EntryVerdict, EntryProofVerdict, ToldVerdict, OpenTest, OpensVerdict, FamilyProofVerdict, RaisedVerdict, FamilyVerdict, IsAccepted}
 use Rattle.table_audit.specs.Families.{entry_of, symbol_of, IsRaisable, raised_formula, AreEqualWithEach, NoneIsShorter}

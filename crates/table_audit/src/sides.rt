@@ -1,14 +1,13 @@
 //! The sides that an entry may have, and the formula that they differ.
 ghost use Rattle.std.specs.Prelude.{◌≡◌, ◌+◌, ◌<◌, ◌≤◌, ◌↔◌, true, IfOk, IfSome, IsTrue, MatchOption, length, map, min};
 ghost use Rattle.std.specs.List.{list_all};
-ghost use Rattle.thumb_instr.specs.Window.{is_in_window, named};
+ghost use Rattle.thumb_instr.specs.Window.{is_in_window};
 ghost use Rattle.thumb_model.specs.Effect.{AreOver};
 ghost use Rattle.seq_enum.specs.Alphabet.{numbers_from, IsOver};
-ghost use Rattle.bit_blast.specs.Differences.{sides_formula};
 ghost use Rattle.bit_blast.specs.Exactness.{IsMaskOver};
 ghost use Rattle.rule_table.specs.Canonical.{firsts, numbers_of, appearing};
 ghost use Rattle.rule_table.specs.Views.{header_in, rule_of, table_of};
-ghost use Rattle.table_audit.specs.Shorter.{named_count, alphabet_registers, IsCanonicalSide, SidesFit, formula_against, formula_of};
+ghost use Rattle.table_audit.specs.Shorter.{named_count, alphabet_registers, SidesFit, formula_against, formula_of};
 ghost use Rattle.table_audit.specs.Canonical.{HasFormula};
 ghost use Rattle.table_audit.specs.Orders.{IsAstray, IsInOrder, AreWithin};
 

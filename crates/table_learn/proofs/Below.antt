@@ -5,9 +5,9 @@ use Rattle.std.proofs.lemmas.Bool.{cases_lt}
 use Rattle.std.proofs.lemmas.Option.{same_Some}
 use Rattle.thumb_instr.specs.declared.instr.Instr.{Instr}
 use Rattle.seq_enum.specs.Places.{sum_below}
-use Rattle.seq_enum.specs.Alphabet.{alphabet, sequences}
+use Rattle.seq_enum.specs.Alphabet.{alphabet}
 use Rattle.seq_enum.specs.Costs.{AreCosts, weight_under}
-use Rattle.table_audit.specs.Shorter.{alphabet_registers, with_scratch, IsBelow, sequences_below, weight_in, below_at}
+use Rattle.table_audit.specs.Shorter.{alphabet_registers, with_scratch, IsBelow, sequences_below, below_at}
 use Rattle.table_audit.specs.Acceptance.{lengths_below, width_of}
 use Rattle.table_audit.proofs.Below.{below_found, length_within}
 use Rattle.table_audit.proofs.Numbering.{below_in, below_from, length-sequences_below}

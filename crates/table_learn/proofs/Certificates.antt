@@ -5,7 +5,7 @@ use Rattle.std.specs.Prelude.{◌≢◌, ℤ, pos, Any, unsigned_abs, cond, Vec}
 use Rattle.std.proofs.Math.Seq.{take-append_seam}
 use Rattle.std.proofs.lemmas.Bool.{cases_eq, cases_lt}
 use Rattle.std.proofs.lemmas.Bool.Decides.{nat_tests}
-use Rattle.std.proofs.lemmas.List.{length-map, map_push, get_or_append_left}
+use Rattle.std.proofs.lemmas.List.{length-map, get_or_append_left}
 use Rattle.std.proofs.lemmas.List.Elements.{All-nil, All-cons}
 use Rattle.std.specs.Option.{option_map}
 use Rattle.std.proofs.lemmas.List.Quantifiers.{Any-push}
@@ -22,7 +22,7 @@ use Rattle.lrat_check.specs.declared.line.Line.TheVariants.{Addition as Adding, 
 use Rattle.lrat_check.specs.declared.line.Addition.{Addition}
 use Rattle.lrat_check.specs.Numbers.{is_negative, IsHint}
 use Rattle.lrat_check.specs.Text.{Content, content_of, IsLine}
-use Rattle.proof_logs.specs.Proofs.{Known, started, with_clause, after_line, Accepts, AllAccepted, additions, IsSpentLog, EachIsNew, LinesVerdict, ProofVerdict}
+use Rattle.proof_logs.specs.Proofs.{Known, started, with_clause, after_line, Accepts, AllAccepted, additions, IsSpentLog, EachIsNew, ProofVerdict}
 use Rattle.proof_logs.proofs.Checks.{same_known, accepted_passed}
 use Rattle.cdcl_core.specs.Solved.{RefutesTidily, Adds, literals_in, with_log, Teaches, Refutes, IsLog}
 use Rattle.cdcl_core.proofs.Logs.{asserting_some, with_more}

@@ -1,5 +1,5 @@
 -- Entries fit as more states are found, and pass the audit.
-use Rattle.std.proofs.Common.{◌≡◌, ℕ, zero, suc, ◌+◌, ◌≤◌, ◌⊎◌, ◌==◌, inl, inr, Bool, true, false, not, List, [], ◌∷◌, ◌++◌, Option, Some, None, cond, filter, length, slice_get, refl, sym, ◌∙◌, ap, subst, arith, eqb-true, zero-add, nat_le}
+use Rattle.std.proofs.Common.{◌≡◌, ℕ, suc, ◌+◌, ◌≤◌, ◌⊎◌, ◌==◌, inl, inr, Bool, true, false, not, List, [], ◌∷◌, ◌++◌, Option, Some, None, cond, filter, length, slice_get, refl, sym, ◌∙◌, ap, subst, arith, eqb-true, nat_le}
 use Rattle.std.proofs.lemmas.Bool.{or_cases, or_left, or_right, false≢true, true≢false, and_parts, leb-true, le-leb}
 use Rattle.seq_enum.specs.Alphabet.{ascends_from}
 use Rattle.thumb_instr.specs.declared.instr.Instr.{Instr}
@@ -18,7 +18,6 @@ use Rattle.table_learn.specs.Progress.{table_with}
 use Rattle.table_learn.proofs.Certificates.{refutation_passes, search_spends}
 use Rattle.table_learn.proofs.Telling.{told_is, untold, told_more, told-append, untold_both}
 use Rattle.clause_model.proofs.Sound.{flip as not_flip}
-use Rattle.fingerprints.proofs.Letters.{at_cons}
 pub use Rattle.fingerprints.proofs.Letters.{filter_at}
 
 -- ---- the audit ----

@@ -1,5 +1,5 @@
 -- Entries as they are while more states are found.
-use Rattle.std.specs.Prelude.{ℕ, ◌≡◌, ◌⊎◌, Bool, true, false, not, List, All, Option, Some, None, filter, length, slice_get}
+use Rattle.std.specs.Prelude.{ℕ, ◌≡◌, ◌⊎◌, Bool, true, false, not, List, All, Option, Some, None, filter, slice_get}
 use Rattle.thumb_instr.specs.declared.instr.Instr.{Instr}
 use Rattle.seq_enum.specs.Alphabet.{ascends_from, IsOver}
 use Rattle.window_exec.specs.State.{Seen}

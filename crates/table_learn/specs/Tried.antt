@@ -1,6 +1,6 @@
 -- What trying a candidate comes to.
 use Rattle.std.specs.Global.{Global}
-use Rattle.std.specs.Prelude.{ℕ, ◌≡◌, ◌∷◌, ◌++◌, List, [], All, Option, Some, None, Vec, map, slice_get}
+use Rattle.std.specs.Prelude.{ℕ, ◌≡◌, ◌∷◌, ◌++◌, List, [], All, Option, Some, None, Vec, map}
 use Rattle.thumb_instr.specs.declared.instr.Instr.{Instr}
 use Rattle.window_exec.specs.State.{Seen}
 use Rattle.lrat_check.specs.declared.line.Line.{Line}

@@ -4,10 +4,10 @@ ghost use Rattle.window_exec.specs.State.{seen};
 ghost use Rattle.thumb_model.specs.Effect.{AreOver};
 ghost use Rattle.rule_table.specs.Table.{Rule};
 ghost use Rattle.rule_table.specs.Views.{opened_of, rule_of};
-ghost use Rattle.table_audit.specs.Shorter.{alphabet_registers, IsCanonicalSide, below_at};
+ghost use Rattle.table_audit.specs.Shorter.{alphabet_registers, below_at};
 ghost use Rattle.table_learn.specs.Given.{settings_of};
-ghost use Rattle.table_learn.specs.Fitness.{tells_number, stays_open, without_told};
-ghost use Rattle.table_learn.specs.Lengths.{opens_length, rules_length};
+ghost use Rattle.table_learn.specs.Fitness.{tells_number, without_told};
+ghost use Rattle.table_learn.specs.Lengths.{rules_length};
 ghost use Rattle.table_learn.specs.Searching.{is_below};
 ghost use Rattle.table_learn.specs.Dropping.{IsSided, Dropped, runs_on};
 

@@ -10,7 +10,7 @@ ghost use Rattle.table_learn.specs.Learnt.{Window as Model, Learnt, text_limit, 
 ghost use Rattle.table_learn.specs.Given.{settings_of, window_of, AreInLimits, AreWindows, IsWindow};
 ghost use Rattle.table_learn.specs.Found.{window_in};
 ghost use Rattle.table_learn.specs.Failing.{FailsAs, SpendsAs, learn_cost};
-ghost use Rattle.table_learn.specs.Progress.{HasLearnt, table_with, states_in, rules_in, search_cost, drop_cost};
+ghost use Rattle.table_learn.specs.Progress.{HasLearnt, table_with, search_cost, drop_cost};
 
 use crate::dropping::drop_all_told;
 use crate::errors::LearnError;

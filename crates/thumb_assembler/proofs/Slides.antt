@@ -9,7 +9,7 @@ use Rattle.thumb_model.proofs.Returns.{no_words}
 use Rattle.thumb_instr.specs.declared.instr.Instr.{Instr}
 use Rattle.thumb_instr.specs.declared.instr.Instr.TheVariants as instr
 use Rattle.thumb_instr.specs.declared.operation.Hint.TheVariants as hint
-use Rattle.thumb_model.specs.Listing.{Name, Mention, Value, Statement, Runs, Words, Aligns, Line, Place, Op, Word, Label, Code, places_in, places_of, labels_at, labels_from, code_of, place_of, is_op_place, is_code, is_call_instr, call_count}
+use Rattle.thumb_model.specs.Listing.{Name, Mention, Value, Statement, Runs, Words, Aligns, Line, Place, Op, Word, Code, places_in, places_of, labels_at, labels_from, code_of, place_of, is_op_place, is_call_instr, call_count}
 use Rattle.thumb_model.specs.Layout.{instr_size, padding, size_at, end_of, is_among, label_address}
 use Rattle.thumb_model.specs.Naming.{Naming, Fits, points_of, returns_from, points, is_odd, is_in_range, laid, word_by}
 use Rattle.thumb_model.specs.Steps.{label_place, least_or, point_among, landing}

@@ -11,7 +11,7 @@ use Rattle.thumb_machine.specs.Memory.{memory_of}
 use Rattle.thumb_machine.specs.Outside.{answer_values, answers_of}
 use Rattle.thumb_machine.specs.Acting.{world_of, Changed, Acted, Acts}
 use Rattle.thumb_instr.specs.declared.instr.Instr.{Instr}
-use Rattle.thumb_model.specs.States.{Act, Fault, On, Stay, aligned, all_at, answers_with, ends, puts, takes, with_bytes}
+use Rattle.thumb_model.specs.States.{Act, Fault, On, Stay, all_at, answers_with, ends, puts, takes, with_bytes}
 use Rattle.thumb_model.specs.Accesses.{access_size, accesses, behind, device_words, gets, is_device, left_from, load_events, loads, loads_many, many_outputs, stores, stores_many, value_at}
 use Rattle.thumb_model.specs.Acts.{act}
 use Rattle.thumb_model.specs.States as model

@@ -12,8 +12,8 @@ use Rattle.thumb_machine.specs.Outside.{answers_of, event_of, events_of}
 use Rattle.thumb_machine.specs.Acting.{world_of, next_of, Acted, EndsBy}
 use Rattle.thumb_machine.specs.Landings.{landed_events, landed_next}
 use Rattle.thumb_model.specs.Effect.{Values, assigned, sp}
-use Rattle.thumb_model.specs.States.{Act, Fault, Landing, Goes, Leaves, Strays, Stay, ends, puts}
-use Rattle.thumb_model.specs.Accesses.{behind, device_words, left_from, load_events, many_outputs}
+use Rattle.thumb_model.specs.States.{Act, Fault, Landing, Goes, ends}
+use Rattle.thumb_model.specs.Accesses.{behind, left_from, load_events, many_outputs}
 use Rattle.thumb_model.specs.Acts.{popped_word, popping, pops, pops_to, with_pc}
 use Rattle.thumb_model.specs.States as model
 

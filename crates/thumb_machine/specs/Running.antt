@@ -20,10 +20,9 @@ use Rattle.thumb_machine.specs.Outside.{answers_of, events_of}
 use Rattle.thumb_machine.specs.Acting.{target_of, world_of}
 use Rattle.thumb_machine.specs.Stages.{end_of, next_at, stage_of}
 use Rattle.thumb_model.specs.Listing.{Code, Place, Op, Word, call_count}
-use Rattle.thumb_model.specs.Naming.{Naming, is_in_range, is_odd, points}
+use Rattle.thumb_model.specs.Naming.{Naming, points}
 use Rattle.thumb_model.specs.States.{State, Here, Ended}
-use Rattle.thumb_model.specs.Acts.{act}
-use Rattle.thumb_model.specs.Steps.{aim_of, around_of, literal_at, point_among, step, target_at}
+use Rattle.thumb_model.specs.Steps.{aim_of, literal_at, point_among, step, target_at}
 use Rattle.thumb_model.specs.States as model
 use Rattle.thumb_model.specs.Steps as model_steps
 

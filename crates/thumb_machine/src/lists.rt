@@ -9,7 +9,7 @@ ghost use Rattle.thumb_machine.specs.declared.answers.Answer.{Answer};
 ghost use Rattle.thumb_machine.specs.Registers.{values_of};
 ghost use Rattle.thumb_machine.specs.Memory.{memory_of, room_of};
 ghost use Rattle.thumb_machine.specs.Outside.{answers_of, events_of};
-ghost use Rattle.thumb_machine.specs.Acting.{Acts, Changes};
+ghost use Rattle.thumb_machine.specs.Acting.{Acts};
 ghost use Rattle.thumb_machine.specs.Lists.{AreRegisters};
 
 use crate::answers::Answers;

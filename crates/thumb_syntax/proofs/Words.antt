@@ -10,7 +10,7 @@ use Rattle.std.proofs.lemmas.Bool.{cases_Bool, and_parts, or_parts, or_cases, no
 use Rattle.std.proofs.lemmas.Fmt.{decimal_digit, decimal_step, decimal_is_IsNumeral}
 use Rattle.std.proofs.lemmas.Slice.Eq.{bytes_eq-Decides}
 use Rattle.ascii_scan.specs.Names as names
-use Rattle.ascii_scan.specs.Names.{is_name_byte, is_opening, is_register, is_spelled, name_length}
+use Rattle.ascii_scan.specs.Names.{is_name_byte, is_opening, is_register, is_spelled}
 use Rattle.ascii_scan.specs.Tokens.{word, tokens, is_inner, begins_inner, front, rest}
 use Rattle.ascii_scan.proofs.TokenLemmas.{tokens_written}
 use Rattle.ascii_scan.proofs.NumeralLemmas.{numeral_decimal}

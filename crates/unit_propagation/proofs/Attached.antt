@@ -1,14 +1,12 @@
 -- A clause more, which watches two literals of its own.
-use Rattle.std.proofs.Common.{◌≡◌, ◌≢◌, ℕ, ◌<◌, List, [], ◌∷◌, ◌++◌, length, map, refl, sym, ◌∙◌, ap, inl, inr, arith, subst, suc, Some, true, false, nat_eq}
+use Rattle.std.proofs.Common.{◌≡◌, ◌≢◌, ℕ, ◌<◌, List, [], ◌∷◌, ◌++◌, length, map, refl, sym, ◌∙◌, ap, inl, inr, arith, subst, Some, true, false}
 use Rattle.std.specs.Prelude.{Contains, All, ◌↔◌}
 use Rattle.std.proofs.lemmas.Bool.{cases_eq}
-use Rattle.std.proofs.lemmas.Bool.Decides.{nat_tests}
 use Rattle.std.proofs.lemmas.List.{map_push}
 use Rattle.std.proofs.lemmas.List.Elements.{Contains-push_cases, Contains-push, Contains-append_left, All-contains}
 use Rattle.clause_model.specs.Clauses.{negated}
 use Rattle.clause_arena.specs.Contents.{Clause, Content, HasClause, HasLiteral, Watches, IsWhole, references_of, literals_of, literals_in, clause_among, with_clause}
 use Rattle.unit_propagation.specs.Watching.{IsWatched, IsAttached, IsKnown, IsAdded}
-use Rattle.unit_propagation.proofs.Steps.{Contains-first, Contains-cases}
 use Rattle.clause_arena.proofs.Copies.{among_earlier, among_new}
 
 pub none_in : (x : ℕ) → Contains [] x → ⊥

@@ -1,9 +1,9 @@
 //! What becomes of each watch of a literal that has become false: kept, moved, or its clause is unit or false.
 ghost use Rattle.std.specs.Prelude.{◌≡◌, ◌≢◌, ℕ, ◌+◌, ◌-◌, ◌<◌, ◌≤◌, ◌⊎◌, List, [], ◌∷◌, ◌++◌, length, take, Contains, All, Any, IfOk, OnOk, IfSome, slice_get, Option, Some, None, true, false};
 ghost use Rattle.clause_model.specs.Clauses.{negated, IsFalse, AllFalse};
-ghost use Rattle.clause_arena.specs.Contents.{Content, HasClause, HasLiteral, Watches, IsWhole, literals_of, IsBetween, IsAfter};
+ghost use Rattle.clause_arena.specs.Contents.{HasClause, HasLiteral, Watches, IsWhole, literals_of, IsBetween, IsAfter};
 ghost use Rattle.unit_propagation.specs.declared.watching.Outcome.TheVariants.{Kept, Moved, Conflict};
-ghost use Rattle.unit_propagation.specs.Watching.{IsAttached, IsKnown, IsOtherTrue, Rule, RuleUpTo, IsLater, IsMoved, Due};
+ghost use Rattle.unit_propagation.specs.Watching.{IsAttached, IsKnown, IsOtherTrue, Rule, RuleUpTo, IsLater, IsMoved};
 
 use clause_arena::{Arena, Memory, Ref};
 use clause_model::{Assignment, Literal};

@@ -9,7 +9,7 @@ use Rattle.thumb_instr.specs.declared.instr.Instr.TheVariants as instr
 use Rattle.thumb_instr.specs.Items.{has}
 use Rattle.thumb_instr.specs.Window.{is_in_window, Low, renamed}
 use Rattle.thumb_instr.proofs.RenamingLemmas.{window_renamed}
-use Rattle.thumb_model.specs.Listing.{plain, Label, Line, places_of, labels_from, code_of, is_op_place}
+use Rattle.thumb_model.specs.Listing.{Label, Line, places_of, labels_from, code_of, is_op_place}
 use Rattle.thumb_model.specs.Flow.{LiveAfter}
 use Rattle.thumb_model.specs.Layout.{Layable}
 use Rattle.rule_model.specs.Rules.{Rule, Applies, IsSoundRule, alone}
@@ -30,7 +30,7 @@ use Rattle.window_rewrite.proofs.WindowPlaces.{first_op, window_within}
 use Rattle.window_rewrite.specs.declared.finding.Rules.{Rules}
 use Rattle.window_rewrite.specs.declared.known_layout.KnownLayout.{KnownLayout}
 use Rattle.window_rewrite.specs.Rewriting.{setting_by}
-use Rattle.window_rewrite.specs.Choices.{FitsIn, IsAllowed, Meets}
+use Rattle.window_rewrite.specs.Choices.{FitsIn, Meets}
 use Rattle.window_rewrite.specs.Fitting.{left_registers, FitsWhole, IsScratchLeast, Lightens, StandsThere}
 use Rattle.window_rewrite.specs.Layouts.{is_steady, AreOver as AreLaid}
 use Rattle.window_rewrite.proofs.Live.{Allowed, allowed_true, true_allowed}

@@ -2,12 +2,11 @@
 use Rattle.std.proofs.Common.{◌≡◌, ℕ, zero, suc, ◌+◌, ◌-◌, ◌<◌, ◌≤◌, ◌==◌, Bool, true, false, List, [], ◌∷◌, length, take, drop, map, Option, Some, None, refl, sym, ap, ◌∙◌, subst, arith, ◌⊎◌, ◌↔◌, inl, inr, eq-eqb}
 use Rattle.std.specs.Prelude.{slice_get, nat_lt}
 use Rattle.std.specs.Int.{from_bool}
-use Rattle.std.specs.List.{list_all}
 use Rattle.std.proofs.lemmas.Option.{slice_get_within}
 use Rattle.std.proofs.lemmas.Bool.{cases_lt, eqb-true, ltb-true, lt-ltb}
 use Rattle.thumb_instr.specs.declared.instr.Instr.{Instr}
 use Rattle.thumb_instr.specs.Items.{has}
-use Rattle.thumb_instr.specs.Window.{is_in_window, Low}
+use Rattle.thumb_instr.specs.Window.{Low}
 use Rattle.thumb_model.specs.Listing.{plain, Place, Label, Line, places_of, labels_from, code_of}
 use Rattle.rule_model.specs.Rules.{Rule, IsSoundRule, alone, rule_at}
 use Rattle.rule_model.specs.Rewriting.{Setting, Replacement, NoneApplies, used_rule, left_length, left_length_of}
@@ -15,7 +14,6 @@ use Rattle.rule_model.proofs.Alone.{alone_is}
 use Rattle.thumb_model.specs.Replaced.{are_joined_from}
 use Rattle.thumb_model.specs.Flow.{LiveAfter}
 use Rattle.thumb_model.proofs.Lists.{length_map, take_all, take_short, length_drop}
-use Rattle.thumb_model.proofs.Window.{AreStraight}
 use Rattle.rule_model.proofs.Table.{window_length, applies_sound}
 use Rattle.window_runs.specs.Windows.{IsWindow}
 use Rattle.rule_table.specs.declared.table.Entry.{Entry}
@@ -28,7 +26,6 @@ use Rattle.window_rewrite.specs.declared.choice.Choice.{Choice}
 use Rattle.window_rewrite.specs.Rewriting.{setting_by}
 use Rattle.table_audit.specs.Shorter.{IsCanonicalSide}
 use Rattle.window_rewrite.specs.Rules.{rules_in, left_forms, side_length, is_marked, AreFit, AreLed, first_with}
-use Rattle.window_rewrite.specs.Forms.{form_of}
 use Rattle.window_rewrite.specs.Fitting.{left_registers, NoneStands, Lightens, Stands, StandsThere}
 use Rattle.window_rewrite.specs.Choices.{Awaits, choice_of, FitsIn, IsChoice, IsLowest, Meets, NoneAt, NoneOf, IsBest, NoneBefore, IsFirstChoice, of_length, longer}
 use Rattle.window_rewrite.proofs.Applied.{made, rule_there, fits_some, back_lightens, meets, meets_less}

@@ -4,7 +4,7 @@ use Rattle.std.specs.Prelude.{slice_get}
 use Rattle.std.proofs.lemmas.Bool.{cases_eq, cases_lt}
 use Rattle.std.proofs.lemmas.Option.{slice_get_within}
 use Rattle.kept_places.specs.Marks.{is_gone, marked, rank}
-use Rattle.kept_places.proofs.Ranks.{marked_other, ranks_ascend, ranks_grow, rank_set_before, rank_set_behind}
+use Rattle.kept_places.proofs.Ranks.{marked_other, ranks_ascend, ranks_grow, rank_set_behind}
 use Rattle.thumb_instr.specs.declared.instr.Instr.{Instr}
 use Rattle.thumb_model.specs.Listing.{Place, plain}
 use Rattle.thumb_model.specs.Replaced.{moved}

@@ -2,7 +2,6 @@
 use Rattle.std.proofs.Common.{◌≡◌, ℕ, Bool, true, List, length, map, Option, Some, sym, subst}
 use Rattle.thumb_instr.specs.declared.instr.Instr.{Instr}
 use Rattle.thumb_instr.specs.Window.{Low, renamed}
-use Rattle.thumb_model.specs.Layout.{Layable}
 use Rattle.thumb_model.specs.Listing.{Line, labels_from, places_of}
 use Rattle.thumb_model.specs.Replaced.{replaced_lines}
 use Rattle.rule_model.specs.Rules.{Rule, IsSoundRule}

@@ -30,7 +30,7 @@ use Rattle.window_rewrite.specs.declared.forms.Form.{Form}
 use Rattle.window_rewrite.specs.Rules.{entry_rule, families_in, raised_form, raised_forms, raised_rule, side_length, with_open, AreFit, IsFit, IsRaised}
 use Rattle.window_rewrite.specs.Choices.{choice_of, setting_of, table_in, families_sides, of_length, AreReady, FitsIn, IsChoiceBy, NoneBy}
 use Rattle.window_rewrite.specs.Families.{IsByteOf, IsInstance, IsOnlyInstance, IsFamilyChoice, IsLowestFamily, NoneOfFamily, NoneOfFamilies}
-use Rattle.window_rewrite.specs.Fitting.{IsForm, NoneStands}
+use Rattle.window_rewrite.specs.Fitting.{IsForm}
 use Rattle.window_rewrite.proofs.Applied.{meets, meets_less}
 use Rattle.window_rewrite.proofs.Chosen.{length_at, stands_in, taken_all, taken_one}
 use Rattle.window_rewrite.specs.Forms.{form_of}

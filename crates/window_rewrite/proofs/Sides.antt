@@ -2,12 +2,11 @@
 use Rattle.std.proofs.Common.{◌≡◌, ℕ, zero, suc, ◌<◌, ◌==◌, ◌||◌, true, false, List, [], ◌∷◌, ◌++◌, length, map, drop, Some, refl, sym, ap, ◌∙◌, subst, arith, cond, inl, inr, eqb-true, eq-eqb}
 use Rattle.std.specs.Prelude.{slice_get}
 use Rattle.std.specs.List.{flat_map, list_all}
-use Rattle.std.proofs.lemmas.Bool.{and_parts, cases_Bool}
+use Rattle.std.proofs.lemmas.Bool.{cases_Bool}
 use Rattle.std.proofs.lemmas.List.{length-map, map-append}
 use Rattle.thumb_instr.specs.declared.instr.Instr.{Instr}
 use Rattle.thumb_instr.specs.Window.{is_in_window, normal_of, Low, named, renamed, AreBelow, item_under, number_or}
 use Rattle.thumb_instr.proofs.Registers.{low_is}
-use Rattle.thumb_instr.proofs.RenamingLemmas.{named_renamed}
 use Rattle.rule_model.specs.Rules.{Rule, IsSoundRule}
 use Rattle.thumb_model.specs.Effect.{IsOneToOne, AreOver, register_count, normalised}
 use Rattle.seq_enum.specs.Alphabet.{numbers_from}

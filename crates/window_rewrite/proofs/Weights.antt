@@ -1,5 +1,5 @@
 -- What sequences weigh: renaming, the normal form and a value in the holes for a number keep it.
-use Rattle.std.proofs.Common.{◌≡◌, ◌∙◌, ℕ, ◌+◌, ◌<◌, ◌==◌, true, false, List, [], ◌∷◌, length, Option, Some, None, refl, ap, sym, arith}
+use Rattle.std.proofs.Common.{◌≡◌, ◌∙◌, ℕ, ◌<◌, ◌==◌, true, false, List, [], ◌∷◌, length, Option, Some, None, refl, ap, sym, arith}
 use Rattle.std.specs.Prelude.{get_or}
 use Rattle.std.proofs.lemmas.Bool.{ltb-true}
 use Rattle.std.proofs.lemmas.List.Sums.{sum_by-cons}
@@ -11,12 +11,12 @@ use Rattle.thumb_instr.specs.Parts.{parts_of}
 use Rattle.thumb_instr.specs.Window.{Low, renamed, byte_of}
 use Rattle.thumb_model.specs.Effect.{normalised}
 use Rattle.rule_model.specs.Rules.{Rule, weight}
-use Rattle.rule_model.specs.Laws.{CostsAreKept, CostsOne}
+use Rattle.rule_model.specs.Laws.{CostsAreKept}
 use Rattle.rule_model.proofs.Costs.{lowers_some, weight_is_length}
 use Rattle.bit_blast.specs.Slots.{Byte, filled, instance, slot}
 use Rattle.bit_blast.specs.declared.slots.Slot.TheVariants.{Plain, Hole}
 use Rattle.bit_blast.proofs.Holes.{by_test}
-use Rattle.seq_enum.specs.Costs.{cost_in, cost_under, mnemonic, weight_under}
+use Rattle.seq_enum.specs.Costs.{cost_under, mnemonic, weight_under}
 use Rattle.window_rewrite.specs.Rules.{is_lighter}
 
 -- ---- one instruction ----

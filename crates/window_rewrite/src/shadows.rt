@@ -5,7 +5,7 @@ ghost use Rattle.std.specs.Prelude.{◌≡◌, ◌↔◌, ◌+◌, ◌*◌, ◌/
 ghost use Rattle.seq_enum.specs.Places.{rank};
 ghost use Rattle.rule_model.specs.Rules.{Rule};
 ghost use Rattle.window_rewrite.specs.Forms.{form_of};
-ghost use Rattle.window_rewrite.specs.Rules.{entry_rule, is_marked, is_lighter, rules_in, AreAlike, AreKept, AreLed, IsLed};
+ghost use Rattle.window_rewrite.specs.Rules.{entry_rule, is_lighter, rules_in, AreAlike, AreKept, AreLed, IsLed};
 
 use crate::forms::form_of;
 use crate::scratch::needs_scratch;

@@ -1,8 +1,8 @@
-use Rattle.std.proofs.Common.{◌∙◌, ◌+◌, ◌++◌, List, ℕ, drop, ap, sym, arith}
+use Rattle.std.proofs.Common.{◌∙◌, ◌+◌, ◌++◌, List, ℕ, drop, ap, arith}
 use Rattle.thumb_model.specs.Listing.{code_of, places_of}
 use Rattle.flow_tidy.specs.Halves.{wides_before}
 use Rattle.flow_tidy.proofs.Halves.{wides_more}
-use Rattle.flow_tidy.proofs.Starting.{all_are_due, caused_may, one_more_due}
+use Rattle.flow_tidy.proofs.Starting.{caused_may, one_more_due}
 use Rattle.flow_tidy.proofs.ground.look_over.Goals as goal
 
 pub loop-place-preserved : goal.loop-place-preserved

@@ -1,5 +1,5 @@
 use Rattle.std.proofs.Common.{◌≡◌, ◌++◌, take, map}
-use Rattle.rule_table.specs.Text.{text_of_items, rule_items, open_items}
+use Rattle.rule_table.specs.Text.{text_of_items}
 use Rattle.rule_table.specs.Text as item
 use Rattle.rule_table.proofs.writing.write_left.Given as goal
 

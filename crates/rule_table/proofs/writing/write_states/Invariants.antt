@@ -1,6 +1,6 @@
 use Rattle.std.proofs.Common.{◌≡◌, ◌++◌, take, map}
 use Rattle.window_exec.specs.State.{seen}
-use Rattle.rule_table.specs.Text.{text_of_items, rule_items, open_items}
+use Rattle.rule_table.specs.Text.{text_of_items}
 use Rattle.rule_table.specs.Text as item
 use Rattle.rule_table.proofs.writing.write_states.Given as goal
 

@@ -1,4 +1,4 @@
-use Rattle.std.proofs.Common.{◌≡◌, ◌≤◌, ◌<◌, ◌+◌, ◌-◌, ◌/◌, ◌∙◌, length, refl, sym, ap, subst, arith}
+use Rattle.std.proofs.Common.{◌≤◌, ◌<◌, ◌+◌, ◌-◌, ◌/◌, ◌∙◌, length, refl, sym, ap, subst, arith}
 use Rattle.seq_enum.specs.Costs.{weight_under}
 use Rattle.outcomes.specs.Outcomes.{sequences_below}
 use Rattle.table_audit.specs.Lighter.{AreLighter}

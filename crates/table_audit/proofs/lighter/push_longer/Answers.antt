@@ -1,5 +1,4 @@
 use Rattle.std.proofs.Common.{◌≡◌, ◌+◌, ◌*◌, ◌∙◌, ◌&&◌, true, false, ap, arith, length, lt-ltb, nat_lt}
-use Rattle.std.proofs.Math.Nat.{mul-le-mul_left}
 use Rattle.std.proofs.lemmas.Bool.{and_from, le-ltb}
 use Rattle.seq_enum.specs.Costs.{cost_under}
 use Rattle.table_audit.specs.Lighter.{is_light_at}

@@ -1,4 +1,4 @@
-use Rattle.std.proofs.Common.{arith, refl, sym, subst, ap, ◌∙◌, ◌≡◌, ◌≤◌, slice_get, Some, None, length, map}
+use Rattle.std.proofs.Common.{arith, refl, sym, subst, ap, ◌∙◌, ◌≡◌, ◌≤◌, Some, None, length, map}
 use Rattle.std.proofs.lemmas.Bool.{false≢true}
 use Rattle.window_exec.specs.State.{seen}
 use Rattle.thumb_model.specs.Effect.{AreOver}

@@ -2,7 +2,6 @@ use Rattle.std.proofs.Common.{◌≡◌, ◌+◌, ◌*◌, ◌<◌, ◌≤◌, �
 use Rattle.std.proofs.lemmas.Bool.{false≢true}
 use Rattle.std.proofs.lemmas.List.{length-map}
 use Rattle.std.proofs.lemmas.Option.{slice_get-get_or}
-use Rattle.thumb_model.specs.Effect.{AreOver}
 use Rattle.window_exec.specs.State.{seen}
 use Rattle.rule_table.specs.Views.{header_in, rule_of, table_of}
 use Rattle.table_audit.specs.Shorter.{alphabet_registers, weight_in, IsBelow, below}

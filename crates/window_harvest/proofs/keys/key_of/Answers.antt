@@ -1,4 +1,4 @@
-use Rattle.std.proofs.Common.{◌≡◌, ◌∙◌, None, Some, refl, sym, ap, subst, arith}
+use Rattle.std.proofs.Common.{◌≡◌, ◌∙◌, None, Some, refl, sym, subst, arith}
 use Rattle.thumb_model.specs.Effect.{register_count}
 use Rattle.seq_enum.specs.Alphabet.{IsPlace, IsOver, sequences}
 use Rattle.window_harvest.proofs.Alphabet.{number_over, over_number, over_none}

@@ -1,4 +1,4 @@
-use Rattle.std.proofs.Common.{◌≡◌, ◌∙◌, ℕ, List, length, ap, subst, sym}
+use Rattle.std.proofs.Common.{◌∙◌, ℕ, List, length, ap, subst, sym}
 use Rattle.std.proofs.lemmas.List.{length-map}
 use Rattle.rule_model.specs.Rules.{Rule}
 use Rattle.std.proofs.lemmas.Result.{IfOk-weaker}

@@ -1,5 +1,4 @@
 use Rattle.std.proofs.Common.{◌∙◌, ◌-◌, length, Some, refl, sym, ap, arith}
-use Rattle.std.specs.Prelude.{slice_get}
 use Rattle.std.proofs.lemmas.Option.{slice_get_read}
 use Rattle.kept_layout.specs.Moves.{news, wall_of}
 use Rattle.kept_layout.proofs.ShrinkingPlaces.{address_is, moved_among, moved_before, moved_behind}
