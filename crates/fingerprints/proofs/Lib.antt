@@ -1,3 +1,8 @@
+pub mod LaneLemmas
+pub mod SumLemmas
+pub mod ShiftLemmas
+pub mod ByteLemmas
+pub mod FlagLemmas
 pub mod Seeds
 pub mod ColumnLemmas
 pub mod KeptLemmas

@@ -1,8 +1,9 @@
-pub mod Seeded
-pub mod Lanes
-pub mod Print
 pub mod Columns
-pub mod Words
-pub mod Sequences
 pub mod Index
+pub mod Lanes
 pub mod Laws
+pub mod Print
+pub mod Seeded
+pub mod Sequences
+pub mod WordLanes
+pub mod Words

@@ -1,13 +1,13 @@
 //! A word of each of eight states.
 ghost use Rattle.std.specs.Prelude.{◌%◌, slice_index};
-ghost use Rattle.word_lanes.specs.Lanes.{set_at, sum_at, moved_at};
+ghost use Rattle.fingerprints.specs.WordLanes.{set_at, sum_at, moved_at};
 
 use std::simd::prelude::*;
 use window_exec::Word;
 use word_bits::Shift;
-use word_lanes::shifts::Moved;
-use word_lanes::sums::Sums;
-use word_lanes::{basic, bytes, shifts, sums};
+use crate::shifts::Moved;
+use crate::sums::Sums;
+use crate::{basic, bytes, shifts, sums};
 
 /// Eight words, one of each state.
 #[derive(Clone, Copy)]

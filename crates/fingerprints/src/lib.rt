@@ -3,15 +3,20 @@
 #![tactic(auto)]
 
 mod arranging;
+mod basic;
+mod bytes;
 mod columns;
 mod eight_words;
+mod flags;
 mod index;
 mod lanes;
 pub mod laws;
 mod print;
 mod sequences;
+mod shifts;
 mod states;
 mod stepping;
+mod sums;
 
 pub use index::Index;
 pub use lanes::Lanes;
