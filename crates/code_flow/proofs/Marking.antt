@@ -10,7 +10,7 @@ use Rattle.thumb_model.specs.Listing.{Name, Value, Place, Word, Statement, Nothi
 use Rattle.code_flow.specs.Points.{is_true, marked, some_name, is_call_statement, HasPoints}
 use Rattle.listing_parser.proofs.TwiceLemmas.{or_last as or_false}
 
-pub or_true : (c : Bool) → (c || true) ≡ true
+or_true : (c : Bool) → (c || true) ≡ true
 or_true true = refl
 or_true false = refl
 

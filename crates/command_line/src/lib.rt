@@ -1,6 +1,6 @@
 //! The command line: what the words after the program's name ask for.
 //!
-//! `specs/CommandLine.antt` says what a command line is, in words of its own. The words are read by clap (`app`), numerals and their
+//! `specs/Words.antt` and `specs/CommandLine.antt` say what a command line is, in words of its own. The words are read by clap (`app`), numerals and their
 //! limits by us (`values`), and `usage_of` promises that both together are that definition.
 //!
 //! A further command is a variant of `Command`, a form with its name, options and request in `specs/CommandLine.antt`, the names of its

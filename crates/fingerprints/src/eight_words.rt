@@ -2,12 +2,12 @@
 ghost use Rattle.std.specs.Prelude.{◌%◌, slice_index};
 ghost use Rattle.fingerprints.specs.WordLanes.{set_at, sum_at, moved_at};
 
-use std::simd::prelude::*;
-use window_exec::Word;
-use word_bits::Shift;
 use crate::shifts::Moved;
 use crate::sums::Sums;
 use crate::{basic, bytes, shifts, sums};
+use std::simd::prelude::*;
+use window_exec::Word;
+use word_bits::Shift;
 
 /// Eight words, one of each state.
 #[derive(Clone, Copy)]

@@ -8,10 +8,13 @@ use Rattle.code_flow.specs.Reached.{Reached}
 use Rattle.flow_tidy.specs.Tidying.{is_branch, Cause, ToNext, ToEnd, Idle, HasCause, IsIdle}
 use Rattle.flow_tidy.specs.Due.{may_change, AreDue, IsCaused}
 use Rattle.flow_tidy.proofs.Settled.{caused_within}
-use Rattle.code_flow.proofs.Marking.{or_true}
 
 branch_may : (code : Code) (p : ℕ) (mark : Bool) (i : Instr) (mention : Option Mention) → slice_get code.places p ≡ Some (Op i mention) → is_branch i ≡ true → may_change (slice_get code.places p) mark ≡ true
 branch_may code p mark i mention e b = ap (λ o. may_change o mark) e ∙ ap (λ (x : Bool). x || not (mark || is_call_instr i)) b
+
+or_true : (b : Bool) → (b || true) ≡ true
+or_true true = refl
+or_true false = refl
 
 idle_may : (code : Code) (p : ℕ) (mark : Bool) → (mark ≡ true) ↔ Reached code p → IsIdle code p → may_change (slice_get code.places p) mark ≡ true
 idle_may code p true m h = absurd (h.unreached (m.0 refl))

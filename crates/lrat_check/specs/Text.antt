@@ -7,7 +7,6 @@ use Rattle.std.specs.List.{join_with_byte, flat_map}
 use Rattle.clause_model.specs.Clauses.{number_of, HasDistinctVariables, negated, Refutes, numbered, hint_lengths}
 use Rattle.lrat_check.specs.Numbers.{IsId, IsHint, AllWithin}
 
-
 -- what a line says: it adds a clause under an id, with hints, or deletes the clauses under ids
 pub data Content : Type 0 where
   addition : ℕ → List ℕ → List ℤ → Content

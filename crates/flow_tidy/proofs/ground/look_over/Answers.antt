@@ -20,5 +20,5 @@ loop-place-preserved c =
           ∙ wides_more c.loop-place.wide.items c.loop-place.count c.look_at-look.result.wide ps p (omega (arith, c.place_count-places.ensures, c.loop-place-test.true)) c.look_at-look.ensures.wide i.wide;
       many = omega (arith, c.in_ok-push-2.ensures.len, i.many);
       due = one_more_due code c.loop-place.due.items c.push-in-loop-place.new.self.items p c.look_at-look.result.may_change i.many c.in_ok-push-2.ensures.items i.due
-      (λ k. c.look_at-look.ensures.may_change ∙ caused_may code p c.at.result mark k);
+          (λ k. c.look_at-look.ensures.may_change ∙ caused_may code p c.at.result mark k);
     }
