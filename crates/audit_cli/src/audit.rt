@@ -74,10 +74,7 @@ impl command_runs::Command for Audit {
         steps: &mut Steps<L>,
     ) -> Result<Outcome, AllocError> {
         match texts {
-            [text] => {
-                let outcome = outcome(alloc, text, steps)?;
-                Ok(outcome)
-            }
+            [text] => outcome(alloc, text, steps),
             _ => unreachable!(),
         }
     }

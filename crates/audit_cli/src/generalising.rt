@@ -131,10 +131,7 @@ impl command_runs::Command for Generalise<'_> {
         steps: &mut Steps<L>,
     ) -> Result<Outcome, AllocError> {
         match texts {
-            [text] => {
-                let outcome = outcome(alloc, self, text, steps)?;
-                Ok(outcome)
-            }
+            [text] => outcome(alloc, self, text, steps),
             _ => unreachable!(),
         }
     }

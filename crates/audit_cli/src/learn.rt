@@ -162,10 +162,7 @@ impl command_runs::Command for Learn<'_> {
         steps: &mut Steps<L>,
     ) -> Result<Outcome, AllocError> {
         match texts {
-            [text] => {
-                let outcome = outcome(alloc, self, text, steps)?;
-                Ok(outcome)
-            }
+            [text] => outcome(alloc, self, text, steps),
             _ => unreachable!(),
         }
     }
@@ -186,10 +183,7 @@ impl command_runs::Command for LearnByCosts<'_> {
         steps: &mut Steps<L>,
     ) -> Result<Outcome, AllocError> {
         match texts {
-            [text, costs] => {
-                let outcome = outcome_by_costs(alloc, self, text, costs, steps)?;
-                Ok(outcome)
-            }
+            [text, costs] => outcome_by_costs(alloc, self, text, costs, steps),
             _ => unreachable!(),
         }
     }

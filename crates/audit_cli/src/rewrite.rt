@@ -194,10 +194,7 @@ impl command_runs::Command for Rewrite<'_> {
         steps: &mut Steps<L>,
     ) -> Result<Outcome, AllocError> {
         match texts {
-            [table, listing] => {
-                let outcome = outcome(alloc, self, table, listing, steps)?;
-                Ok(outcome)
-            }
+            [table, listing] => outcome(alloc, self, table, listing, steps),
             _ => unreachable!(),
         }
     }

@@ -104,10 +104,7 @@ impl command_runs::Command for Tidy<'_> {
         steps: &mut Steps<L>,
     ) -> Result<Outcome, AllocError> {
         match texts {
-            [text] => {
-                let outcome = outcome(alloc, self, text, steps)?;
-                Ok(outcome)
-            }
+            [text] => outcome(alloc, self, text, steps),
             _ => unreachable!(),
         }
     }

@@ -109,10 +109,7 @@ impl command_runs::Command for Trace<'_> {
         _steps: &mut Steps<L>,
     ) -> Result<Outcome, AllocError> {
         match texts {
-            [text] => {
-                let outcome = outcome(alloc, self, text)?;
-                Ok(outcome)
-            }
+            [text] => outcome(alloc, self, text),
             _ => unreachable!(),
         }
     }

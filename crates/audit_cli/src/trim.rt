@@ -226,10 +226,7 @@ impl command_runs::Command for Trim<'_> {
         steps: &mut Steps<L>,
     ) -> Result<Outcome, AllocError> {
         match texts {
-            [text] => {
-                let outcome = outcome(alloc, self.out, text, steps)?;
-                Ok(outcome)
-            }
+            [text] => outcome(alloc, self.out, text, steps),
             _ => unreachable!(),
         }
     }

@@ -51,7 +51,7 @@ fn handed() -> Items
 }
 
 /// What a call out of the listing brings back: what a callee needn't keep.
-fn answered() -> Items
+pub fn answered() -> Items
     ensures { (x : ℕ) → has result.bits x ≡ one_of x answered }
 {
     Items::of(&[0, 1, 2, 3, 12, LR, N, Z, C, V])

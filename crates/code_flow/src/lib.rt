@@ -9,7 +9,7 @@ mod points;
 mod reaching;
 mod way;
 
-pub use finding::ways_of;
+pub use finding::{answered, ways_of};
 pub use leaving::{target, ways};
 pub use marks::Reached;
 pub use points::all_points;

@@ -162,14 +162,6 @@ impl Listing {
         }
     }
 
-    /// How many places stand before a line.
-    pub fn places_before(&self, line: usize) -> u32
-        requires { line < length self.now }
-        ensures { result ≡ length (places_of (take line self.now)) }
-    {
-        self.index.passed[line].places as u32
-    }
-
     /// The address that is set for the name.
     pub fn set_address(&self, name: &[u8]) -> Option<u32>
         ensures { result ≡ set_address name.now self.now }

@@ -1,17 +1,15 @@
 //! What a place reads, and what it writes on its way to the next place.
 ghost use Rattle.std.specs.Prelude.{◌≡◌, ◌<◌, ◌-◌, ◌^◌, ℕ, [], length, Option, true, None, Some};
-ghost use Rattle.thumb_instr.specs.Items.{has, one_of};
+ghost use Rattle.thumb_instr.specs.Items.{has};
 ghost use Rattle.thumb_model.specs.Listing.{code_of, places_of};
-ghost use Rattle.thumb_model.specs.States.{answered};
 ghost use Rattle.thumb_model.specs.Flow.{ways, ways_of};
 ghost use Rattle.code_flow.specs.Flow.{way_list};
 ghost use Rattle.liveness.specs.Kept.{is_straight, onward_writes, HasThese, FlowOf, AreFlowsFrom};
 ghost use Rattle.liveness.specs.Through.{uses_among};
 
 use arrayvec::ArrayVec;
-use code_flow::{Ways, target, ways_of};
+use code_flow::{Ways, answered, target, ways_of};
 use listing_parser::{Listing, Place};
-use thumb_instr::items::{C, LR, N, V, Z};
 use thumb_instr::{Instr, Items, shape};
 
 /// What some way of a place reads, and what its way straight to the next place writes, where it has one.
@@ -152,11 +150,4 @@ fn onward(instr: &Instr, target: Option<u32>) -> Option<Items>
         },
         _ => Some(shape(instr).writes),
     }
-}
-
-/// What a call out of the listing brings back.
-fn answered() -> Items
-    ensures { (x : ℕ) → has result.bits x ≡ one_of x answered }
-{
-    Items::of(&[0, 1, 2, 3, 12, LR, N, Z, C, V])
 }

@@ -1,6 +1,6 @@
 -- Decimal numerals with a sign.
-use Rattle.std.proofs.Common.{◌≡◌, ℕ, ℤ, pos, negsuc, ◌/◌, ◌%◌, ◌<◌, ◌^◌, List, refl, sym, ◌∙◌, ap, subst, arith, w64, Result, Ok, Err, inl, inr, nat_eq, true, false, Option, Some, None}
-use Rattle.std.specs.Prelude.{FitsSigned, MatchOption}
+use Rattle.std.proofs.Common.{◌≡◌, ℕ, zero, suc, ℤ, pos, negsuc, ◌+◌, ◌*◌, ◌/◌, ◌%◌, ◌<◌, ◌≤◌, ◌^◌, List, [], ◌∷◌, ◌++◌, length, length-append, refl, sym, ◌∙◌, ap, subst, arith, w64, Result, Ok, Err, inl, inr, nat_eq, true, false, Option, Some, None}
+use Rattle.std.specs.Prelude.{FitsSigned, MatchOption, decimal}
 use Rattle.std.specs.Fmt.{signed_decimal}
 use Rattle.std.specs.Int.Signed.{mag}
 use Rattle.std.specs.Str.{IsUtf8}
@@ -10,7 +10,7 @@ use Rattle.std.proofs.lemmas.Bool.{cases_eq, false≢true}
 use Rattle.std.proofs.lemmas.Int.{to_z-of_z}
 use mir.Val.{to_z, of_z}
 use Rattle.std.proofs.lemmas.Str.{IsUtf8-from_ascii}
-use Rattle.std.proofs.lemmas.Fmt.{IsAscii-signed, parse-signed_decimal, signed_decimal_injective}
+use Rattle.std.proofs.lemmas.Fmt.{IsAscii-signed, parse-signed_decimal, signed_decimal_injective, decimal_digit, decimal_by_steps, length-decimal-le}
 use Rattle.clause_model.specs.Clauses.{number_of}
 use Rattle.lrat_check.specs.Numbers.{IsId, IsHint}
 
@@ -62,3 +62,26 @@ reads P number fits word z (Some x) f h = (h.0, ap signed_decimal (h.1 ∙ to_z-
 
 pub reads_none : {X : Type 0} (P : X → Type 0) (number : X → ℤ) (fits : (x : X) → P x → FitsSigned w64 (number x)) (word : List ℕ) → ((z : ℤ) → FitsSigned w64 z → signed_decimal z ≡ word → ⊥) → (x : X) → P x → signed_decimal (number x) ≡ word → ⊥
 reads_none P number fits word h x p e = h (number x) (fits x p) e
+
+-- ---- how many digits a numeral has
+
+some_power : (j : ℕ) → 0 < 10 ^ j
+some_power zero = omega arith
+some_power (suc j) = let p = some_power j in omega (arith, p)
+
+many_digits : (n : ℕ) → n < 2 ^ 64 → (j : ℕ) → 10 ^ j ≤ n → j < length (decimal n)
+many_digits = decimal_by_steps (λ m ds. (j : ℕ) → 10 ^ j ≤ m → j < length ds) one more
+  where
+    one : (m : ℕ) → m < 10 → (j : ℕ) → 10 ^ j ≤ m → j < 1
+    one m low zero h = omega arith
+    one m low (suc j) h = let p = some_power j in absurd (omega (arith, p, h, low))
+
+    more : (m : ℕ) (ds : List ℕ) → 10 ≤ m → ((j : ℕ) → 10 ^ j ≤ m / 10 → j < length ds) → (j : ℕ) → 10 ^ j ≤ m → j < length (ds ++ (48 + m % 10) ∷ [])
+    more m ds l h zero a = omega (arith, length-append ds ((48 + m % 10) ∷ []))
+    more m ds l h (suc j) a = omega (arith, length-append ds ((48 + m % 10) ∷ []), h j (omega (arith, a)))
+
+pub digits_by_power : (n k : ℕ) → n < 2 ^ 64 → 10 ^ k ≤ n → n < 10 * 10 ^ k → length (decimal n) ≡ k + 1
+digits_by_power n k small low high = omega (arith, many_digits n small k low, length-decimal-le (suc k) n (omega arith) (omega (arith, high)) small)
+
+pub digits_of_zero : length (decimal 0) ≡ 1
+digits_of_zero = ap length (decimal_digit 0 (omega arith))

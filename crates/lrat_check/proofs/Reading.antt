@@ -1,5 +1,5 @@
 -- Words that are read one after another.
-use Rattle.std.proofs.Common.{◌≡◌, ℕ, ◌+◌, ◌-◌, ◌<◌, ◌≤◌, List, [], ◌∷◌, ◌++◌, length, get_or, take, drop, map, sym, ◌∙◌, ap, subst, arith, append_assoc, refl, true, false, not, Bool, Option, Some, None}
+use Rattle.std.proofs.Common.{◌≡◌, ℕ, ◌+◌, ◌-◌, ◌<◌, ◌≤◌, List, [], ◌∷◌, ◌++◌, length, get_or, take, drop, map, sym, ◌∙◌, ap, subst, arith, append_assoc, refl, true, not, Option, Some, None}
 use Rattle.std.specs.Prelude.{All, is_some}
 use Rattle.std.specs.List.{slice_split, count_by, position_or_len}
 use Rattle.std.specs.Borrow.{Bor}

@@ -1,5 +1,5 @@
 -- Words with one blank between two, and what they are read as.
-use Rattle.std.proofs.Common.{◌≡◌, ℕ, ℤ, pos, negsuc, ◌<◌, ◌&&◌, List, [], ◌∷◌, ◌++◌, get_or, map, refl, sym, ◌∙◌, ap, subst, arith, suc, Bool, true, false, true≢false, w64, append_assoc, decimal}
+use Rattle.std.proofs.Common.{◌≡◌, ℕ, ℤ, pos, negsuc, ◌+◌, ◌<◌, ◌≤◌, ◌&&◌, List, [], ◌∷◌, ◌++◌, get_or, map, take, length, length-append, refl, sym, ◌∙◌, ap, subst, arith, zero, suc, Bool, true, false, true≢false, w64, append_assoc, decimal}
 use Rattle.std.specs.Prelude.{All, FitsSigned}
 use Rattle.std.specs.Fmt.{signed_decimal}
 use Rattle.std.specs.Char.{is_ascii_digit}
@@ -7,6 +7,7 @@ use Rattle.std.specs.List.{join_with_byte, slice_split}
 use Rattle.std.specs.Str.{all_ascii_digits}
 use Rattle.std.specs.Str.Parse.{digits_value}
 use Rattle.std.proofs.Math.Dec.{eqb}
+use Rattle.std.proofs.lemmas.List.Concat.{flat_map-append}
 use Rattle.std.proofs.lemmas.List.Elements.{All-head, All-tail, All-nil, All-cons, All-map, All-append, All-weaker}
 use Rattle.std.proofs.lemmas.List.Splits.{slice_split_none, slice_split_at}
 use Rattle.std.proofs.lemmas.Str.Parse.{IsNumeralModel, numerals_by_value, tells_all_ascii_digits}
@@ -23,6 +24,33 @@ pub join-push : (words : List (List ℕ)) (w : List ℕ) → join_with_byte 32 (
 join-push [] w = refl
 join-push (x ∷ []) w = sym (rw (append_assoc x (32 ∷ []) []) (append_assoc x (32 ∷ []) w))
 join-push (x ∷ y ∷ words) w = rw (join-push (y ∷ words) w) (sym (append_assoc (x ++ 32 ∷ []) (spaced (y ∷ words)) w ∙ append_assoc x (32 ∷ []) (spaced (y ∷ words) ++ w)))
+
+-- ---- how many bytes the words have
+
+word_first : (w : List ℕ) (words : List (List ℕ)) → length (spaced (w ∷ words)) ≡ length w + 1 + length (spaced words)
+word_first w words = omega (arith, length-append (w ++ 32 ∷ []) (spaced words), length-append w (32 ∷ []))
+
+words_of_both : (us vs : List (List ℕ)) → length (spaced (us ++ vs)) ≡ length (spaced us) + length (spaced vs)
+words_of_both us vs = ap length (flat_map-append (λ w. w ++ 32 ∷ []) us vs) ∙ length-append (spaced us) (spaced vs)
+
+-- those before the i-th, and it, are no more than all
+pub some_words : {A : Type 0} (text : A → List ℕ) (xs : List A) (i : ℕ) (x : A) → i < length xs → x ≡ get_or xs i x → length (spaced (map text (take i xs))) + (length (text x) + 1) ≤ length (spaced (map text xs))
+some_words text [] i x low is = absurd (omega (arith, low))
+some_words text (y ∷ xs) zero x low is = omega (arith, word_first (text y) (map text xs), ap (λ v. length (text v)) is)
+some_words text (y ∷ xs) (suc i) x low is =
+    omega (arith, word_first (text y) (map text xs), word_first (text y) (map text (take i xs)), some_words text xs i x (omega (arith, low)) is)
+
+length_of_text : (content : Content) → length (text_of content) ≡ length (decimal (id_of content)) + length (spaced (middle_of content)) + 2
+length_of_text content =
+    let front = decimal (id_of content) ∷ middle_of content in
+    omega (arith, ap length (join-push front end_word), length-append (spaced front) end_word, word_first (decimal (id_of content)) (middle_of content))
+
+pub addition_length : (id : ℕ) (literals : List ℕ) (hints : List ℤ) → length (text_of (addition id literals hints)) + 1 ≡ length (decimal id) + 5 + length (spaced (map literal_text literals)) + length (spaced (map signed_decimal hints))
+addition_length id literals hints =
+    omega (arith, length_of_text (addition id literals hints), words_of_both (map literal_text literals) (end_word ∷ map signed_decimal hints), word_first end_word (map signed_decimal hints))
+
+pub deletion_length : (id : ℕ) (ids : List ℕ) → length (text_of (deletion id ids)) + 1 ≡ length (decimal id) + 5 + length (spaced (map decimal ids))
+deletion_length id ids = omega (arith, length_of_text (deletion id ids), word_first deletion_word (map decimal ids))
 
 abbrev pub HasNoBlank : List ℕ → Type 0
 HasNoBlank word = All (λ b. eqb b 32 ≡ false) word

@@ -1,5 +1,5 @@
 //! The three kinds of numbers in a line are read and written by one trait, since their texts differ in limits and signs alone.
-ghost use Rattle.std.specs.Prelude.{◌≡◌, ◌<◌, ℕ, ℤ, List, [], ◌∷◌, ◌++◌, map, decimal, All, MatchOption, OnOk, IfOk, IsTrue, ◌↔◌, FitsSigned};
+ghost use Rattle.std.specs.Prelude.{◌≡◌, ◌<◌, ◌≤◌, ◌+◌, ◌^◌, ℕ, ℤ, List, [], ◌∷◌, ◌++◌, map, length, decimal, All, MatchOption, OnOk, IfOk, IsTrue, ◌↔◌, FitsSigned};
 ghost use Rattle.std.specs.Int.{w64};
 ghost use Rattle.std.specs.Fmt.{signed_decimal};
 ghost use Rattle.lrat_check.specs.Text.{spaced};
@@ -26,6 +26,12 @@ pub trait Entry: Copy {
     fn write(self, out: &mut Vec<u8>) -> Result<(), AllocError>
         requires { can_write self }
         ensures { OnOk result (out.new.items ≡ out.old.items ++ text self) };
+
+    /// How many bytes the word has.
+    fn length(self) -> u64
+        requires { can_write self }
+        ensures value { result ≡ length (text self) }
+        ensures few { result ≤ 21 };
 }
 
 /// The number whose decimal numeral the word is, with no sign but a minus and no leading zero.
@@ -57,6 +63,26 @@ fn write_number(number: i64, out: &mut Vec<u8>) -> Result<(), AllocError>
     out.extend_from_slice(Buffer::new().format(number).as_bytes())
 }
 
+/// How many digits the numeral of a number has.
+#[tactic(auto, using(crate::proofs::Numerals::digits_by_power, crate::proofs::Numerals::digits_of_zero))]
+fn digits(number: u64) -> u64
+    ensures value { result ≡ length (decimal number) }
+    ensures few { result ≤ 20 }
+{
+    match number.checked_ilog10() {
+        None => 1,
+        Some(power) => u64::from(power) + 1,
+    }
+}
+
+/// How many bytes the numeral of a number has, with its minus.
+fn numeral_length(number: i64) -> u64
+    ensures value { result ≡ length (signed_decimal number) }
+    ensures few { result ≤ 21 }
+{
+    digits(number.unsigned_abs()) + u64::from(number < 0)
+}
+
 impl Entry for Id {
     ghost use Rattle.lrat_check.specs.Numbers.{IsId};
 
@@ -75,6 +101,10 @@ impl Entry for Id {
 
     fn write(self, out: &mut Vec<u8>) -> Result<(), AllocError> {
         write_number(i64::from(self.number()), out)
+    }
+
+    fn length(self) -> u64 {
+        digits(u64::from(self.number()))
     }
 }
 
@@ -96,6 +126,10 @@ impl Entry for Hint {
 
     fn write(self, out: &mut Vec<u8>) -> Result<(), AllocError> {
         write_number(self.number(), out)
+    }
+
+    fn length(self) -> u64 {
+        numeral_length(self.number())
     }
 }
 
@@ -130,6 +164,10 @@ impl Entry for Literal {
     fn write(self, out: &mut Vec<u8>) -> Result<(), AllocError> {
         write_number(i64::from(self.number()), out)
     }
+
+    fn length(self) -> u64 {
+        numeral_length(i64::from(self.number()))
+    }
 }
 
 /// Writes the words, and a blank after each.
@@ -142,4 +180,20 @@ pub fn write_all<E: Entry>(entries: &[E], out: &mut Vec<u8>) -> Result<(), Alloc
         out.push(b' ')?;
     }
     Ok(())
+}
+
+/// How many bytes the words have with a blank after each, and those before them; None where that isn't below 2^64.
+#[tactic(auto, using(crate::proofs::Texts::some_words))]
+pub fn length_of_all<E: Entry>(before: u64, entries: &[E]) -> Option<u64>
+    requires { All E.can_write entries.now }
+    ensures { MatchOption result (2 ^ 64 ≤ before + length (spaced (map E.text entries.now))) (λ n. n ≡ before + length (spaced (map E.text entries.now))) }
+{
+    let mut total = before;
+    for entry in entries {
+        match total.checked_add(entry.length() + 1) {
+            None => return None,
+            Some(sum) => total = sum,
+        }
+    }
+    Some(total)
 }

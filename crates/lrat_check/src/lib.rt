@@ -17,5 +17,5 @@ mod words;
 pub use checker::Checker;
 pub use fault::LineFault;
 pub use line::{Addition, Deletion, Hint, Id, Line, VARIABLES};
-pub use text::{read_line, write_line};
+pub use text::{length_of_line, read_line, write_line};
 pub use trimming::trim;

@@ -1,5 +1,5 @@
 //! Lines as the common text form has them, read word by word where they lie, so that a long line needs no list of its words.
-ghost use Rattle.std.specs.Prelude.{◌≡◌, ◌≢◌, ℕ, ℤ, List, [], ◌∷◌, ◌++◌, ◌==◌, map, decimal, All, Any, MatchOption, OnOk, IfOk, IsTrue, ◌↔◌, true, false};
+ghost use Rattle.std.specs.Prelude.{◌≡◌, ◌≢◌, ℕ, ℤ, List, [], ◌∷◌, ◌++◌, ◌==◌, ◌≤◌, ◌+◌, ◌^◌, map, length, decimal, All, Any, MatchOption, OnOk, IfOk, IsTrue, ◌↔◌, true, false};
 ghost use Rattle.std.specs.Fmt.{signed_decimal};
 ghost use Rattle.std.specs.List.{slice_split};
 ghost use Rattle.clause_model.specs.Clauses.{HasDistinctVariables, variable_of};
@@ -7,7 +7,7 @@ ghost use Rattle.lrat_check.specs.Numbers.{IsId, AllWithin};
 ghost use Rattle.lrat_check.specs.Text.{Content, content_of, addition, deletion, text_of, words_of, middle_of, id_of, spaced, literal_text, end_word, deletion_word, HasGoodParts, IsLine};
 ghost use Rattle.lrat_check.specs.Reading.{IsLineWith, words_left};
 
-use crate::entry::{Entry, write_all};
+use crate::entry::{Entry, length_of_all, write_all};
 use crate::line::{Addition, Deletion, Id, Line};
 use crate::words::{next_word, read_last, read_list, split_word};
 use clause_model::Literal;
@@ -31,6 +31,27 @@ pub fn write_line(alloc: Global, line: &Line) -> Result<Vec<u8>, Memory>
     write_front(line, &mut out)?;
     out.extend_from_slice(b"0\n")?;
     Ok(out)
+}
+
+/// How many bytes the text of a line has, with the newline at its end; None where that isn't below 2^64.
+#[tactic(auto, using(crate::proofs::Texts::deletion_length))]
+pub fn length_of_line(line: &Line) -> Option<u64>
+    ensures { MatchOption result (2 ^ 64 ≤ length (text_of (content_of line.now)) + 1) (λ n. n ≡ length (text_of (content_of line.now)) + 1) }
+{
+    match line {
+        Line::Addition(addition) => length_of_addition(addition),
+        Line::Deletion(deletion) => length_of_all(deletion.id.length() + 5, &deletion.ids),
+    }
+}
+
+#[tactic(auto, using(crate::proofs::Texts::addition_length))]
+fn length_of_addition(line: &Addition) -> Option<u64>
+    ensures { MatchOption result (2 ^ 64 ≤ length (text_of (addition line.now.id line.now.literals.items line.now.hints.items)) + 1) (λ n. n ≡ length (text_of (addition line.now.id line.now.literals.items line.now.hints.items)) + 1) }
+{
+    match length_of_all(line.id.length() + 5, &line.literals) {
+        None => None,
+        Some(length) => length_of_all(length, &line.hints),
+    }
 }
 
 /// About how many bytes the text of a line has, so that it seldom has to grow while it is written.

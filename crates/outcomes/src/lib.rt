@@ -14,5 +14,5 @@ mod widths;
 pub use outcomes::Outcomes;
 pub use short_list::candidates;
 pub use tables::Tables;
-pub use trials::{Trial, differ, is_told, run, trials_of};
+pub use trials::{Trial, is_told, run, trials_of};
 pub use widths::count_below;

@@ -8,9 +8,8 @@ ghost use Rattle.outcomes.specs.Trials.{AreTrials};
 
 use std::alloc::{AllocError, Global};
 use step_ledger::{Ledger, Steps};
-use thumb_instr::items::{C, N, V, Z};
 use thumb_instr::{Instr, Mask};
-use window_exec::{WState, step};
+use window_exec::{WState, differ, step};
 
 /// A listed state, and the state that the left side leaves of it.
 #[derive(Clone, Copy)]
@@ -72,44 +71,4 @@ pub fn is_told<L: Ledger>(
         }
     }
     false
-}
-
-/// Whether some item of the mask differs between the states.
-pub fn differ(left: &WState, right: &WState, mask: Mask) -> bool
-    ensures { IsTrue result ↔ Differ (values_of left.now) (values_of right.now) mask.items.bits }
-{
-    differ_in_register(left, right, mask, 0)
-        | differ_in_register(left, right, mask, 1)
-        | differ_in_register(left, right, mask, 2)
-        | differ_in_register(left, right, mask, 3)
-        | differ_in_flag(left, right, mask, N)
-        | differ_in_flag(left, right, mask, Z)
-        | differ_in_flag(left, right, mask, C)
-        | differ_in_flag(left, right, mask, V)
-}
-
-/// Whether a register is in the mask and differs between the states.
-fn differ_in_register(left: &WState, right: &WState, mask: Mask, register: u8) -> bool
-    requires { register < 4 }
-    ensures { result ≡ (has mask.items.bits register && not (values_of left.now register == values_of right.now register)) }
-{
-    mask.has(register) && left.get(u32::from(register)) != right.get(u32::from(register))
-}
-
-/// Whether a flag is in the mask and differs between the states.
-fn differ_in_flag(left: &WState, right: &WState, mask: Mask, flag: u8) -> bool
-    requires first { 15 ≤ flag }
-    requires last { flag < 19 }
-    ensures { result ≡ (has mask.items.bits flag && not (values_of left.now flag == values_of right.now flag)) }
-{
-    mask.has(flag) && flag_of(left, flag) != flag_of(right, flag)
-}
-
-/// The value of a flag, by its number among the items.
-fn flag_of(state: &WState, flag: u8) -> u8
-    requires first { 15 ≤ flag }
-    requires last { flag < 19 }
-    ensures { result ≡ values_of state.now flag }
-{
-    (state.nzcv >> (V - flag)) & 1
 }

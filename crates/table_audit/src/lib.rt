@@ -19,4 +19,4 @@ pub use errors::{AuditError, EntryFault, FamilyKind};
 pub use families::{entry_at, entry_of, family_at, family_formula, is_raisable, raised_side};
 pub use sides::{entry_formula, named_count, sides_fit, with_scratch};
 pub use verdict::audit;
-pub use widths::{below_at, count_shorter, width};
+pub use widths::{WIDEST, below_at, count_shorter, width};

@@ -16,7 +16,7 @@ use seq_enum::{Costs, Pool, seq_at, size, weight};
 use thumb_instr::Seq;
 
 /// The greatest number of sequences that may have to be told from an entry.
-const WIDEST: u64 = 5_000_000;
+pub const WIDEST: u64 = 5_000_000;
 
 /// How many sequences of the first `k` registers and a pool have fewer than `count` instructions.
 pub fn count_shorter(k: u8, pool: &Pool, count: u8) -> u64

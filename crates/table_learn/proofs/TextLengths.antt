@@ -124,9 +124,8 @@ pub mask_line : (mask : ℕ) → lines_length (Mask mask ∷ [])
     ≡ 5 + item_length mask 0 3 + item_length mask 1 3 + item_length mask 2 3 + item_length mask 3 3 + item_length mask 15 2 + item_length mask 16 2 + item_length mask 17 2 + item_length mask 18 2
 mask_line mask = one_line (Mask mask) ∙ simp (length-append, item_word) (omega arith)
 
-pub logged_line : (c : Content) (text : List ℕ) (n : ℕ) → n ≡ length text → text ≡ text_of_line c ++ 10 ∷ [] → n ≡ lines_length (Logged c ∷ [])
-unfolding lines_length
-logged_line c text n e f = e ∙ ap length f ∙ sym (ap length (append-nil (text_of_line c ++ 10 ∷ [])))
+pub logged_line : (c : Content) → lines_length (Logged c ∷ []) ≡ length (text_of_line c) + 1
+logged_line c = one_line (Logged c)
 
 -- ---- loops ----
 

@@ -89,7 +89,7 @@ fn drop_told<L: Ledger>(
     let mut freed = 0;
     for name in opens {
         if tells_open(settings, found, &window, &right, name.number, steps) {
-            freed = plus(freed, open_length(alloc, &name)?)?;
+            freed = plus(freed, open_length(&name)?)?;
         } else {
             kept.push(name)?;
         }

@@ -24,12 +24,9 @@ use outcomes::Tables;
 use rule_table::{Entry, Table, write_table};
 use std::alloc::{AllocError, Global};
 use step_ledger::{Ledger, Steps};
-use table_audit::{width, with_scratch};
+use table_audit::{WIDEST, width, with_scratch};
 use thumb_instr::{Mask, Seq};
 use window_exec::{States, WState};
-
-/// The greatest number of sequences that a window may have to be told from.
-const WIDEST: u64 = 5_000_000;
 
 /// The greatest number of bytes of a table's text.
 const TEXT_LIMIT: u64 = 67_108_864;

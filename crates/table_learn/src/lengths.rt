@@ -7,7 +7,7 @@ ghost use Rattle.rule_table.specs.Views.{rule_of, opened_of};
 ghost use Rattle.table_learn.specs.Lengths.{lines_length, log_length, opens_length, instr_length, item_length};
 
 use itoa::Buffer;
-use lrat_check::{Line, write_line};
+use lrat_check::{Line, length_of_line};
 use rule_table::{Entry, Open};
 use std::alloc::{AllocError, Global};
 use thumb_instr::{Instr, Mask};
@@ -34,20 +34,20 @@ pub(crate) fn times(count: u64, each: u64) -> Result<u64, AllocError>
 }
 
 /// A line of a proof.
-fn line_length(alloc: Global, line: &Line) -> Result<u64, AllocError>
+#[tactic(auto, using(crate::proofs::TextLengths::logged_line))]
+fn line_length(line: &Line) -> Result<u64, AllocError>
     ensures { IfOk result (λ n. n ≡ lines_length (item.Logged (content_of line.now) ∷ [])) }
 {
-    let text = write_line(alloc, line)?;
-    Ok(text.len() as u64)
+    length_of_line(line).ok_or(AllocError)
 }
 
 /// The lines of a proof.
-fn log_length(alloc: Global, lines: &[Line]) -> Result<u64, AllocError>
+fn log_length(lines: &[Line]) -> Result<u64, AllocError>
     ensures { IfOk result (λ n. n ≡ log_length (map content_of lines.now)) }
 {
     let mut total = 0;
     for line in lines {
-        total = plus(total, line_length(alloc, line)?)?;
+        total = plus(total, line_length(line)?)?;
     }
     Ok(total)
 }
@@ -107,20 +107,20 @@ fn number_length(number: u64) -> u64
 }
 
 /// The lines of an open number with its log.
-pub(crate) fn open_length(alloc: Global, name: &Open) -> Result<u64, AllocError>
+pub(crate) fn open_length(name: &Open) -> Result<u64, AllocError>
     ensures { IfOk result (λ n. n ≡ lines_length (open_items (opened_of name.entry.now))) }
 {
-    let log = log_length(alloc, &name.log)?;
+    let log = log_length(&name.log)?;
     plus(log, number_length(name.number))
 }
 
 /// The lines of open numbers with their logs.
-fn opens_length(alloc: Global, opens: &[Open]) -> Result<u64, AllocError>
+fn opens_length(opens: &[Open]) -> Result<u64, AllocError>
     ensures { IfOk result (λ n. n ≡ opens_length (map opened_of opens.entry.now)) }
 {
     let mut total = 0;
     for name in opens {
-        total = plus(total, open_length(alloc, name)?)?;
+        total = plus(total, open_length(name)?)?;
     }
     Ok(total)
 }
@@ -133,7 +133,7 @@ pub(crate) fn entry_length(alloc: Global, entry: &Entry) -> Result<u64, AllocErr
     let right = side_length(alloc, 6, entry.right.as_slice())?;
     let sides = plus(left, right)?;
     let front = plus(sides, 12 + mask_length(entry.mask))?;
-    let proof = log_length(alloc, &entry.proof)?;
-    let opens = opens_length(alloc, &entry.opens)?;
+    let proof = log_length(&entry.proof)?;
+    let opens = opens_length(&entry.opens)?;
     plus(plus(front, proof)?, opens)
 }

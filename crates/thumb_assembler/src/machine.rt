@@ -16,6 +16,7 @@ use std::alloc::{AllocError, Global};
 use thumb_instr::{Distance, Instr};
 use thumb_machine::{
     Answer, Answers, Around, End, Event, Memory, Next, Registers, Stage, State, Target, World,
+    registers_of, stage_of,
 };
 
 /// Where a machine over an image is.
@@ -33,32 +34,6 @@ pub struct ImageMachine {
     pub(crate) image: Image,
     pub(crate) world: World,
     pub(crate) at: At,
-}
-
-/// The stage of a run that ended so.
-fn stage_of(end: End) -> Stage
-    ensures { result ≡ stage_of end }
-{
-    match end {
-        End::Left => Stage::Left,
-        End::Fault => Stage::Fault,
-        End::Astray => Stage::Astray,
-        End::Fell => Stage::Fell,
-    }
-}
-
-/// The registers of a state.
-fn registers_of(state: &State) -> Registers
-    ensures { values_of result ≡ start_values state.now }
-{
-    let r = &state.r;
-    Registers {
-        r: [
-            r[0], r[1], r[2], r[3], r[4], r[5], r[6], r[7], r[8], r[9], r[10], r[11], r[12],
-            state.sp, state.lr,
-        ],
-        nzcv: state.nzcv,
-    }
 }
 
 /// What a run changes, at its beginning. A memory is written by stores and by the outside alone, so the first bytes come as the answer to a call.

@@ -10,7 +10,7 @@ ghost use Rattle.thumb_assembler.specs.Pushes.{PushedCode, Pushes, PushesValue, 
 use crate::aiming::aimed;
 use crate::errors::Flaw;
 use crate::naming::word_of;
-use label_layout::Layout;
+use label_layout::{Layout, padding};
 use listing_parser::{Listing, Mention, Statement, Value};
 use std::alloc::AllocError;
 use thumb_instr::Instr;
@@ -133,17 +133,6 @@ fn push_aimed(
             Ok(())
         }
     }
-}
-
-/// What an alignment pads at an address.
-fn padding(size: u32, most: u32, at: u32) -> u32
-    ensures { result ≡ padding_at size most at }
-{
-    if size == 0 {
-        return 0;
-    }
-    let need = (size - at % size) % size;
-    if need <= most { need } else { 0 }
 }
 
 /// Whether an address lies in the image. The layout is the listing's.

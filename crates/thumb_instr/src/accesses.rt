@@ -189,7 +189,7 @@ fn byte_writes(operation: ByteOperation, target: Low) -> Items
 }
 
 /// The access of the same kind by register.
-fn offset_access(access: OffsetAccess) -> Access
+pub fn offset_access(access: OffsetAccess) -> Access
     ensures { result ≡ offset_access access }
 {
     match access {
@@ -203,7 +203,7 @@ fn offset_access(access: OffsetAccess) -> Access
 }
 
 /// The access of the same kind by register.
-fn word_access(access: WordAccess) -> Access
+pub fn word_access(access: WordAccess) -> Access
     ensures { result ≡ word_access access }
 {
     match access {

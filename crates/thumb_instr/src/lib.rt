@@ -16,7 +16,7 @@ pub mod seq;
 pub mod window;
 pub mod within;
 
-pub use accesses::shape;
+pub use accesses::{offset_access, shape, word_access};
 pub use apart::parts;
 pub use distance::{Distance, Far, Farthest, Near};
 pub use instr::Instr;

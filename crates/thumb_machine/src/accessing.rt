@@ -1,6 +1,5 @@
 //! Loads and stores. All room that an access needs is asked for before anything is written, so that a refusal of memory changes nothing.
 ghost use Rattle.std.specs.Prelude.{◌≡◌, ◌<◌, ◌≤◌, ◌%◌, ◌^◌, [], ◌∷◌, List, true, false};
-ghost use Rattle.thumb_instr.specs.Shape.{offset_access, word_access};
 ghost use Rattle.thumb_model.specs.States.{Load, Store, takes};
 ghost use Rattle.thumb_model.specs.Accesses.{access_size, accesses, gets, is_device, loaded, loads, stored, stores, value_at};
 ghost use Rattle.thumb_machine.specs.declared.answers.Answer.{Answer};
@@ -13,7 +12,7 @@ use crate::event::Event;
 use crate::memory::is_device;
 use crate::world::{End, Next, World, is_aligned};
 use std::alloc::AllocError;
-use thumb_instr::{Access, OffsetAccess, WordAccess};
+use thumb_instr::Access;
 use word_bits::sign_extend;
 
 /// How many bytes an access has.
@@ -47,30 +46,6 @@ fn is_store(access: Access) -> bool
         Access::Ldrh => false,
         Access::Ldrb => false,
         Access::Ldrsh => false,
-    }
-}
-
-/// The access of the same kind by register.
-pub(crate) fn offset_access(access: OffsetAccess) -> Access
-    ensures { result ≡ offset_access access }
-{
-    match access {
-        OffsetAccess::Str => Access::Str,
-        OffsetAccess::Ldr => Access::Ldr,
-        OffsetAccess::Strb => Access::Strb,
-        OffsetAccess::Ldrb => Access::Ldrb,
-        OffsetAccess::Strh => Access::Strh,
-        OffsetAccess::Ldrh => Access::Ldrh,
-    }
-}
-
-/// The access of the same kind by register.
-pub(crate) fn word_access(access: WordAccess) -> Access
-    ensures { result ≡ word_access access }
-{
-    match access {
-        WordAccess::Str => Access::Str,
-        WordAccess::Ldr => Access::Ldr,
     }
 }
 

@@ -3,15 +3,15 @@ ghost use Rattle.std.specs.Prelude.{◌≡◌, ◌+◌, ◌%◌, ◌^◌};
 ghost use Rattle.thumb_model.specs.Acts.{act, offset};
 ghost use Rattle.thumb_machine.specs.Acting.{Acts, around_of};
 
-use crate::accessing::{access_size, offset_access, word_access};
+use crate::accessing::access_size;
 use crate::answers::Answers;
 use crate::computing::{compute, computes};
 use crate::lists::registers_in;
 use crate::system::{barrier_code, interrupts_code, special_code};
 use crate::world::{Around, Lands, Next, World};
 use std::alloc::AllocError;
-use thumb_instr::Instr;
 use thumb_instr::items::SP;
+use thumb_instr::{Instr, offset_access, word_access};
 
 /// The address of an access: the low 32 bits of a sum.
 fn offset(x: u32, y: u32) -> u32

@@ -24,7 +24,7 @@ mod world;
 
 pub use answers::{Answer, Answers, Bytes};
 pub use event::Event;
-pub use machine::{At, Machine, Stage, State};
+pub use machine::{At, Machine, Stage, State, registers_of, stage_of};
 pub use memory::Memory;
 pub use naming::Naming;
 pub use program::{Program, Row};

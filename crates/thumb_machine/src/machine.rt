@@ -58,7 +58,7 @@ pub struct Machine {
 }
 
 /// The stage of a run that ended so.
-fn stage_of(end: End) -> Stage
+pub fn stage_of(end: End) -> Stage
     ensures { result ≡ stage_of end }
 {
     match end {
@@ -82,7 +82,7 @@ pub struct State {
 }
 
 /// The registers of a state.
-fn registers_of(state: &State) -> Registers
+pub fn registers_of(state: &State) -> Registers
     ensures { values_of result ≡ start_values state.now }
 {
     let r = &state.r;

@@ -13,7 +13,7 @@ mod words;
 
 pub use computing::{compute, computes, total, written};
 pub use register_file::{RegisterFile, flags};
-pub use sequence::{run_seq, tells};
+pub use sequence::{differ, run_seq, tells};
 pub use state::WState;
 pub use states::States;
 pub use stepping::step;

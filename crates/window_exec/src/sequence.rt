@@ -33,7 +33,7 @@ pub fn tells(state: &WState, left: &Seq, right: &Seq, mask: Mask) -> bool
 }
 
 /// Whether some item of the mask differs between the states.
-fn differ(left: &WState, right: &WState, mask: Mask) -> bool
+pub fn differ(left: &WState, right: &WState, mask: Mask) -> bool
     ensures { IsTrue result ↔ Differ (values_of left.now) (values_of right.now) mask.items.bits }
 {
     differ_in_register(left, right, mask, 0)
