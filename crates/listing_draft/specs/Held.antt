@@ -1,12 +1,12 @@
 -- What a draft keeps.
-use Rattle.std.specs.Prelude.{◌≡◌, ℕ, ◌<◌, ◌^◌, true, List, length, map, Option, option_map, slice_get}
+use Rattle.std.specs.Prelude.{◌≡◌, ℕ, ◌<◌, ◌^◌, true, false, List, length, map, Option, option_map, slice_get}
 use Rattle.std.specs.declared.vec.Vec.{Vec}
 use Rattle.std.specs.declared.alloc.Global.{Global}
 use Rattle.kept_places.specs.Marks.{is_gone}
 use Rattle.thumb_model.specs.Listing.{Name, is_op_place, places_of}
 use Rattle.listing_parser.specs.Targets.{DefineOnce}
 use Rattle.listing_draft.specs.declared.draft.Draft.TheInside.{Inside}
-use Rattle.listing_draft.specs.Drafted.{Drafted, lines_now}
+use Rattle.listing_draft.specs.Drafted.{Drafted, lines_now, now_of}
 
 -- labels os names
 abbrev pub names_of : List (Option (Vec ℕ Global)) → List (Option Name)
@@ -20,5 +20,7 @@ pub record IsDraft (d : Drafted) : Type 0 where
   pub once : DefineOnce (lines_now d)
   pub few : length (places_of (lines_now d)) < 2 ^ 32
 
-abbrev pub IsHeld : Inside → Type 0
-IsHeld s = IsDraft (record { given = s.listing; gone = s.kept; aims = names_of s.aims.items })
+-- and nothing differs from what was given before anything is changed
+pub record IsHeld (s : Inside) : Type 0 where
+  pub draft : IsDraft (record { given = s.listing; gone = s.kept; aims = names_of s.aims.items })
+  pub same : s.is_changed ≡ false → now_of s.kept (names_of s.aims.items) s.listing ≡ s.listing

@@ -15,12 +15,13 @@ use thumb_instr::Instr;
 /// are gone, and the labels that branches go to now where they were given others; `lines_now` of these are the lines now. A place that is kept has there the
 /// number of the kept places before it, its rank.
 ///
-/// `kept` has the places that are kept, and `aims` the labels.
+/// `kept` has the places that are kept, `aims` the labels, and `is_changed` tells whether anything was changed.
 #[derive(Drop)]
 pub struct Draft {
     listing: Listing,
     kept: KeptPlaces,
     aims: Vec<Option<Vec<u8>>>,
+    is_changed: bool,
 }
 
 impl Model for Draft {
@@ -103,6 +104,7 @@ impl Draft {
             listing,
             kept,
             aims,
+            is_changed: false,
         })
     }
 
@@ -226,6 +228,7 @@ impl Draft {
         ensures lines { lines_now self.new ≡ replaced_lines own_line (rank self.old.gone place) 1 [] (lines_now self.old) }
     {
         self.kept.remove(place);
+        self.is_changed = true;
     }
 
     /// Lets the branch at a kept place go to another label.
@@ -239,9 +242,10 @@ impl Draft {
         ensures lines { lines_now self.new ≡ aimed_lines line_mentioning (rank self.old.gone place) name.items (lines_now self.old) }
     {
         self.aims[place as usize] = Some(name);
+        self.is_changed = true;
     }
 
-    /// The listing of the lines now.
+    /// The listing of the lines now: the given one, where nothing was changed.
     pub fn into_listing(self, alloc: Global) -> Result<Listing, Memory>
         ensures { IfOk result (λ l. l ≡ lines_now self) }
     {
@@ -249,7 +253,11 @@ impl Draft {
             listing,
             kept,
             aims,
+            is_changed,
         } = self;
+        if !is_changed {
+            return Ok(listing);
+        }
         let lines = print(alloc, listing.into_lines(), &kept, &aims)?;
         Listing::of(alloc, lines)
     }

@@ -8,4 +8,3 @@ mod printing;
 mod writing;
 
 pub use draft::Draft;
-pub use writing::branch_line;

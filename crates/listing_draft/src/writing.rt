@@ -11,7 +11,7 @@ use thumb_syntax::{Label, Parsed, write_instr};
 
 /// A line of its own for a branch to a label: a tab, its canonical text with the label's name and a newline.
 #[tactic(auto, unfolding(listing_parser::specs::Parsing::line_mentioning))]
-pub fn branch_line(alloc: Global, instr: &Instr, name: &[u8]) -> Result<Line, Memory>
+pub(crate) fn branch_line(alloc: Global, instr: &Instr, name: &[u8]) -> Result<Line, Memory>
     ensures { IfOk result (λ l. line_view l ≡ record {
       names = [];
       statement = Runs instr.now (Some (record { name = name.now; plus = 0 }));

@@ -7,4 +7,4 @@ use Rattle.listing_draft.proofs.draft.Draft.instr.Goals as goal
 pub returns : goal.returns
 returns c =
     c.instr_of.ensures ∙ ap instr_in c.place.ensures
-    ∙ held_instr c.self.inside.listing c.self.inside.kept (names_of c.self.inside.aims.items) c.args.self.now c.args.place c.self.view_is c.self.invariant c.requires.kept
+    ∙ held_instr c.self.inside.listing c.self.inside.kept (names_of c.self.inside.aims.items) c.args.self.now c.args.place c.self.view_is c.self.invariant.draft c.requires.kept

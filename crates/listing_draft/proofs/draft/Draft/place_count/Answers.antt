@@ -3,4 +3,4 @@ use Rattle.listing_draft.specs.Held.{IsDraft}
 use Rattle.listing_draft.proofs.draft.Draft.place_count.Goals as goal
 
 pub returns-clause-draft : goal.returns-clause-draft
-returns-clause-draft c = subst IsDraft c.self.view_is c.self.invariant
+returns-clause-draft c = subst IsDraft c.self.view_is c.self.invariant.draft
