@@ -20,3 +20,4 @@ pub mod Moved
 pub mod Tables
 pub mod Looking
 pub mod Running
+pub mod Progress

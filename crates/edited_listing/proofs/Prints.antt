@@ -1,22 +1,19 @@
 -- The lines of a changed listing as a loop prints them.
-use Rattle.std.proofs.Common.{◌≡◌, ℕ, suc, ◌+◌, ◌-◌, ◌<◌, ◌≤◌, ◌^◌, ◌==◌, ◌&&◌, Bool, true, false, List, [], ◌∷◌, ◌++◌, length, length-append, map, drop, refl, sym, ap, ◌∙◌, inl, inr, arith, append_assoc}
-use Rattle.std.proofs.lemmas.List.{append-nil}
+use Rattle.std.proofs.Common.{◌≡◌, ℕ, suc, ◌-◌, ◌<◌, ◌≤◌, ◌==◌, ◌&&◌, Bool, true, false, List, [], ◌∷◌, ◌++◌, length, map, drop, refl, sym, ap, ◌∙◌, inl, inr, arith, append_assoc}
 use Rattle.std.specs.Prelude.{slice_get, Some, None}
 use Rattle.std.proofs.lemmas.Bool.{cases_Bool, eq-eqb, ne_eqb}
 use Rattle.std.proofs.lemmas.Option.{same_Some}
 use Rattle.thumb_instr.specs.declared.instr.Instr.{Instr}
-use Rattle.thumb_model.specs.Listing.{Line, places_in, places_of}
+use Rattle.thumb_model.specs.Listing.{Line}
 use Rattle.thumb_model.proofs.Lists.{length_drop}
-use Rattle.thumb_model.specs.Replaced.{is_op, labels_kept, new_line}
-use Rattle.listing_parser.specs.Parsing.{own_line}
+use Rattle.thumb_model.specs.Replaced.{new_line}
 use Rattle.kept_places.specs.Marks.{IsNode}
 use Rattle.edited_listing.specs.declared.standing.Standing.{Standing}
 use Rattle.edited_listing.specs.declared.standing.Standing.TheVariants as standing
-use Rattle.edited_listing.specs.Items.{Item, AsGiven, New, items_from}
-use Rattle.edited_listing.specs.Printing.{is_given_at, new_at, print_at, line_at, lines_from}
+use Rattle.edited_listing.specs.Items.{Item, AsGiven, New}
+use Rattle.edited_listing.specs.Printing.{is_given_at, new_at, print_at}
 use Rattle.edited_listing.specs.Places.{item_of}
 use Rattle.edited_listing.specs.Changes.{is_none, marks_of, is_as_given, new_with_home, rest_items}
-use Rattle.edited_listing.proofs.Printed.{op_takes}
 use Rattle.edited_listing.proofs.Rest.{rest_node, rest_kept, rest_end, kept_none}
 pub use Rattle.listing_parser.proofs.CanonicalLines.{and_false}
 
@@ -111,74 +108,3 @@ fewer_items home at q stands i e r =
     let some = some_items home (rest_items at stands) i e in
     let less : length (rest_items q stands) ≡ length (rest_items at stands) - 1 = ap (λ xs. length xs) r ∙ length_drop 1 (rest_items at stands) in
     omega arith
-
--- ---- a line ----
-
--- the line of an instruction that is as it was given
-pub line_given : (place : ℕ) (l : Line) (xs ys : List Item) (out out' : List Line) → is_given_at place xs ≡ true → ys ≡ drop 1 xs → out' ≡ out ++ l ∷ [] →
-    (behind : List Item → List Line) → out' ++ behind ys ≡ out ++ line_at own_line place l xs behind
-line_given place l xs ys out out' g y o behind =
-    ap (λ ls. ls ++ behind ys) o ∙ append_assoc out (l ∷ []) (behind ys) ∙ ap (λ zs. out ++ l ∷ behind zs) y ∙ ap (λ ls. out ++ ls) (let z : l ∷ behind (drop 1 xs) ≡ line_at own_line place l xs behind = rw g refl in z)
-
--- and that of one that gave way
-pub line_changed : (place : ℕ) (l : Line) (xs ys : List Item) (out mid out' : List Line) → is_given_at place xs ≡ false → mid ≡ out ++ labels_kept l l.names →
-    ((behind : List Item → List Line) → out' ++ behind ys ≡ mid ++ print_at own_line place xs behind) → (behind : List Item → List Line) → out' ++ behind ys ≡ out ++ line_at own_line place l xs behind
-line_changed place l xs ys out mid out' g m h behind =
-    h behind ∙ ap (λ ls. ls ++ print_at own_line place xs behind) m ∙ append_assoc out (labels_kept l l.names) (print_at own_line place xs behind)
-    ∙ ap (λ ls. out ++ ls) (let z : labels_kept l l.names ++ print_at own_line place xs behind ≡ line_at own_line place l xs behind = rw g refl in z)
-
-pub op_printed : (place : ℕ) (l : Line) (xs ys : List Item) (out out' : List Line) → is_op l.statement ≡ true → ((behind : List Item → List Line) → out' ++ behind ys ≡ out ++ line_at own_line place l xs behind) →
-    (rest : List Line) → out' ++ lines_from own_line (place + length (places_in l.statement)) ys rest ≡ out ++ lines_from own_line place xs (l ∷ rest)
-op_printed place l xs ys out out' op h rest =
-    let one = op_takes l.statement op in
-    ap (λ k. out' ++ lines_from own_line k ys rest) (let z : place + length (places_in l.statement) ≡ suc place = omega arith in z)
-    ∙ h (λ zs. lines_from own_line (suc place) zs rest)
-    ∙ ap (λ ls. out ++ ls) (let z : line_at own_line place l xs (λ zs. lines_from own_line (suc place) zs rest) ≡ lines_from own_line place xs (l ∷ rest) = rw op refl in z)
-
-pub other_printed : (place : ℕ) (l : Line) (xs ys : List Item) (out out' : List Line) → is_op l.statement ≡ false → ys ≡ drop (length (places_in l.statement)) xs → out' ≡ out ++ l ∷ [] →
-    (rest : List Line) → out' ++ lines_from own_line (place + length (places_in l.statement)) ys rest ≡ out ++ lines_from own_line place xs (l ∷ rest)
-other_printed place l xs ys out out' op y o rest =
-    let next : List Line = lines_from own_line (place + length (places_in l.statement)) ys rest in
-    ap (λ ls. ls ++ next) o ∙ append_assoc out (l ∷ []) next
-    ∙ ap (λ zs. out ++ l ∷ lines_from own_line (place + length (places_in l.statement)) zs rest) y
-    ∙ ap (λ ls. out ++ ls) (let z : l ∷ lines_from own_line (place + length (places_in l.statement)) (drop (length (places_in l.statement)) xs) rest ≡ lines_from own_line place xs (l ∷ rest) = rw op refl in z)
-
--- ---- all lines ----
-
--- what holds while lines are printed
-pub record AreAdded (given : List Line) (stands : List Standing) (out left : List Line) (place from : ℕ) (marks : List Bool) : Type 0 where
-  pub lines : out ++ lines_from own_line place (rest_items from stands) left ≡ lines_from own_line 0 (items_from 0 stands) given
-  pub within : from ≤ length stands
-  pub many : place + length (places_of left) ≡ length (places_of given)
-  pub same : marks ≡ marks_of stands
-
-pub added_first : (given : List Line) (stands : List Standing) (out left : List Line) (marks : List Bool) → out ≡ [] → left ≡ given → marks ≡ marks_of stands → AreAdded given stands out left 0 0 marks
-added_first given stands out left marks o l m = record {
-  lines = ap (λ ls. ls ++ lines_from own_line 0 (items_from 0 stands) left) o ∙ ap (λ ls. lines_from own_line 0 (items_from 0 stands) ls) l;
-  within = omega arith;
-  many = (let many = ap (λ ls. length (places_of ls)) l in omega arith);
-  same = m;
-}
-
-line_many : (l : Line) (rest : List Line) → length (places_of (l ∷ rest)) ≡ length (places_in l.statement) + length (places_of rest)
-line_many l rest = length-append (places_in l.statement) (places_of rest)
-
-pub added_within : (given : List Line) (stands : List Standing) (out left : List Line) (place from : ℕ) (marks : List Bool) (l : Line) (rest : List Line) → AreAdded given stands out left place from marks → left ≡ l ∷ rest →
-    length (places_of given) < 2 ^ 32 → place + length (places_in l.statement) < 2 ^ 32
-added_within given stands out left place from marks l rest a e few =
-    let many = a.many in
-    let here = ap (λ ls. length (places_of ls)) e ∙ line_many l rest in
-    omega arith
-
-pub added_more : (given : List Line) (stands : List Standing) (out left : List Line) (place from : ℕ) (marks : List Bool) (l : Line) (rest out' : List Line) (place' from' : ℕ) (marks' : List Bool) → AreAdded given stands out left place from marks → left ≡ l ∷ rest →
-    ((ls : List Line) → out' ++ lines_from own_line (place + length (places_in l.statement)) (rest_items from' stands) ls ≡ out ++ lines_from own_line place (rest_items from stands) (l ∷ ls)) →
-    place' ≡ place + length (places_in l.statement) → from' ≤ length stands → marks' ≡ marks → AreAdded given stands out' rest place' from' marks'
-added_more given stands out left place from marks l rest out' place' from' marks' a e h p w m = record {
-  lines = ap (λ k. out' ++ lines_from own_line k (rest_items from' stands) rest) p ∙ h rest ∙ ap (λ ls. out ++ lines_from own_line place (rest_items from stands) ls) (sym e) ∙ a.lines;
-  within = w;
-  many = (let many = a.many in let here = ap (λ ls. length (places_of ls)) e ∙ line_many l rest in omega arith);
-  same = m ∙ a.same;
-}
-
-pub added_last : (given : List Line) (stands : List Standing) (out left : List Line) (place from : ℕ) (marks : List Bool) → AreAdded given stands out left place from marks → left ≡ [] → out ≡ lines_from own_line 0 (items_from 0 stands) given
-added_last given stands out left place from marks a e = sym (append-nil out) ∙ ap (λ ls. out ++ lines_from own_line place (rest_items from stands) ls) (sym e) ∙ a.lines

@@ -1,5 +1,5 @@
 -- A run that is read place by place.
-use Rattle.std.proofs.Common.{◌≡◌, ℕ, suc, ◌+◌, ◌-◌, ◌<◌, ◌≤◌, Bool, true, false, List, [], ◌∷◌, ◌++◌, length, length-append, drop, None, Some, refl, sym, ap, ◌∙◌, subst, append-nil, arith, true≢false}
+use Rattle.std.proofs.Common.{◌≡◌, ℕ, suc, ◌+◌, ◌-◌, ◌<◌, ◌≤◌, Bool, true, false, List, [], ◌∷◌, ◌++◌, length, length-append, drop, None, Some, sym, ap, ◌∙◌, subst, arith}
 use Rattle.std.specs.Prelude.{Option, nat_eq, slice_get}
 use Rattle.thumb_instr.specs.declared.instr.Instr.{Instr}
 use Rattle.kept_places.specs.Marks.{is_gone, rank, IsNode}
@@ -27,23 +27,6 @@ pub record IsRun (e : Edited) (r most : ℕ) (start now : List Bool) (letters : 
   pub ranked : AreRanked (marks e) r places
   pub run : letters ++ run (nat_eq (length letters) 0) (most - length letters) (drop (r + length letters) (rows_from false (lines_now e))) ≡ run true most (drop r (rows_from false (lines_now e)))
 
-pub run_begins : (e : Edited) (p most : ℕ) (start : List Bool) (letters : List Instr) (places : List ℕ) → letters ≡ [] → places ≡ [] → p < length e.stands → is_gone (marks e) p ≡ false → IsRun e (rank (marks e) p) most start start letters places p p
-run_begins e p most start letters places l q h k =
-    let none : length letters ≡ 0 = ap (λ (is : List Instr). length is) l in
-    record {
-      few = omega arith;
-      as_many = ap (λ (ps : List ℕ). length ps) q ∙ sym none;
-      same = refl;
-      within = omega arith;
-      kept = k;
-      ranked_at = omega arith;
-      follows = λ b g. absurd (let yes : nat_eq (length letters) 0 ≡ true = ap (λ n. nat_eq n 0) none in let no : true ≡ false = sym yes ∙ b in true≢false no);
-      ranked = subst (AreRanked (marks e) (rank (marks e) p)) (sym q) tt;
-      run = ap (λ (is : List Instr). is ++ run (nat_eq (length is) 0) (most - length is) (drop (rank (marks e) p + length is) (rows_from false (lines_now e)))) l
-          ∙ ap (λ n. run true n (drop (rank (marks e) p + 0) (rows_from false (lines_now e)))) (let z : most - 0 ≡ most = omega arith in z)
-          ∙ ap (λ n. run true most (drop n (rows_from false (lines_now e)))) (let z : rank (marks e) p + 0 ≡ rank (marks e) p = omega arith in z);
-    }
-
 -- the next letter by its number
 pub next_is : (e : Edited) (r most : ℕ) (start now : List Bool) (letters : List Instr) (places : List ℕ) (before at : ℕ) (found : Option Instr) → IsRun e r most start now letters places before at →
     found ≡ letter_at (nat_eq (length letters) 0) (drop (rank (marks e) at) (rows_from false (lines_now e))) → letter_at (nat_eq (length letters) 0) (drop (r + length letters) (rows_from false (lines_now e))) ≡ found
@@ -53,11 +36,6 @@ pub run_ended : (e : Edited) (r most : ℕ) (start now : List Bool) (letters : L
     letter_at (nat_eq (length letters) 0) (drop (r + length letters) (rows_from false (lines_now e))) ≡ None → letters ≡ run true most (drop r (rows_from false (lines_now e)))
 run_ended e r most start now letters places before at h f =
     run_ends letters (nat_eq (length letters) 0) (most - length letters) (drop (r + length letters) (rows_from false (lines_now e))) (run true most (drop r (rows_from false (lines_now e)))) f h.run
-
-pub run_full : (e : Edited) (r most : ℕ) (start now : List Bool) (letters : List Instr) (places : List ℕ) (before at : ℕ) → IsRun e r most start now letters places before at → most ≤ length letters → letters ≡ run true most (drop r (rows_from false (lines_now e)))
-run_full e r most start now letters places before at h f =
-    let rows = drop (r + length letters) (rows_from false (lines_now e)) in
-    sym (append-nil letters) ∙ ap (λ n. letters ++ run (nat_eq (length letters) 0) n rows) (let few = h.few in let z : 0 ≡ most - length letters = omega arith in z) ∙ h.run
 
 ranked_more : (gone : List Bool) (r : ℕ) (ps : List ℕ) (p : ℕ) → AreRanked gone r ps → p < length gone → is_gone gone p ≡ false → rank gone p ≡ r + length ps → AreRanked gone r (ps ++ p ∷ [])
 ranked_more gone r [] p a h k e = (h, k, omega arith, tt)

@@ -9,3 +9,5 @@ pub mod Laws
 pub mod Known
 pub mod Looks
 pub mod Held
+pub mod Progress
+pub mod InPlace

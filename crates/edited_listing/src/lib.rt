@@ -3,6 +3,7 @@
 
 mod given;
 mod giving;
+mod in_place;
 mod labels;
 pub mod laws;
 mod listing;

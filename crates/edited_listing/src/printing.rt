@@ -1,13 +1,14 @@
-//! The lines of a changed listing, in one pass over the lines that were given: those as given are moved over as they are.
-ghost use Rattle.std.specs.Prelude.{◌≡◌, ◌+◌, ◌<◌, ◌≤◌, ◌^◌, ◌++◌, ◌∷◌, List, length, map, true, drop, IfOk, OnOk};
-ghost use Rattle.thumb_model.specs.Listing.{Line as ListingLine, places_in, places_of};
+//! The lines of a changed listing, in one pass over the lines that were given: those that stay do so in place, and go down where lines before them are gone.
+ghost use Rattle.std.specs.Prelude.{◌≡◌, ◌+◌, ◌<◌, ◌≤◌, ◌^◌, ◌++◌, ◌||◌, [], List, length, map, not, IfOk, OnOk};
+ghost use Rattle.thumb_model.specs.Listing.{Line as ListingLine, places_of};
 ghost use Rattle.thumb_model.specs.Replaced.{is_op};
 ghost use Rattle.listing_parser.specs.Parsing.{own_line};
 ghost use Rattle.listing_parser.specs.Views.{line_view};
 ghost use Rattle.edited_listing.specs.Changes.{marks_of, rest_items};
 ghost use Rattle.edited_listing.specs.Items.{Item, items_from};
-ghost use Rattle.edited_listing.specs.Printing.{is_given_at, line_at, lines_from, new_at, print_at};
+ghost use Rattle.edited_listing.specs.Printing.{is_given_at, lines_from, new_at, print_at};
 
+use crate::in_place::InPlace;
 use crate::passing::{pass, pass_one};
 use crate::standing::Standing;
 use kept_places::KeptPlaces;
@@ -50,6 +51,20 @@ fn is_given_at(stands: &[Standing], kept: &mut KeptPlaces, from: u32, place: u32
     }
 }
 
+/// Whether a line stays as it is: it has no instruction, or the next kept place from one on is its own, which stands as it was given.
+fn stays(line: &Line, place: u32, from: u32, stands: &[Standing], kept: &mut KeptPlaces) -> bool
+    requires marks { kept.old ≡ marks_of stands.now }
+    requires within { from ≤ length stands.now }
+    ensures stays { result ≡ (not (is_op (line_view line.now).statement) || is_given_at place (rest_items from stands.now)) }
+    ensures same { kept.new ≡ kept.old }
+{
+    if is_op(line) {
+        is_given_at(stands, kept, from, place)
+    } else {
+        true
+    }
+}
+
 /// Adds the lines of the next new instructions with their home at a place. The place behind them.
 fn print_new(
     alloc: Global,
@@ -74,76 +89,68 @@ fn print_new(
     Ok(at)
 }
 
-/// Adds what is printed at the line of an instruction. The place behind what is printed.
-fn print_op(
-    alloc: Global,
-    out: &mut Vec<Line>,
-    line: Line,
+/// How far lines are printed: the place of the next one, and the place from which on what is kept is still to be printed.
+#[derive(Clone, Copy)]
+struct Passed {
     place: u32,
     from: u32,
-    stands: &[Standing],
-    kept: &mut KeptPlaces,
-) -> Result<u32, Memory>
-    requires marks { kept.old ≡ marks_of stands.now }
-    requires within { from ≤ length stands.now }
-    requires few { length stands.now < 2 ^ 32 }
-    ensures lines { IfOk result (λ next. (behind : List Item → List ListingLine) → map line_view out.new.items ++ behind (rest_items next stands.now) ≡ map line_view out.old.items ++ line_at own_line place (line_view line) (rest_items from stands.now) behind) }
-    ensures within { IfOk result (λ next. next ≤ length stands.now) }
-    ensures same { OnOk result (kept.new ≡ kept.old) }
-{
-    if is_given_at(stands, kept, from, place) {
-        let next = pass_one(stands, kept, from);
-        out.push(line)?;
-        return Ok(next);
-    }
-    add_labels(alloc, out, &line)?;
-    print_new(alloc, out, place, from, stands, kept)
 }
 
-/// Adds what is printed at a line. The place behind what is printed.
+/// Prints the next line. How far lines are printed then.
 fn print_line(
     alloc: Global,
-    out: &mut Vec<Line>,
-    line: Line,
-    place: u32,
-    from: u32,
+    lines: &mut InPlace,
+    new: &mut Vec<Line>,
+    passed: Passed,
     stands: &[Standing],
     kept: &mut KeptPlaces,
-) -> Result<u32, Memory>
+) -> Result<Passed, Memory>
+    requires some { 0 < length lines.old.left }
+    requires none { new.old.items ≡ [] }
     requires marks { kept.old ≡ marks_of stands.now }
-    requires within { from ≤ length stands.now }
+    requires within { passed.from ≤ length stands.now }
     requires few { length stands.now < 2 ^ 32 }
-    ensures lines { IfOk result (λ next. (rest : List ListingLine) → map line_view out.new.items ++ lines_from own_line (place + length (places_in (line_view line).statement)) (rest_items next stands.now) rest ≡ map line_view out.old.items ++ lines_from own_line place (rest_items from stands.now) (line_view line ∷ rest)) }
-    ensures within { IfOk result (λ next. next ≤ length stands.now) }
+    requires many { passed.place + length (places_of lines.old.left) < 2 ^ 32 }
+    ensures lines { IfOk result (λ p. lines.new.printed ++ lines_from own_line p.place (rest_items p.from stands.now) lines.new.left ≡ lines.old.printed ++ lines_from own_line passed.place (rest_items passed.from stands.now) lines.old.left) }
+    ensures left { OnOk result (length lines.new.left + 1 ≡ length lines.old.left) }
+    ensures many { IfOk result (λ p. p.place + length (places_of lines.new.left) ≡ passed.place + length (places_of lines.old.left)) }
+    ensures within { IfOk result (λ p. p.from ≤ length stands.now) }
     ensures same { OnOk result (kept.new ≡ kept.old) }
+    ensures none { OnOk result (new.new.items ≡ []) }
 {
-    if is_op(&line) {
-        return print_op(alloc, out, line, place, from, stands, kept);
+    let Passed { place, from } = passed;
+    let line = lines.next();
+    let places = line.statement.places();
+    let next = place + places as u32;
+    if stays(line, place, from, stands, kept) {
+        lines.keep(alloc)?;
+        let from = pass(stands, kept, from, places);
+        return Ok(Passed { place: next, from });
     }
-    let next = pass(stands, kept, from, line.statement.places());
-    out.push(line)?;
-    Ok(next)
+    add_labels(alloc, new, line)?;
+    let from = print_new(alloc, new, place, from, stands, kept)?;
+    lines.give_way(new)?;
+    Ok(Passed { place: next, from })
 }
 
 /// The lines now.
 pub(crate) fn print(
     alloc: Global,
-    lines: Vec<Line>,
+    given: Vec<Line>,
     stands: &[Standing],
     kept: &mut KeptPlaces,
 ) -> Result<Vec<Line>, Memory>
     requires marks { kept.old ≡ marks_of stands.now }
     requires few { length stands.now < 2 ^ 32 }
-    requires many { length (places_of (map line_view lines.items)) < 2 ^ 32 }
-    ensures { IfOk result (λ out. map line_view out.items ≡ lines_from own_line 0 (items_from 0 stands.now) (map line_view lines.items)) }
+    requires many { length (places_of (map line_view given.items)) < 2 ^ 32 }
+    ensures { IfOk result (λ out. map line_view out.items ≡ lines_from own_line 0 (items_from 0 stands.now) (map line_view given.items)) }
 {
-    let mut out = Vec::with_capacity(alloc, lines.len())?;
-    let mut place = 0;
-    let mut from = 0;
-    for line in lines {
-        let places = line.statement.places() as u32;
-        from = print_line(alloc, &mut out, line, place, from, stands, kept)?;
-        place += places;
+    let mut lines = InPlace::new(alloc, given);
+    let mut new = Vec::new(alloc);
+    let mut passed = Passed { place: 0, from: 0 };
+    while !lines.is_at_end() {
+        passed = print_line(alloc, &mut lines, &mut new, passed, stands, kept)?;
     }
-    Ok(out)
+    let printed = lines.into_printed()?;
+    Ok(printed)
 }
