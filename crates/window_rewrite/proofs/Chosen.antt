@@ -25,7 +25,7 @@ use Rattle.window_runs.proofs.Joined.{run_window, window_in_run}
 use Rattle.window_rewrite.specs.declared.choice.Choice.{Choice}
 use Rattle.window_rewrite.specs.Rewriting.{setting_by}
 use Rattle.table_audit.specs.Shorter.{IsCanonicalSide}
-use Rattle.window_rewrite.specs.Rules.{rules_in, left_forms, side_length, is_marked, AreFit, AreLed, first_with}
+use Rattle.window_rewrite.specs.Rules.{rules_in, chains_of, left_forms, side_length, is_marked, AreFit, AreLed, first_with}
 use Rattle.window_rewrite.specs.Fitting.{left_registers, NoneStands, Lightens, Stands, StandsThere}
 use Rattle.window_rewrite.specs.Choices.{Awaits, choice_of, FitsIn, IsChoice, IsLowest, Meets, NoneAt, NoneOf, IsBest, NoneBefore, IsFirstChoice, of_length, longer}
 use Rattle.window_rewrite.proofs.Applied.{made, rule_there, fits_some, back_lightens, meets, meets_less}
@@ -173,7 +173,7 @@ none_before asked costs base rules kept lines place window n at start steps ther
 pub search_next : (was asked : Bool) (costs : Option (List ℕ)) (base : ℕ) (rules : List Rule) (kept : List Bool) (lines : List Line) (place : ℕ) (window : List Instr) (n : ℕ) (at next : Option ℕ) (start steps after : ℕ) → IsWindow lines place window
     → IsSearch was costs base rules kept lines place window at start steps → at ≡ Some n → (was ≡ true → asked ≡ true)
     → (side_length rules n ≡ length window → (registers : List Low) → Meets asked (setting_by costs base (alone rules)) (made place n registers) lines → ⊥)
-    → ((form : ℕ) → slice_get (left_forms rules) n ≡ Some form → is_marked kept n ≡ true → next ≡ first_with kept form (n + 1) (drop (n + 1) (left_forms rules))) → after ≤ steps + from_bool (side_length rules n == length window)
+    → ((chain : ℕ) → slice_get (chains_of (left_forms rules)) n ≡ Some chain → is_marked kept n ≡ true → next ≡ first_with kept chain (n + 1) (drop (n + 1) (chains_of (left_forms rules)))) → after ≤ steps + from_bool (side_length rules n == length window)
     → IsSearch asked costs base rules kept lines place window next start after
 search_next was asked costs base rules kept lines place window n at next start steps after there s is stays none more cost =
     let i = awaited costs rules kept window s.k n at s.awaits is in
@@ -186,7 +186,7 @@ search_next was asked costs base rules kept lines place window n at next start s
       fit = s.fit;
       led = s.led;
       k = n + 1;
-      awaits = i.more next (more i.form i.has i.is_kept);
+      awaits = i.more next (more i.chain i.is_in i.is_kept);
       none = λ o a e l h.
           let d = led_to asked costs base s.longest rules kept lines o s.fit s.led a in
           let no_later = d.no_later in

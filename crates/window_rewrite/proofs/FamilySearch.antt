@@ -7,7 +7,6 @@ use Rattle.std.proofs.lemmas.List.{length-map}
 use Rattle.std.proofs.lemmas.Option.{slice_get_within}
 use Rattle.thumb_instr.specs.declared.instr.Instr.{Instr}
 use Rattle.thumb_model.specs.Listing.{Line}
-use Rattle.rule_table.specs.Table as tables
 use Rattle.rule_table.specs.Views.{family_of, rule_of}
 use Rattle.table_audit.specs.Families.{entry_at}
 use Rattle.window_runs.specs.Windows.{IsWindow}
@@ -15,17 +14,17 @@ use Rattle.window_rewrite.specs.declared.choice.Choice.{Choice}
 use Rattle.window_rewrite.specs.declared.finding.Rules.{Rules}
 use Rattle.window_rewrite.specs.declared.forms.Form.{Form}
 use Rattle.window_rewrite.specs.Choices.{families_sides, of_length, AreReady}
-use Rattle.window_rewrite.specs.Families.{AwaitsFamily, IsFamilyChoice, IsLowestFamily, NoneOfFamily, NoneOfFamilies}
+use Rattle.window_rewrite.specs.Families.{family_forms, AwaitsFamily, IsFamilyChoice, IsLowestFamily, NoneOfFamily, NoneOfFamilies}
 use Rattle.window_rewrite.specs.Fitting.{IsForm}
 use Rattle.window_rewrite.specs.Forms.{form_of}
-use Rattle.window_rewrite.specs.Rules.{is_marked, raised_forms, raised_rule, side_length}
+use Rattle.window_rewrite.specs.Rules.{chain_of, chains_of, is_marked, raised_rule, side_length}
 use Rattle.window_rewrite.specs.Shapes.{blind}
 use Rattle.window_rewrite.proofs.Chosen.{left_of, taken_more}
-use Rattle.window_rewrite.proofs.Keys.{all_marked, form_there, found, nothing, IsFound}
+use Rattle.window_rewrite.proofs.Keys.{all_marked, as_many_chains, chain_at, form_there, found, nothing, IsFound}
 use Rattle.window_rewrite.proofs.Raised.{families_cost, family_cost, forms_many, found_family, none_hidden_at, none_more}
 
-abbrev pub forms_in : Rules → List ℕ
-forms_in r = raised_forms (map rule_of r.entries.now) (map family_of r.families.now)
+abbrev pub chains_in : Rules → List ℕ
+chains_in r = chains_of (family_forms r)
 
 -- the families below k don't meet this at a place, and the one behind them is awaited whose left side has this side's number
 pub record IsFamilySearch (asked : Bool) (r : Rules) (lines : List Line) (place count : ℕ) (side : List Instr) (at : Option ℕ) (start steps : ℕ) : Type 0 where
@@ -43,8 +42,11 @@ family_search_begins asked r lines place count side at start a = record {
 }
 
 -- there are as many numbers, and as many left sides, as families
-many_forms : (r : Rules) → length (forms_in r) ≡ length r.families.now
+many_forms : (r : Rules) → length (family_forms r) ≡ length r.families.now
 many_forms r = forms_many (map rule_of r.entries.now) (map family_of r.families.now) ∙ length-map r.families.now family_of
+
+many_chains : (r : Rules) → length (chains_in r) ≡ length r.families.now
+many_chains r = as_many_chains (family_forms r) ∙ many_forms r
 
 pub many_sides : (r : Rules) → length (families_sides r) ≡ length r.families.now
 many_sides r = length-map (map family_of r.families.now) (λ f. raised_rule (entry_at (map rule_of r.entries.now) f.entry)) ∙ length-map r.families.now family_of
@@ -63,25 +65,25 @@ family_search_spent asked r lines place count side at start steps s = families_c
 
 module _ (r : Rules) (side : List Instr) (ready : AreReady r) where
   abbrev hidden : ℕ
-  hidden = form_of (map blind side)
+  hidden = chain_of (family_forms r) (form_of (map blind side))
 
   abbrev kept : List Bool
   kept = r.index.now.families.kept.items
 
   abbrev Awaited : ℕ → ℕ → Type 0
-  Awaited k n = IsFound (forms_in r) kept hidden k n
+  Awaited k n = IsFound (chains_in r) kept hidden k n
 
   awaited_family : (k n : ℕ) (at : Option ℕ) → AwaitsFamily r side k at → at ≡ Some n → Awaited k n
-  awaited_family k n at a e = found (forms_in r) kept hidden k n (sym a ∙ e)
+  awaited_family k n at a e = found (chains_in r) kept hidden k n (sym a ∙ e)
 
   within : (k n : ℕ) → Awaited k n → n < length r.families.now
-  within k n f = omega (arith, slice_get_within (forms_in r) n hidden f.at, many_forms r)
+  within k n f = omega (arith, slice_get_within (chains_in r) n hidden f.at, many_chains r)
 
   pub family_within : (k n : ℕ) (at : Option ℕ) → AwaitsFamily r side k at → at ≡ Some n → n < length r.families.now
   family_within k n at a e = within k n (awaited_family k n at a e)
 
   -- the next one is behind it
-  pub family_behind : (n : ℕ) (next : Option ℕ) → n < length r.families.now → slice_get r.index.now.families.nexts.items n ≡ Some next → slice_get (forms_in r) n ≡ Some hidden → AwaitsFamily r side (n + 1) next
+  pub family_behind : (n : ℕ) (next : Option ℕ) → n < length r.families.now → slice_get r.index.now.families.nexts.items n ≡ Some next → slice_get (chains_in r) n ≡ Some hidden → AwaitsFamily r side (n + 1) next
   family_behind n next h at f = ready.index.family_chains.nexts n hidden next (omega arith) f (is_kept r n ready h) at
 
   pub family_smaller : (k n : ℕ) (at next : Option ℕ) → AwaitsFamily r side k at → at ≡ Some n → slice_get r.index.now.families.nexts.items n ≡ Some next → left_of (families_sides r) next < left_of (families_sides r) at
@@ -99,14 +101,15 @@ module _ (r : Rules) (side : List Instr) (ready : AreReady r) where
 
   module _ (lines : List Line) (place : ℕ) (window : List Instr) (form : Form) (there : IsWindow lines place window) (formed : IsForm window form) (same : side ≡ form.side) where
     -- where no family between has the number, none of these meets this
-    none_until : (asked : Bool) (k n : ℕ) → n ≤ length r.families.now → NoneOfFamilies asked r lines place (length window) k → ((j : ℕ) → k ≤ j → j < n → slice_get (forms_in r) j ≡ Some hidden → ⊥) → NoneOfFamilies asked r lines place (length window) n
+    none_until : (asked : Bool) (k n : ℕ) → n ≤ length r.families.now → NoneOfFamilies asked r lines place (length window) k → ((j : ℕ) → k ≤ j → j < n → slice_get (chains_in r) j ≡ Some hidden → ⊥) → NoneOfFamilies asked r lines place (length window) n
     none_until asked k n most none gap o m here long from below = elim (cases_lt o.entry (length r.entries.now + k)) [
       | inl l ↦ none o m here long from l
       | inr l ↦ (
           let j : ℕ = o.entry - length r.entries.now in
           let inside : j < length r.families.now = omega arith in
-          let own = form_there (forms_in r) j (omega (arith, inside, many_forms r)) in
-          none_hidden_at asked r j own.0 hidden lines place window form inside ready there formed own.1 (ap (λ (s : List Instr). form_of (map blind s)) same) (λ e. gap j (omega arith) (omega arith) (own.1 ∙ ap Some e)) o m here long (let s : o.entry ≡ length r.entries.now + j = omega arith in s)
+          let own = form_there (family_forms r) j (omega (arith, inside, many_forms r)) in
+          none_hidden_at asked r j own.0 (form_of (map blind side)) lines place window form inside ready there formed own.1 (ap (λ (s : List Instr). form_of (map blind s)) same)
+          (λ e. gap j (omega arith) (omega arith) (chain_at (family_forms r) j own.0 own.1 ∙ ap (λ f. Some (chain_of (family_forms r) f)) e)) o m here long (let s : o.entry ≡ length r.entries.now + j = omega arith in s)
           )
     ]
 
@@ -124,7 +127,7 @@ module _ (r : Rules) (side : List Instr) (ready : AreReady r) where
     -- where none is awaited any more, none meets this
     pub family_none : (asked : Bool) (at : Option ℕ) (start steps : ℕ) → IsFamilySearch asked r lines place (length window) side at start steps → at ≡ None → NoneOfFamilies asked r lines place (length window) (length r.families.now)
     family_none asked at start steps s e =
-        none_until asked s.k (length r.families.now) (omega arith) s.none (λ j h l g. nothing (forms_in r) kept hidden s.k (sym s.awaits ∙ e) j h g (is_kept r j ready l))
+        none_until asked s.k (length r.families.now) (omega arith) s.none (λ j h l g. nothing (chains_in r) kept hidden s.k (sym s.awaits ∙ e) j h g (is_kept r j ready l))
 
     -- what the tries cost with one family more
     pub family_counted : (asked : Bool) (n : ℕ) (at : Option ℕ) (start steps after : ℕ) → IsFamilySearch asked r lines place (length window) side at start steps → at ≡ Some n

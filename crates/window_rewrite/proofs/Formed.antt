@@ -192,9 +192,8 @@ fits_mask rule registers window live x s f h =
         ]
 
 -- what the canonical form tells
-pub is_form : (window : List Instr) (f : Form) (side : List Instr) (given : List (Option Low)) → f.side ≡ side → f.number < 65536 → f.number ≡ form_of side → IsRenamable window → IsCanonical window f.live.bits side given f.mask.items.bits → IsForm window f
-is_form window f side given own small is w c = record {
-  small = small;
+pub is_form : (window : List Instr) (f : Form) (side : List Instr) (given : List (Option Low)) → f.side ≡ side → f.number ≡ form_of side → IsRenamable window → IsCanonical window f.live.bits side given f.mask.items.bits → IsForm window f
+is_form window f side given own is w c = record {
   side = λ rule registers s left h. form_is_left rule registers window f.live.bits side given f.mask.items.bits s left h w c ∙ sym own;
   number = λ rule registers s left h. ap form_of (form_is_left rule registers window f.live.bits side given f.mask.items.bits s left h w c) ∙ sym is;
   mask = λ rule registers s left h x there.

@@ -18,7 +18,7 @@ use Rattle.table_audit.proofs.Instances.{entries_length, number_is, rule_at_befo
 use Rattle.window_rewrite.specs.declared.choice.Choice.{Choice}
 use Rattle.window_rewrite.specs.declared.finding.Rules.{Rules}
 use Rattle.window_rewrite.specs.Rewriting.{setting_by}
-use Rattle.window_rewrite.specs.Rules.{families_in, first_with, is_marked, left_forms, raised_rule, raised_rules, rules_in, AreFit}
+use Rattle.window_rewrite.specs.Rules.{chains_of, families_in, first_with, is_marked, left_forms, raised_rule, raised_rules, rules_in, AreFit}
 use Rattle.window_rewrite.specs.Choices.{choice_of, entries_setting, setting_of, table_in, of_length, AreReady, IsChoice, IsLowest, Meets, NoneOf}
 use Rattle.window_rewrite.specs.Forms.{form_of}
 use Rattle.window_rewrite.specs.Families.{IsLowestFamily, NoneOfFamilies}
@@ -157,5 +157,5 @@ pub entry_nexts_within : (r : Rules) (n : ℕ) → AreReady r → n < length r.e
 entry_nexts_within r n ready h = omega (arith, h, ready.index.entry_chains.as_many, length-map (map rewriting_rule (map rule_of r.entries.now)) (λ s. form_of s.left), length-map (map rule_of r.entries.now) rewriting_rule, length-map r.entries.now rule_of)
 
 pub entry_next : (r : Rules) (n : ℕ) (next : Option ℕ) → AreReady r → slice_get r.index.now.entries.nexts.items n ≡ Some next
-    → (form : ℕ) → slice_get (left_forms (rules_in r.entries.now)) n ≡ Some form → is_marked r.index.now.entries.kept.items n ≡ true → next ≡ first_with r.index.now.entries.kept.items form (n + 1) (drop (n + 1) (left_forms (rules_in r.entries.now)))
-entry_next r n next ready follows form at kept = ready.index.entry_chains.nexts n form next (omega arith) at kept follows
+    → (chain : ℕ) → slice_get (chains_of (left_forms (rules_in r.entries.now))) n ≡ Some chain → is_marked r.index.now.entries.kept.items n ≡ true → next ≡ first_with r.index.now.entries.kept.items chain (n + 1) (drop (n + 1) (chains_of (left_forms (rules_in r.entries.now))))
+entry_next r n next ready follows chain at kept = ready.index.entry_chains.nexts n chain next (omega arith) at kept follows

@@ -1,19 +1,16 @@
 -- Rules by the numbers of their left sides.
-use Rattle.std.proofs.Common.{◌≡◌, ℕ, zero, suc, ◌+◌, ◌-◌, ◌*◌, ◌<◌, ◌≤◌, ◌==◌, ◌&&◌, Bool, true, false, List, [], ◌∷◌, length, map, drop, replicate, Option, Some, None, refl, sym, ap, ◌∙◌, subst, arith, inl, inr, if◌then◌else◌, eq-eqb, eqb-true}
+use Rattle.std.proofs.Common.{◌≡◌, ℕ, zero, suc, ◌+◌, ◌-◌, ◌<◌, ◌≤◌, ◌==◌, ◌&&◌, Bool, true, false, List, [], ◌∷◌, length, drop, replicate, Option, Some, None, refl, sym, ap, ◌∙◌, subst, arith, inl, inr, if◌then◌else◌, eq-eqb, eqb-true}
 use Rattle.std.specs.Prelude.{slice_get, slice_set}
 use Rattle.std.specs.Option.{option_map}
 use Rattle.std.proofs.lemmas.Bool.{and_parts, cases_Bool, cases_lt}
-use Rattle.std.proofs.lemmas.List.{length-set}
-use Rattle.std.proofs.lemmas.Nat.{mod_below}
+use Rattle.std.proofs.lemmas.List.{length-map, length-set}
 use Rattle.std.proofs.lemmas.Option.{slice_get_within, slice_get-map}
 use Rattle.thumb_instr.specs.declared.instr.Instr.{Instr}
 use Rattle.thumb_instr.specs.Window.{Low}
 use Rattle.rule_model.specs.Rules.{Rule}
-use Rattle.thumb_model.proofs.Lists.{get_drop, length_drop}
-use Rattle.rule_table.specs.Table as tables
-use Rattle.window_rewrite.specs.Shapes.{blind}
-use Rattle.window_rewrite.specs.Rules.{is_marked, first_with, left_forms, raised_form, AreFirsts, AreNexts, AreChains, AreSmall}
-use Rattle.window_rewrite.specs.Forms.{form_from, form_of, letter_number, next_form}
+use Rattle.thumb_model.proofs.Lists.{get_drop, length_drop, present_at}
+use Rattle.window_rewrite.specs.Rules.{is_marked, chain_count, chain_of, chains_of, first_with, left_forms, AreFirsts, AreNexts, AreChains}
+use Rattle.window_rewrite.specs.Forms.{form_of}
 use Rattle.window_rewrite.specs.declared.chains.Chains.{Chains}
 use Rattle.window_rewrite.specs.Fitting.{Lightens}
 use Rattle.window_rewrite.specs.Choices.{Awaits}
@@ -142,22 +139,6 @@ all_marked zero k h = absurd (omega arith)
 all_marked (suc n) zero h = refl
 all_marked (suc n) (suc k) h = all_marked n k (omega arith)
 
-form_from_small : (form : ℕ) (is : List Instr) → form < 65536 → form_from form is < 65536
-form_from_small form [] h = h
-form_from_small form (i ∷ is) h = form_from_small (next_form form i) is (mod_below (form * 1283 + letter_number i) 65536 (omega arith))
-
-pub form_small : (is : List Instr) → form_of is < 65536
-form_small is = form_from_small 0 is (omega arith)
-
-pub raised_small : (o : Option tables.Rule) → raised_form o < 65536
-raised_small None = omega arith
-raised_small (Some e) = form_small (map blind e.left)
-
-pub small_map : {A : Type 0} (form : A → ℕ) → ((x : A) → form x < 65536) → (xs : List A) → AreSmall (map form xs)
-small_map form h [] k n e = absurd (cc)
-small_map form h (x ∷ xs) zero n e = subst (λ m. m < 65536) (number_head (form x) n e) (h x)
-small_map form h (x ∷ xs) (suc k) n e = small_map form h xs k n e
-
 -- ---- building the chains ----
 
 pub set_other : {A : Type 0} (xs : List A) (p q : ℕ) (y : A) → (p ≡ q → ⊥) → slice_get (slice_set xs p y) q ≡ slice_get xs q
@@ -215,26 +196,34 @@ nexts_more forms kept nexts more n own o within at e is h k form next l f here g
       )
 ]
 
+-- a rule's chain
+pub chain_at : (forms : List ℕ) (n form : ℕ) → slice_get forms n ≡ Some form → slice_get (chains_of forms) n ≡ Some (chain_of forms form)
+chain_at forms n form at = slice_get-map (chain_of forms) forms n ∙ ap (option_map (chain_of forms)) at
+
+-- there are as many
+pub as_many_chains : (forms : List ℕ) → length (chains_of forms) ≡ length forms
+as_many_chains forms = length-map forms (chain_of forms)
+
 -- chains of no rules
-pub empty_chains : (forms : List ℕ) (n : ℕ) (chains : Chains) → length forms ≤ n → length chains.kept.items ≡ length forms → length chains.firsts.items ≡ 65536
+pub empty_chains : (forms : List ℕ) (n : ℕ) (chains : Chains) → length forms ≤ n → length chains.kept.items ≡ length forms → length chains.firsts.items ≡ chain_count (length forms)
     → ((q : ℕ) (first : Option ℕ) → slice_get chains.firsts.items q ≡ Some first → first ≡ None) → length chains.nexts.items ≡ length forms → AreChains forms n chains
 empty_chains forms n chains h many_kept many_firsts none many = record {
   many_kept = many_kept;
   many_firsts = many_firsts;
-  firsts = λ form first at. none form first at ∙ sym (first_past forms chains.kept.items form n h);
+  firsts = λ chain first at. none chain first at ∙ sym (first_past (chains_of forms) chains.kept.items chain n (omega (arith, h, as_many_chains forms)));
   as_many = many;
-  nexts = λ k form next l at f. absurd (omega (arith, l, h, slice_get_within forms k form at));
+  nexts = λ k chain next l at f. absurd (omega (arith, l, h, as_many_chains forms, slice_get_within (chains_of forms) k chain at));
 }
 
 -- with one more in front that isn't kept
-pub same_chains : (forms : List ℕ) (n own : ℕ) (chains : Chains) → slice_get forms n ≡ Some own → is_marked chains.kept.items n ≡ false → AreChains forms (n + 1) chains → AreChains forms n chains
+pub same_chains : (forms : List ℕ) (n own : ℕ) (chains : Chains) → slice_get (chains_of forms) n ≡ Some own → is_marked chains.kept.items n ≡ false → AreChains forms (n + 1) chains → AreChains forms n chains
 same_chains forms n own chains at f x = record {
   many_kept = x.many_kept;
   many_firsts = x.many_firsts;
-  firsts = λ form first g. x.firsts form first g ∙ sym (first_same forms chains.kept.items form n own at f);
+  firsts = λ chain first g. x.firsts chain first g ∙ sym (first_same (chains_of forms) chains.kept.items chain n own at f);
   as_many = x.as_many;
-  nexts = λ k form next l here s g. elim (cases_lt n k) [
-    | inl m ↦ x.nexts k form next (omega arith) here s g
+  nexts = λ k chain next l here s g. elim (cases_lt n k) [
+    | inl m ↦ x.nexts k chain next (omega arith) here s g
     | inr m ↦ absurd (
         let same : k ≡ n = omega arith in
         let bad : true ≡ false = sym s ∙ ap (is_marked chains.kept.items) same ∙ f in
@@ -243,61 +232,52 @@ same_chains forms n own chains at f x = record {
 }
 
 -- with one more that is
-pub more_chains : (forms : List ℕ) (n own : ℕ) (old new : Chains) (o : Option ℕ) → slice_get forms n ≡ Some own → is_marked old.kept.items n ≡ true → AreChains forms (n + 1) old → own < 65536
+pub more_chains : (forms : List ℕ) (n own : ℕ) (old new : Chains) (o : Option ℕ) → slice_get (chains_of forms) n ≡ Some own → is_marked old.kept.items n ≡ true → AreChains forms (n + 1) old
     → slice_get old.firsts.items own ≡ Some o → new.kept.items ≡ old.kept.items → new.firsts.items ≡ slice_set old.firsts.items own (Some n) → new.nexts.items ≡ slice_set old.nexts.items n o
     → AreChains forms n new
-more_chains forms n own old new o at here x small was kept firsts nexts =
-    let within : n < length forms = slice_get_within forms n own at in
-    let room : own < length old.firsts.items = omega (arith, small, x.many_firsts) in
+more_chains forms n own old new o at here x was kept firsts nexts =
+    let within : n < length (chains_of forms) = slice_get_within (chains_of forms) n own at in
+    let room : own < length old.firsts.items = slice_get_within old.firsts.items own o was in
     record {
       many_kept = ap (λ (l : List Bool). length l) kept ∙ x.many_kept;
       many_firsts = ap (λ (l : List (Option ℕ)). length l) firsts ∙ length-set old.firsts.items own (Some n) ∙ x.many_firsts;
-      firsts = subst (λ (l : List Bool). AreFirsts forms l new.firsts.items n) (sym kept) (firsts_more forms old.kept.items n own old.firsts.items new.firsts.items at here room firsts x.firsts);
+      firsts = subst (λ (l : List Bool). AreFirsts (chains_of forms) l new.firsts.items n) (sym kept) (firsts_more (chains_of forms) old.kept.items n own old.firsts.items new.firsts.items at here room firsts x.firsts);
       as_many = ap (λ (l : List (Option ℕ)). length l) nexts ∙ length-set old.nexts.items n o ∙ x.as_many;
-      nexts = subst (λ (l : List Bool). AreNexts forms l new.nexts.items n) (sym kept) (nexts_more forms old.kept.items old.nexts.items new.nexts.items n own o (omega (arith, within, x.as_many)) at nexts (x.firsts own o was) x.nexts);
+      nexts = subst (λ (l : List Bool). AreNexts (chains_of forms) l new.nexts.items n) (sym kept) (nexts_more (chains_of forms) old.kept.items old.nexts.items new.nexts.items n own o (omega (arith, within, x.as_many, as_many_chains forms)) at nexts (x.firsts own o was) x.nexts);
     }
 
 -- ---- what is awaited ----
 
--- the left side that has a number, and the number that a left side has
-record HasSide (rules : List Rule) (n form : ℕ) : Type 0 where
-  rule : Rule
-  at : slice_get rules n ≡ Some rule
-  same : form_of rule.left ≡ form
-
-side_of : (rules : List Rule) (n form : ℕ) → slice_get (left_forms rules) n ≡ Some form → HasSide rules n form
-side_of [] n form e = absurd (cc)
-side_of (r ∷ rs) zero form e = record { rule = r; at = refl; same = number_head (form_of r.left) form e }
-side_of (r ∷ rs) (suc n) form e = let s = side_of rs n form e in record { rule = s.rule; at = s.at; same = s.same }
-
-pub left_form : (rules : List Rule) (n : ℕ) (rule : Rule) → slice_get rules n ≡ Some rule → slice_get (left_forms rules) n ≡ Some (form_of rule.left)
-left_form rules n rule at = slice_get-map (λ (r : Rule). form_of r.left) rules n ∙ ap (option_map (λ (r : Rule). form_of r.left)) at
+-- the chain of a rule's left side
+pub left_chain : (rules : List Rule) (n : ℕ) (rule : Rule) → slice_get rules n ≡ Some rule → slice_get (chains_of (left_forms rules)) n ≡ Some (chain_of (left_forms rules) (form_of rule.left))
+left_chain rules n rule at = chain_at (left_forms rules) n (form_of rule.left) (slice_get-map (λ (r : Rule). form_of r.left) rules n ∙ ap (option_map (λ (r : Rule). form_of r.left)) at)
 
 -- the next rule, and that none before it stands that is kept
 pub record IsNext (costs : Option (List ℕ)) (rules : List Rule) (kept : List Bool) (window : List Instr) (k n : ℕ) : Type 0 where
   pub from : k ≤ n
   pub rule : Rule
   pub at : slice_get rules n ≡ Some rule
-  pub form : ℕ
-  pub has : slice_get (left_forms rules) n ≡ Some form
+  pub chain : ℕ
+  pub is_in : slice_get (chains_of (left_forms rules)) n ≡ Some chain
   pub is_kept : is_marked kept n ≡ true
   pub none : (j : ℕ) (other : Rule) (registers : List Low) → k ≤ j → j < n → slice_get rules j ≡ Some other → is_marked kept j ≡ true → Lightens costs other registers window → ⊥
-  pub more : (next : Option ℕ) → next ≡ first_with kept form (n + 1) (drop (n + 1) (left_forms rules)) → Awaits costs rules kept window (n + 1) next
+  pub more : (next : Option ℕ) → next ≡ first_with kept chain (n + 1) (drop (n + 1) (chains_of (left_forms rules))) → Awaits costs rules kept window (n + 1) next
 
 pub awaited : (costs : Option (List ℕ)) (rules : List Rule) (kept : List Bool) (window : List Instr) (k n : ℕ) (o : Option ℕ) → Awaits costs rules kept window k o → o ≡ Some n → IsNext costs rules kept window k n
 awaited costs rules kept window k n o a e =
-    let f = found (left_forms rules) kept a.form k n (sym a.is ∙ e) in
-    let s = side_of rules n a.form f.at in
+    let f = found (chains_of (left_forms rules)) kept a.chain k n (sym a.is ∙ e) in
+    let within = slice_get_within (chains_of (left_forms rules)) n a.chain f.at in
+    let s = present_at rules n (omega (arith, within, as_many_chains (left_forms rules), length-map rules (λ (r : Rule). form_of r.left))) in
     record {
       from = f.from;
-      rule = s.rule;
-      at = s.at;
-      form = a.form;
-      has = f.at;
+      rule = s.0;
+      at = s.1;
+      chain = a.chain;
+      is_in = f.at;
       is_kept = f.is_kept;
-      none = λ j other registers l h g c s. f.none j l h (left_form rules j other g ∙ ap Some (a.have j other registers g s)) c;
-      more = λ next is. record { form = a.form; have = a.have; is = is };
+      none = λ j other registers l h g c s. f.none j l h (left_chain rules j other g ∙ ap Some (a.are_in j other registers g s)) c;
+      more = λ next is. record { chain = a.chain; are_in = a.are_in; is = is };
     }
 
 pub none_awaited : (costs : Option (List ℕ)) (rules : List Rule) (kept : List Bool) (window : List Instr) (k : ℕ) (o : Option ℕ) → Awaits costs rules kept window k o → o ≡ None → (j : ℕ) (other : Rule) (registers : List Low) → k ≤ j → slice_get rules j ≡ Some other → is_marked kept j ≡ true → Lightens costs other registers window → ⊥
-none_awaited costs rules kept window k o a e j other registers h g c s = nothing (left_forms rules) kept a.form k (sym a.is ∙ e) j h (left_form rules j other g ∙ ap Some (a.have j other registers g s)) c
+none_awaited costs rules kept window k o a e j other registers h g c s = nothing (chains_of (left_forms rules)) kept a.chain k (sym a.is ∙ e) j h (left_chain rules j other g ∙ ap Some (a.are_in j other registers g s)) c

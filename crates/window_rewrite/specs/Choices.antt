@@ -14,7 +14,7 @@ use Rattle.window_rewrite.specs.declared.finding.Rules.{Rules}
 use Rattle.window_rewrite.specs.Rewriting.{setting_by, replacement_of, IsWhole}
 use Rattle.rule_table.specs.Views.{family_of, rule_of}
 use Rattle.table_audit.specs.Soundness.{numbers_in}
-use Rattle.window_rewrite.specs.Rules.{rules_in, left_forms, raised_rules, first_with, with_open, AreFit, AreRaised, IsIndex}
+use Rattle.window_rewrite.specs.Rules.{rules_in, chain_of, chains_of, left_forms, raised_rules, first_with, with_open, AreFit, AreRaised, IsIndex}
 use Rattle.window_rewrite.specs.Forms.{form_of}
 use Rattle.window_rewrite.specs.Fitting.{Lightens}
 use Rattle.window_rewrite.specs.Settled.{MayGiveWay}
@@ -44,15 +44,15 @@ pub record AreReady (r : Rules) : Type 0 where
   pub raised : AreRaised (map rule_of r.entries.now) (map family_of r.families.now)
   pub index : IsIndex r.costs.now (map rule_of r.entries.now) (map family_of r.families.now) r.index.now
 
--- each left side that may give way in the window has this number
-abbrev pub HaveForm : Option (List ℕ) → List Rule → List Instr → ℕ → Type 0
-HaveForm costs rules window form = (k : ℕ) (rule : Rule) (registers : List Low) → slice_get rules k ≡ Some rule → Lightens costs rule registers window → form_of rule.left ≡ form
+-- each left side that may give way in the window is in this chain
+abbrev pub AreInChain : Option (List ℕ) → List Rule → List Instr → ℕ → Type 0
+AreInChain costs rules window chain = (k : ℕ) (rule : Rule) (registers : List Low) → slice_get rules k ≡ Some rule → Lightens costs rule registers window → chain_of (left_forms rules) (form_of rule.left) ≡ chain
 
 -- of the rules from the k-th on, the next one that is kept and whose left side may stand in the window is this
 pub record Awaits (costs : Option (List ℕ)) (rules : List Rule) (kept : List Bool) (window : List Instr) (k : ℕ) (next : Option ℕ) : Type 0 where
-  pub form : ℕ
-  pub have : HaveForm costs rules window form
-  pub is : next ≡ first_with kept form k (drop k (left_forms rules))
+  pub chain : ℕ
+  pub are_in : AreInChain costs rules window chain
+  pub is : next ≡ first_with kept chain k (drop k (chains_of (left_forms rules)))
 
 -- ---- with and without a look at the lines that are left ----
 

@@ -12,7 +12,7 @@ use Rattle.window_rewrite.specs.declared.choice.Choice.{Choice}
 use Rattle.window_rewrite.specs.declared.families.Instance.{Instance}
 use Rattle.window_rewrite.specs.declared.finding.Rules.{Rules}
 use Rattle.window_rewrite.specs.Forms.{form_of}
-use Rattle.window_rewrite.specs.Rules.{first_with, raised_forms}
+use Rattle.window_rewrite.specs.Rules.{chain_of, chains_of, first_with, raised_forms}
 use Rattle.window_rewrite.specs.Shapes.{blind}
 use Rattle.window_rewrite.specs.Choices.{choice_of, setting_of, IsChoice, Meets}
 
@@ -35,9 +35,13 @@ pub record IsOnlyInstance (f : Family) (e : Rule) (side : List Instr) (i : Insta
   pub is : IsInstance f e value i
   pub only : (x : Byte) → instance f.number e.left x ≡ side → x ≡ value
 
--- of the families from the k-th on, the next one whose left side has the number of this side, both with 0 for 8-bit numbers, is this
+-- the numbers of its families
+abbrev pub family_forms : Rules → List ℕ
+family_forms r = raised_forms (map rule_of r.entries.now) (map family_of r.families.now)
+
+-- of the families from the k-th on, the next one whose left side is in the chain of this side, both with 0 for 8-bit numbers, is this
 abbrev pub AwaitsFamily : Rules → List Instr → ℕ → Option ℕ → Type 0
-AwaitsFamily r side k next = next ≡ first_with r.index.now.families.kept.items (form_of (map blind side)) k (drop k (raised_forms (map rule_of r.entries.now) (map family_of r.families.now)))
+AwaitsFamily r side k next = next ≡ first_with r.index.now.families.kept.items (chain_of (family_forms r) (form_of (map blind side))) k (drop k (chains_of (family_forms r)))
 
 -- ---- choices ----
 

@@ -81,7 +81,6 @@ pub record FitsWhole (rule : Rule) (registers : List Low) (window : List Instr) 
 
 -- what is told of a window is true of each rule that may stand in it
 pub record IsForm (window : List Instr) (f : Form) : Type 0 where
-  pub small : f.number < 65536
   pub side : (rule : Rule) (registers : List Low) → IsSoundRule rule → IsCanonicalSide rule.left → Stands rule registers window → rule.left ≡ f.side
   pub number : (rule : Rule) (registers : List Low) → IsSoundRule rule → IsCanonicalSide rule.left → Stands rule registers window → form_of rule.left ≡ f.number
   pub mask : (rule : Rule) (registers : List Low) → IsSoundRule rule → IsCanonicalSide rule.left → Fits rule registers window f.live.bits → (x : ℕ) → has f.mask.items.bits x ≡ true → one_of x rule.mask ≡ true

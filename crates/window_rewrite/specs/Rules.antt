@@ -1,5 +1,5 @@
 -- The rules of a table, and how they are found by their left sides.
-use Rattle.std.specs.Prelude.{◌≡◌, ℕ, suc, ◌+◌, ◌==◌, ◌<◌, ◌≤◌, ◌&&◌, Bool, true, false, List, [], ◌∷◌, length, map, replicate, take, drop, nat_lt, Option, Some, None, slice_get, if◌then◌else◌}
+use Rattle.std.specs.Prelude.{◌≡◌, ℕ, suc, ◌+◌, ◌*◌, ◌%◌, ◌==◌, ◌<◌, ◌≤◌, ◌&&◌, Bool, true, false, List, [], ◌∷◌, length, map, replicate, take, drop, nat_lt, Option, Some, None, slice_get, if◌then◌else◌}
 use Rattle.std.specs.List.{list_any}
 use Rattle.thumb_instr.specs.declared.instr.Instr.{Instr}
 use Rattle.rule_model.specs.Rules.{Rule, alone, rule_at, IsSoundRule}
@@ -163,28 +163,36 @@ pub record AreKept (costs : Option (List ℕ)) (rules : List Rule) (n : ℕ) (k 
 abbrev pub left_forms : List Rule → List ℕ
 left_forms rules = map (λ r. form_of r.left) rules
 
-abbrev pub AreSmall : List ℕ → Type 0
-AreSmall forms = (k form : ℕ) → slice_get forms k ≡ Some form → form < 65536
+-- how many chains there are of so many rules
+abbrev pub chain_count : ℕ → ℕ
+chain_count rules = 4 * rules + 1
 
--- the first rule that is kept and has this number, where they are counted from n on
+-- the chain in which a rule is that has this number, where the rules have these, and the chains of them all
+abbrev pub chain_of : List ℕ → ℕ → ℕ
+chain_of forms form = form % chain_count (length forms)
+
+abbrev pub chains_of : List ℕ → List ℕ
+chains_of forms = map (chain_of forms) forms
+
+-- the first rule that is kept and is in this chain, where they are counted from n on
 abbrev pub first_with : List Bool → ℕ → ℕ → List ℕ → Option ℕ
-first_with kept form n [] = None
-first_with kept form n (f ∷ fs) = if is_marked kept n && f == form then Some n else first_with kept form (n + 1) fs
+first_with kept chain n [] = None
+first_with kept chain n (c ∷ cs) = if is_marked kept n && c == chain then Some n else first_with kept chain (n + 1) cs
 
--- of each number the first rule that is kept from the n-th on, and of each of these rules the next one
+-- of each chain the first rule that is kept from the n-th on, and of each of these rules the next one
 abbrev pub AreFirsts : List ℕ → List Bool → List (Option ℕ) → ℕ → Type 0
-AreFirsts forms kept firsts n = (form : ℕ) (first : Option ℕ) → slice_get firsts form ≡ Some first → first ≡ first_with kept form n (drop n forms)
+AreFirsts chains kept firsts n = (chain : ℕ) (first : Option ℕ) → slice_get firsts chain ≡ Some first → first ≡ first_with kept chain n (drop n chains)
 
 abbrev pub AreNexts : List ℕ → List Bool → List (Option ℕ) → ℕ → Type 0
-AreNexts forms kept nexts n = (k form : ℕ) (next : Option ℕ) → n ≤ k → slice_get forms k ≡ Some form → is_marked kept k ≡ true → slice_get nexts k ≡ Some next → next ≡ first_with kept form (k + 1) (drop (k + 1) forms)
+AreNexts chains kept nexts n = (k chain : ℕ) (next : Option ℕ) → n ≤ k → slice_get chains k ≡ Some chain → is_marked kept k ≡ true → slice_get nexts k ≡ Some next → next ≡ first_with kept chain (k + 1) (drop (k + 1) chains)
 
 -- the chains of the rules from the n-th on, which have these numbers
 pub record AreChains (forms : List ℕ) (n : ℕ) (chains : Chains) : Type 0 where
   pub many_kept : length chains.kept.items ≡ length forms
-  pub many_firsts : length chains.firsts.items ≡ 65536
-  pub firsts : AreFirsts forms chains.kept.items chains.firsts.items n
+  pub many_firsts : length chains.firsts.items ≡ chain_count (length forms)
+  pub firsts : AreFirsts (chains_of forms) chains.kept.items chains.firsts.items n
   pub as_many : length chains.nexts.items ≡ length forms
-  pub nexts : AreNexts forms chains.kept.items chains.nexts.items n
+  pub nexts : AreNexts (chains_of forms) chains.kept.items chains.nexts.items n
 
 pub record IsIndex (costs : Option (List ℕ)) (entries : List tables.Rule) (families : List tables.Family) (index : Index) : Type 0 where
   pub marks : AreNoted costs left_side (alone (map rewriting_rule entries)) (length entries) index.marks

@@ -163,8 +163,7 @@ fn try_family<L: Ledger>(
 
 /// The number of a window's canonical form, of which this is told, with 0 for 8-bit numbers.
 fn hidden_of(form: &Form) -> usize
-    ensures value { result ≡ form_of (map blind form.now.side) }
-    ensures small { result < 65536 }
+    ensures { result ≡ form_of (map blind form.now.side) }
 {
     form_of(blind_all(form.side.as_slice()).as_slice())
 }

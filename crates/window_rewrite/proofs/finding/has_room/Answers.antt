@@ -1,4 +1,4 @@
-use Rattle.std.proofs.Common.{◌≡◌, ◌∙◌, ℕ, List, ◌+◌, ◌≤◌, ◌⊎◌, max, true, false, Some, leb-true, le-leb, ap, arith, drop, length, refl, sym, subst}
+use Rattle.std.proofs.Common.{◌≡◌, ◌∙◌, ℕ, List, ◌+◌, ◌≤◌, ◌⊎◌, true, false, Some, leb-true, le-leb, ap, arith, drop, length, refl, sym, subst}
 use Rattle.std.specs.Prelude.{slice_get}
 use Rattle.thumb_instr.specs.declared.instr.Instr.{Instr}
 use Rattle.thumb_model.specs.Listing.{Label, is_op_place, labels_from, places_of}

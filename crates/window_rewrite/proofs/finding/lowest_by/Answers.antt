@@ -38,7 +38,7 @@ next-at-requires g c =
 pub loop-at-smaller : goal.loop-at-smaller
 loop-at-smaller g c =
     let i = awaited c.args.look.now.rules.now.costs.now (rules_in c.args.look.now.rules.now.entries.now) c.args.look.now.rules.now.index.now.entries.kept.items c.args.window.now c.loop-at.invariant.search.k c.in-Some.number c.loop-at.at c.loop-at.invariant.search.awaits c.in-Some.is in
-    search_smaller _ c.args.look.now.rules.now.costs.now c.args.look.now.rules.now.base (rules_in c.args.look.now.rules.now.entries.now) c.args.look.now.rules.now.index.now.entries.kept.items (lines_seen c.args.look.now) (number_seen c.args.look.now) c.args.window.now c.in-Some.number c.loop-at.at c.next-at.result _ _ c.loop-at.invariant.search c.in-Some.is (c.in-Some.number + 1) (omega arith) (i.more c.next-at.result (entry_next c.args.look.now.rules.now c.in-Some.number c.next-at.result c.requires.look.ready c.next-at.ensures i.form i.has i.is_kept))
+    search_smaller _ c.args.look.now.rules.now.costs.now c.args.look.now.rules.now.base (rules_in c.args.look.now.rules.now.entries.now) c.args.look.now.rules.now.index.now.entries.kept.items (lines_seen c.args.look.now) (number_seen c.args.look.now) c.args.window.now c.in-Some.number c.loop-at.at c.next-at.result _ _ c.loop-at.invariant.search c.in-Some.is (c.in-Some.number + 1) (omega arith) (i.more c.next-at.result (entry_next c.args.look.now.rules.now c.in-Some.number c.next-at.result c.requires.look.ready c.next-at.ensures i.chain i.is_in i.is_kept))
 
 pub loop-at-preserved : goal.loop-at-preserved
 loop-at-preserved g c =

@@ -1,4 +1,4 @@
-use Rattle.std.proofs.Common.{◌≡◌, ◌∙◌, ℕ, List, Option, Some, None, true, arith, sym, subst, true≢false}
+use Rattle.std.proofs.Common.{◌≡◌, ◌∙◌, ℕ, List, Option, Some, None, true, sym, subst, true≢false}
 use Rattle.std.specs.Prelude.{MatchOption}
 use Rattle.thumb_instr.specs.Items.{has}
 use Rattle.thumb_instr.specs.Window.{Low}

@@ -1,19 +1,14 @@
 use Rattle.std.proofs.Common.{◌∙◌, ℕ, List, length, ap, subst, sym}
 use Rattle.std.proofs.lemmas.List.{length-map}
-use Rattle.rule_model.specs.Rules.{Rule}
 use Rattle.std.proofs.lemmas.Result.{IfOk-weaker}
 use Rattle.window_rewrite.specs.Forms.{form_of}
-use Rattle.window_rewrite.specs.Rules.{rules_in, AreChains, AreLed, AreSmall}
+use Rattle.window_rewrite.specs.Rules.{rules_in, AreChains, AreLed}
 use Rattle.window_rewrite.proofs.Accepted.{rules_length}
-use Rattle.window_rewrite.proofs.Keys.{form_small, small_map}
 use Rattle.window_rewrite.proofs.index.entry_chains.Goals as goal
 
-pub of-requires-clause-many : goal.of-requires-clause-many
-of-requires-clause-many c =
+pub of-requires : goal.of-requires
+of-requires c =
     c.in_ok-kept.ensures.many ∙ sym (ap (λ (forms : List ℕ). length forms) (c.deref.ensures.value ∙ c.in_ok-forms.ensures) ∙ length-map (rules_in c.args.entries.now) (λ r. form_of r.left) ∙ rules_length c.args.entries.now)
-
-pub of-requires-clause-small : goal.of-requires-clause-small
-of-requires-clause-small c = subst AreSmall (sym (c.deref.ensures.value ∙ c.in_ok-forms.ensures)) (small_map (λ (r : Rule). form_of r.left) (λ r. form_small r.left) (rules_in c.args.entries.now))
 
 pub returns-clause-chains : goal.returns-clause-chains
 returns-clause-chains c = IfOk-weaker c.of.result _ _ (λ chains h. subst (λ (forms : List ℕ). AreChains forms 0 chains) (c.deref.ensures.value ∙ c.in_ok-forms.ensures) h) c.of.ensures.chains

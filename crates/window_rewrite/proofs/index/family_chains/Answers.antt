@@ -2,20 +2,14 @@ use Rattle.std.proofs.Common.{◌∙◌, ℕ, List, length, map, ap, subst, sym}
 use Rattle.std.proofs.lemmas.List.{length-map}
 use Rattle.std.proofs.lemmas.Result.{IfOk-weaker}
 use Rattle.rule_table.specs.Views.{family_of, rule_of}
-use Rattle.table_audit.specs.Families.{entry_at}
-use Rattle.window_rewrite.specs.Rules.{raised_form, AreChains, AreSmall}
-use Rattle.window_rewrite.proofs.Keys.{raised_small, small_map}
+use Rattle.window_rewrite.specs.Rules.{AreChains}
 use Rattle.window_rewrite.proofs.Raised.{forms_many}
 use Rattle.window_rewrite.proofs.index.family_chains.Goals as goal
 
-pub of-requires-clause-many : goal.of-requires-clause-many
-of-requires-clause-many c =
+pub of-requires : goal.of-requires
+of-requires c =
     sym c.in_ok-kept.kept.ok.0 ∙ c.in_ok-kept.ensures.len
     ∙ sym (ap (λ (forms : List ℕ). length forms) (c.deref.ensures.value ∙ c.in_ok-forms.ensures) ∙ forms_many (map rule_of c.args.entries.now) (map family_of c.args.families.now) ∙ length-map c.args.families.now family_of)
-
-pub of-requires-clause-small : goal.of-requires-clause-small
-of-requires-clause-small c =
-    subst AreSmall (sym (c.deref.ensures.value ∙ c.in_ok-forms.ensures)) (small_map (λ f. raised_form (entry_at (map rule_of c.args.entries.now) f.entry)) (λ f. raised_small (entry_at (map rule_of c.args.entries.now) f.entry)) (map family_of c.args.families.now))
 
 pub returns-clause-chains : goal.returns-clause-chains
 returns-clause-chains c = IfOk-weaker c.of.result _ _ (λ chains h. subst (λ (forms : List ℕ). AreChains forms 0 chains) (c.deref.ensures.value ∙ c.in_ok-forms.ensures) h) c.of.ensures.chains

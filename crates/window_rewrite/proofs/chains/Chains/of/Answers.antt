@@ -1,9 +1,9 @@
-use Rattle.std.proofs.Common.{◌≡◌, ◌∙◌, ◌+◌, ◌-◌, ℕ, Bool, false, List, Option, Some, length, ap, arith, refl, sym, subst}
+use Rattle.std.proofs.Common.{◌≡◌, ◌∙◌, ◌+◌, ◌-◌, ℕ, false, List, Option, Some, length, ap, arith, refl, sym, subst}
 use Rattle.std.specs.Prelude.{slice_get}
 use Rattle.std.proofs.lemmas.Option.{slice_get_read}
 use Rattle.window_rewrite.specs.declared.chains.Chains.{Chains}
-use Rattle.window_rewrite.specs.Rules.{is_marked, is_true, AreChains}
-use Rattle.window_rewrite.proofs.Keys.{empty_chains, form_there, none_alone, none_of, same_chains}
+use Rattle.window_rewrite.specs.Rules.{chain_count, chains_of, is_marked, is_true, AreChains}
+use Rattle.window_rewrite.proofs.Keys.{as_many_chains, empty_chains, form_there, none_alone, none_of, same_chains}
 use Rattle.window_rewrite.proofs.chains.Chains.of.Goals as goal
 
 pub loop-number-init : goal.loop-number-init
@@ -13,8 +13,8 @@ loop-number-init c = record {
   chains =
       let chains : Chains = record { kept = c.args.kept; firsts = c.in_ok-vec.field-0; nexts = c.in_ok-vec-2.field-0 } in
       empty_chains c.args.forms.now (length c.args.forms.now) chains (omega arith)
-      c.requires.many
-      (sym c.in_ok-vec.field-0.ok.0 ∙ c.in_ok-vec.ensures.len) (λ q first at. none_of 65536 q first (subst (λ (l : List (Option ℕ)). slice_get l q ≡ Some first) (c.in_ok-vec.ensures.items_if_clones_equal (none_alone _ (λ x e. absurd e))) at)) (sym c.in_ok-vec-2.field-0.ok.0 ∙ c.in_ok-vec-2.ensures.len);
+      c.requires
+      (sym c.in_ok-vec.field-0.ok.0 ∙ c.in_ok-vec.ensures.len) (λ q first at. none_of (chain_count (length c.args.forms.now)) q first (subst (λ (l : List (Option ℕ)). slice_get l q ≡ Some first) (c.in_ok-vec.ensures.items_if_clones_equal (none_alone _ (λ x e. absurd e))) at)) (sym c.in_ok-vec-2.field-0.ok.0 ∙ c.in_ok-vec-2.ensures.len);
 }
 
 pub add-requires-clause-chains : goal.add-requires-clause-chains
@@ -32,7 +32,7 @@ loop-number-preserved c =
     let x = c.loop-number.invariant.chains in
     let many = x.many_kept in
     let number : c.loop-number.number ≡ n + 1 = omega arith in
-    let there = form_there forms n (omega arith) in
+    let there = form_there (chains_of forms) n (omega (arith, as_many_chains forms)) in
     let kept : is_marked c.loop-number.chains.kept.items n ≡ false = ap is_true (slice_get_read c.loop-number.chains.kept.items _ _ c.index.result.now refl (omega arith) c.index.ensures) ∙ c.if-index.false in
     record {
       within = omega arith;

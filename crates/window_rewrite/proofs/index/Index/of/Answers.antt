@@ -1,4 +1,4 @@
-use Rattle.std.proofs.Common.{◌∙◌, Bool, List, map, ap, replicate, subst, sym, true}
+use Rattle.std.proofs.Common.{◌∙◌, map, ap, replicate, subst, sym, true}
 use Rattle.std.proofs.lemmas.List.{length-map}
 use Rattle.rule_model.specs.Rules.{alone}
 use Rattle.rule_table.specs.Views.{family_of, rule_of}
