@@ -16,7 +16,9 @@ use Rattle.edited_listing.specs.declared.looks.Run.{Run}
 use Rattle.kept_live.specs.KeptLive.{IsKeptLive}
 use Rattle.window_rewrite.specs.declared.finding.Rules.{Rules}
 use Rattle.window_rewrite.specs.declared.finding.Look.{Look}
+use Rattle.window_rewrite.specs.declared.finding.Sight.{Sight}
 use Rattle.window_rewrite.specs.Choices.{AreReady}
+use Rattle.window_rewrite.specs.Fitting.{IsForm, StandsThere}
 use Rattle.window_rewrite.specs.declared.scene.Scene.{Scene}
 use Rattle.window_rewrite.specs.declared.scene.Site.{Site}
 use Rattle.window_rewrite.specs.Settled.{IsSettled}
@@ -71,6 +73,13 @@ pub record IsLook (l : Look) : Type 0 where
   pub over : IsOver l.rules.now l.scene.now
   pub site : IsSite l.rules.now.longest l.scene.now l.site.now
   pub near : IsNear l.scene.now l.site.now
+
+-- the window stands at the site, is no longer than its run, and what is told of it is true
+pub record IsSight (t : Sight) : Type 0 where
+  pub look : IsLook t.look.now
+  pub stands : StandsThere (lines_seen t.look.now) (number_seen t.look.now) t.window.now t.form.now.live.bits
+  pub within : length t.window.now ≤ length t.look.now.site.now.run.letters
+  pub form : IsForm t.window.now t.form.now
 
 -- the lines that are left where a window there gives way
 abbrev pub lines_left : Look → List Instr → List Instr → List Line

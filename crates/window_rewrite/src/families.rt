@@ -6,17 +6,16 @@ ghost use Rattle.bit_blast.specs.Slots.{instance, Byte, IsValue};
 ghost use Rattle.rule_table.specs.Views.{family_of, rule_of};
 ghost use Rattle.table_audit.specs.Families.{entry_at, is_hole, symbol_of};
 ghost use Rattle.step_ledger.specs.Counts.{RisesByAtLeast};
-ghost use Rattle.window_rewrite.specs.Fitting.{IsForm, StandsThere};
 ghost use Rattle.window_rewrite.specs.Families.{AwaitsFamily, IsByteOf, IsInstance, IsOnlyInstance, IsFamilyChoice, IsLowestFamily, NoneOfFamily, NoneOfFamilies};
 ghost use Rattle.window_rewrite.specs.Forms.{form_of};
 ghost use Rattle.window_rewrite.specs.Rules.{side_length, IsRaised};
 ghost use Rattle.window_rewrite.specs.Shapes.{blind};
 ghost use Rattle.window_rewrite.specs.Choices.{families_sides, of_length, AreReady};
-ghost use Rattle.window_rewrite.specs.Scenes.{lines_seen, number_seen, IsLook};
+ghost use Rattle.window_rewrite.specs.Scenes.{lines_seen, number_seen, IsSight};
 ghost use Rattle.window_rewrite.specs.Layouts.{Moves};
 
 use crate::choice::Choice;
-use crate::finding::{Look, Rules, try_rule};
+use crate::finding::{Rules, Sight, try_rule};
 use crate::forms::{Form, form_of};
 use crate::shapes::blind_all;
 use listing_parser::Memory;
@@ -117,43 +116,36 @@ fn entry_raised<'a>(entries: &'a [Entry], family: &Family) -> &'a Entry
     &entries[family.entry as usize - 1]
 }
 
-/// What the family of a number makes of a window at the place, of which this is told, where its entry's left side is as long. `refused` comes to be true
-/// where an instance fits and what it leaves is refused.
+/// What the family of a number makes of a window, where its entry's left side is as long. `refused` comes to be true where an instance fits and what it leaves is
+/// refused.
 fn try_family<L: Ledger>(
     alloc: Global,
-    look: &Look<'_>,
-    window: &[Instr],
-    form: &Form,
+    sight: &Sight<'_>,
     number: usize,
     refused: &mut bool,
     steps: &mut Steps<L>,
 ) -> Result<Option<Choice>, Memory>
-    requires look { IsLook look.now }
-    requires stands { StandsThere (lines_seen look.now) (number_seen look.now) window.now form.now.live.bits }
-    requires within { length window.now ≤ length look.now.site.now.run.letters }
-    requires form { IsForm window.now form.now }
-    requires number { number < length look.now.rules.now.families.now }
-    ensures some { IfOk result (λ o. IfSome o (IsFamilyChoice look.now.rules.now (lines_seen look.now) (number_seen look.now) (length window.now) number)) }
-    ensures moved { IfOk result (λ o. IfSome o (λ c. Moves look.now.scene.now.layout c.window c.new c.moved)) }
-    ensures none { IfOk result (λ o. IfNone o (NoneOfFamily refused.new look.now.rules.now (lines_seen look.now) (number_seen look.now) (length window.now) number)) }
+    requires sight { IsSight sight.now }
+    requires number { number < length sight.now.look.now.rules.now.families.now }
+    ensures some { IfOk result (λ o. IfSome o (IsFamilyChoice sight.now.look.now.rules.now (lines_seen sight.now.look.now) (number_seen sight.now.look.now) (length sight.now.window.now) number)) }
+    ensures moved { IfOk result (λ o. IfSome o (λ c. Moves sight.now.look.now.scene.now.layout c.window c.new c.moved)) }
+    ensures none { IfOk result (λ o. IfNone o (NoneOfFamily refused.new sight.now.look.now.rules.now (lines_seen sight.now.look.now) (number_seen sight.now.look.now) (length sight.now.window.now) number)) }
     ensures stays { OnOk result (refused.old ≡ true → refused.new ≡ true) }
-    ensures cost { steps.new ≤ steps.old + from_bool (side_length (families_sides look.now.rules.now) number == length window.now) }
+    ensures cost { steps.new ≤ steps.old + from_bool (side_length (families_sides sight.now.look.now.rules.now) number == length sight.now.window.now) }
     ensures rises { IfOk result (λ o. RisesByAtLeast steps.old steps.new (from_bool (is_some o))) }
 {
-    let family = &look.rules.families[number];
-    let entry = entry_raised(look.rules.entries, family);
-    if entry.left.len() != window.len() {
+    let family = &sight.look.rules.families[number];
+    let entry = entry_raised(sight.look.rules.entries, family);
+    if entry.left.len() != sight.window.len() {
         return Ok(None);
     }
-    match instance_at(alloc, family, entry, form.side.as_slice()) {
+    match instance_at(alloc, family, entry, sight.form.side.as_slice()) {
         None => Ok(None),
         Some(instance) => try_rule(
             alloc,
-            look,
-            window,
-            form,
+            sight,
             &instance.rule,
-            (look.rules.entries.len() + number) as u64 + 1,
+            (sight.look.rules.entries.len() + number) as u64 + 1,
             instance.number,
             refused,
             steps,
@@ -176,35 +168,31 @@ fn first_number(rules: &Rules<'_>, form: &Form) -> Option<usize>
     rules.index.families.first(hidden_of(form))
 }
 
-/// The lowest family that applies to a window at the place, of which this is told.
+/// The lowest family that applies to a window.
 pub(crate) fn lowest_family<L: Ledger>(
     alloc: Global,
-    look: &Look<'_>,
-    window: &[Instr],
-    form: &Form,
+    sight: &Sight<'_>,
     refused: &mut bool,
     steps: &mut Steps<L>,
 ) -> Result<Option<Choice>, Memory>
-    requires look { IsLook look.now }
-    requires stands { StandsThere (lines_seen look.now) (number_seen look.now) window.now form.now.live.bits }
-    requires within { length window.now ≤ length look.now.site.now.run.letters }
-    requires form { IsForm window.now form.now }
-    ensures some { IfOk result (λ o. IfSome o (IsLowestFamily look.now.rules.now (lines_seen look.now) (number_seen look.now) (length window.now))) }
-    ensures moved { IfOk result (λ o. IfSome o (λ c. Moves look.now.scene.now.layout c.window c.new c.moved)) }
-    ensures none { IfOk result (λ o. IfNone o (NoneOfFamilies refused.new look.now.rules.now (lines_seen look.now) (number_seen look.now) (length window.now) (length look.now.rules.now.families.now))) }
+    requires { IsSight sight.now }
+    ensures some { IfOk result (λ o. IfSome o (IsLowestFamily sight.now.look.now.rules.now (lines_seen sight.now.look.now) (number_seen sight.now.look.now) (length sight.now.window.now))) }
+    ensures moved { IfOk result (λ o. IfSome o (λ c. Moves sight.now.look.now.scene.now.layout c.window c.new c.moved)) }
+    ensures none { IfOk result (λ o. IfNone o (NoneOfFamilies refused.new sight.now.look.now.rules.now (lines_seen sight.now.look.now) (number_seen sight.now.look.now) (length sight.now.window.now) (length sight.now.look.now.rules.now.families.now))) }
     ensures stays { OnOk result (refused.old ≡ true → refused.new ≡ true) }
-    ensures cost { steps.new ≤ steps.old + of_length (length window.now) (families_sides look.now.rules.now) }
+    ensures cost { steps.new ≤ steps.old + of_length (length sight.now.window.now) (families_sides sight.now.look.now.rules.now) }
     ensures rises { IfOk result (λ o. RisesByAtLeast steps.old steps.new (from_bool (is_some o))) }
 {
-    if look.rules.families.is_empty() {
+    let rules = sight.look.rules;
+    if rules.families.is_empty() {
         return Ok(None);
     }
-    let mut at = first_number(look.rules, form);
+    let mut at = first_number(rules, sight.form);
     while let Some(number) = at {
-        if let Some(choice) = try_family(alloc, look, window, form, number, refused, steps)? {
+        if let Some(choice) = try_family(alloc, sight, number, refused, steps)? {
             return Ok(Some(choice));
         }
-        at = look.rules.index.families.next(number);
+        at = rules.index.families.next(number);
     }
     Ok(None)
 }

@@ -9,7 +9,7 @@ ghost use Rattle.step_ledger.specs.Counts.{RisesByAtLeast};
 ghost use Rattle.window_rewrite.specs.Fitting.{IsForm, NoneReaches, StandsThere};
 ghost use Rattle.window_rewrite.specs.Rules.{entry_rule, rules_in, side_length, IsFit};
 ghost use Rattle.window_rewrite.specs.Choices.{entries_setting, setting_of, sides_of, table_in, choice_of, of_length, AreReady, Awaits, IsBest, IsChoice, IsChoiceBy, IsLowest, Meets, NoneAt, NoneBy, NoneOf};
-ghost use Rattle.window_rewrite.specs.Scenes.{lines_left, lines_seen, number_seen, IsLook, MayBeLeft};
+ghost use Rattle.window_rewrite.specs.Scenes.{lines_left, lines_seen, number_seen, IsLook, IsSight, MayBeLeft};
 ghost use Rattle.window_rewrite.specs.Layouts.{Moves};
 
 use crate::choice::{Choice, Replacement};
@@ -50,6 +50,14 @@ pub(crate) struct Look<'a> {
     pub(crate) rules: &'a Rules<'a>,
     pub(crate) scene: &'a Scene,
     pub(crate) site: &'a Site,
+}
+
+/// A window at the place of a look, and what is told of it.
+#[derive(Drop)]
+pub(crate) struct Sight<'a> {
+    pub(crate) look: &'a Look<'a>,
+    pub(crate) window: &'a [Instr],
+    pub(crate) form: &'a Form,
 }
 
 /// How many lines a listing has at most.
@@ -119,52 +127,49 @@ fn copied(window: &[Instr]) -> Seq
     seq
 }
 
-/// What a rule makes of a window at the place, of which this is told and which is as long as the rule's left side. It is an entry, or an instance of a family with
-/// the sides and the mask of this one. `refused` comes to be true where the rule fits and the lines that it leaves are too many or can't be laid out.
+/// What a rule makes of a window that is as long as its left side. It is an entry, or an instance of a family with the sides and the mask of this one. `refused`
+/// comes to be true where the rule fits and the lines that it leaves are too many or can't be laid out.
 pub(crate) fn try_rule<L: Ledger>(
     alloc: Global,
-    look: &Look<'_>,
-    window: &[Instr],
-    form: &Form,
+    sight: &Sight<'_>,
     rule: &Entry,
     entry: u64,
     instance: u8,
     refused: &mut bool,
     steps: &mut Steps<L>,
 ) -> Result<Option<Choice>, Memory>
-    requires look { IsLook look.now }
-    requires stands { StandsThere (lines_seen look.now) (number_seen look.now) window.now form.now.live.bits }
-    requires within { length window.now ≤ length look.now.site.now.run.letters }
-    requires form { IsForm window.now form.now }
-    requires fit { IsFit look.now.rules.now.longest (entry_rule rule.now) }
-    requires long { length rule.now.left ≡ length window.now }
+    requires sight { IsSight sight.now }
+    requires fit { IsFit sight.now.look.now.rules.now.longest (entry_rule rule.now) }
+    requires long { length rule.now.left ≡ length sight.now.window.now }
     requires counted { 1 ≤ entry }
-    ensures some { IfOk result (λ o. IfSome o (IsChoiceBy look.now.rules.now.costs.now look.now.rules.now.base (entry_rule rule.now) (lines_seen look.now) (number_seen look.now) (entry - 1) instance)) }
-    ensures moved { IfOk result (λ o. IfSome o (λ c. Moves look.now.scene.now.layout c.window c.new c.moved)) }
-    ensures none { IfOk result (λ o. IfNone o (NoneBy refused.new look.now.rules.now.costs.now look.now.rules.now.base (entry_rule rule.now) (lines_seen look.now) (number_seen look.now))) }
+    ensures some { IfOk result (λ o. IfSome o (IsChoiceBy sight.now.look.now.rules.now.costs.now sight.now.look.now.rules.now.base (entry_rule rule.now) (lines_seen sight.now.look.now) (number_seen sight.now.look.now) (entry - 1) instance)) }
+    ensures moved { IfOk result (λ o. IfSome o (λ c. Moves sight.now.look.now.scene.now.layout c.window c.new c.moved)) }
+    ensures none { IfOk result (λ o. IfNone o (NoneBy refused.new sight.now.look.now.rules.now.costs.now sight.now.look.now.rules.now.base (entry_rule rule.now) (lines_seen sight.now.look.now) (number_seen sight.now.look.now))) }
     ensures stays { OnOk result (refused.old ≡ true → refused.new ≡ true) }
     ensures cost { steps.new ≤ steps.old + 1 }
     ensures rises { IfOk result (λ o. RisesByAtLeast steps.old steps.new (from_bool (is_some o))) }
 {
+    let look = sight.look;
     if !is_lighter(look.rules.costs, rule) {
         return Ok(None);
     }
-    if !form.may_fit(rule.mask) {
+    if !sight.form.may_fit(rule.mask) {
         return Ok(None);
     }
     steps.tick();
-    let map = match fitting(rule, window, form.live) {
+    let map = match fitting(rule, sight.window, sight.form.live) {
         None => return Ok(None),
         Some(map) => map,
     };
     let new = renamed_all(rule.right.as_slice(), &registers_of(&map));
+    let count = sight.window.len();
     if !look
         .scene
-        .is_settled(look.rules, look.site, window.len(), new.as_slice())
+        .is_settled(look.rules, look.site, count, new.as_slice())
     {
         return Ok(None);
     }
-    let moved = match moved_layout(alloc, look, window, new.as_slice())? {
+    let moved = match moved_layout(alloc, look, sight.window, new.as_slice())? {
         None => {
             *refused = true;
             return Ok(None);
@@ -178,51 +183,35 @@ pub(crate) fn try_rule<L: Ledger>(
             instance,
             map,
         },
-        window: copied(window),
+        window: copied(sight.window),
         new,
         moved,
     }))
 }
 
-/// What the entry of a number makes of a window at the place, of which this is told, where its left side is as long. `refused` comes to be true where
-/// the entry fits and what it leaves is refused.
+/// What the entry of a number makes of a window, where its left side is as long. `refused` comes to be true where the entry fits and what it leaves is refused.
 fn try_entry<L: Ledger>(
     alloc: Global,
-    look: &Look<'_>,
-    window: &[Instr],
-    form: &Form,
+    sight: &Sight<'_>,
     number: usize,
     refused: &mut bool,
     steps: &mut Steps<L>,
 ) -> Result<Option<Choice>, Memory>
-    requires look { IsLook look.now }
-    requires stands { StandsThere (lines_seen look.now) (number_seen look.now) window.now form.now.live.bits }
-    requires within { length window.now ≤ length look.now.site.now.run.letters }
-    requires form { IsForm window.now form.now }
-    requires number { number < length look.now.rules.now.entries.now }
-    ensures long { IfOk result (λ o. OnSome o (side_length (rules_in look.now.rules.now.entries.now) number ≡ length window.now)) }
-    ensures some { IfOk result (λ o. IfSome o (λ c. IsChoice (entries_setting look.now.rules.now) (lines_seen look.now) c × ((choice_of c).place ≡ number_seen look.now) × ((choice_of c).entry ≡ number))) }
-    ensures moved { IfOk result (λ o. IfSome o (λ c. Moves look.now.scene.now.layout c.window c.new c.moved)) }
-    ensures none { IfOk result (λ o. IfNone o (side_length (rules_in look.now.rules.now.entries.now) number ≡ length window.now → (registers : List Low) → Meets refused.new (entries_setting look.now.rules.now) (record { place = number_seen look.now; entry = number; instance = 0; registers = registers }) (lines_seen look.now) → ⊥)) }
+    requires sight { IsSight sight.now }
+    requires number { number < length sight.now.look.now.rules.now.entries.now }
+    ensures long { IfOk result (λ o. OnSome o (side_length (rules_in sight.now.look.now.rules.now.entries.now) number ≡ length sight.now.window.now)) }
+    ensures some { IfOk result (λ o. IfSome o (λ c. IsChoice (entries_setting sight.now.look.now.rules.now) (lines_seen sight.now.look.now) c × ((choice_of c).place ≡ number_seen sight.now.look.now) × ((choice_of c).entry ≡ number))) }
+    ensures moved { IfOk result (λ o. IfSome o (λ c. Moves sight.now.look.now.scene.now.layout c.window c.new c.moved)) }
+    ensures none { IfOk result (λ o. IfNone o (side_length (rules_in sight.now.look.now.rules.now.entries.now) number ≡ length sight.now.window.now → (registers : List Low) → Meets refused.new (entries_setting sight.now.look.now.rules.now) (record { place = number_seen sight.now.look.now; entry = number; instance = 0; registers = registers }) (lines_seen sight.now.look.now) → ⊥)) }
     ensures stays { OnOk result (refused.old ≡ true → refused.new ≡ true) }
-    ensures cost { steps.new ≤ steps.old + from_bool (side_length (rules_in look.now.rules.now.entries.now) number == length window.now) }
+    ensures cost { steps.new ≤ steps.old + from_bool (side_length (rules_in sight.now.look.now.rules.now.entries.now) number == length sight.now.window.now) }
     ensures rises { IfOk result (λ o. RisesByAtLeast steps.old steps.new (from_bool (is_some o))) }
 {
-    let entry = &look.rules.entries[number];
-    if entry.left.len() != window.len() {
+    let entry = &sight.look.rules.entries[number];
+    if entry.left.len() != sight.window.len() {
         return Ok(None);
     }
-    try_rule(
-        alloc,
-        look,
-        window,
-        form,
-        entry,
-        number as u64 + 1,
-        0,
-        refused,
-        steps,
-    )
+    try_rule(alloc, sight, entry, number as u64 + 1, 0, refused, steps)
 }
 
 /// The first entry that is kept and whose left side may stand in a window, of which this is told.
@@ -234,60 +223,51 @@ fn first_number(rules: &Rules<'_>, _window: &[Instr], form: &Form) -> Option<usi
     rules.index.entries.first(form.number)
 }
 
-/// The lowest entry that applies to a window at the place, of which this is told.
+/// The lowest entry that applies to a window.
 fn lowest_by<L: Ledger>(
     alloc: Global,
-    look: &Look<'_>,
-    window: &[Instr],
-    form: &Form,
+    sight: &Sight<'_>,
     refused: &mut bool,
     steps: &mut Steps<L>,
 ) -> Result<Option<Choice>, Memory>
-    requires look { IsLook look.now }
-    requires stands { StandsThere (lines_seen look.now) (number_seen look.now) window.now form.now.live.bits }
-    requires within { length window.now ≤ length look.now.site.now.run.letters }
-    requires form { IsForm window.now form.now }
-    ensures some { IfOk result (λ o. IfSome o (IsLowest (entries_setting look.now.rules.now) (lines_seen look.now) (number_seen look.now) (length window.now))) }
-    ensures moved { IfOk result (λ o. IfSome o (λ c. Moves look.now.scene.now.layout c.window c.new c.moved)) }
-    ensures none { IfOk result (λ o. IfNone o (NoneOf refused.new (entries_setting look.now.rules.now) (lines_seen look.now) (number_seen look.now) (length window.now))) }
+    requires { IsSight sight.now }
+    ensures some { IfOk result (λ o. IfSome o (IsLowest (entries_setting sight.now.look.now.rules.now) (lines_seen sight.now.look.now) (number_seen sight.now.look.now) (length sight.now.window.now))) }
+    ensures moved { IfOk result (λ o. IfSome o (λ c. Moves sight.now.look.now.scene.now.layout c.window c.new c.moved)) }
+    ensures none { IfOk result (λ o. IfNone o (NoneOf refused.new (entries_setting sight.now.look.now.rules.now) (lines_seen sight.now.look.now) (number_seen sight.now.look.now) (length sight.now.window.now))) }
     ensures stays { OnOk result (refused.old ≡ true → refused.new ≡ true) }
-    ensures cost { steps.new ≤ steps.old + of_length (length window.now) (rules_in look.now.rules.now.entries.now) }
+    ensures cost { steps.new ≤ steps.old + of_length (length sight.now.window.now) (rules_in sight.now.look.now.rules.now.entries.now) }
     ensures rises { IfOk result (λ o. RisesByAtLeast steps.old steps.new (from_bool (is_some o))) }
 {
-    let mut at = first_number(look.rules, window, form);
+    let rules = sight.look.rules;
+    let mut at = first_number(rules, sight.window, sight.form);
     while let Some(number) = at {
-        if let Some(choice) = try_entry(alloc, look, window, form, number, refused, steps)? {
+        if let Some(choice) = try_entry(alloc, sight, number, refused, steps)? {
             return Ok(Some(choice));
         }
-        at = look.rules.index.entries.next(number);
+        at = rules.index.entries.next(number);
     }
     Ok(None)
 }
 
-/// The lowest entry that applies to a window at the place, of which this is told, or the lowest family where no entry does.
+/// The lowest entry that applies to a window, or the lowest family where no entry does.
 fn lowest_in<L: Ledger>(
     alloc: Global,
-    look: &Look<'_>,
-    window: &[Instr],
-    form: &Form,
+    sight: &Sight<'_>,
     refused: &mut bool,
     steps: &mut Steps<L>,
 ) -> Result<Option<Choice>, Memory>
-    requires look { IsLook look.now }
-    requires stands { StandsThere (lines_seen look.now) (number_seen look.now) window.now form.now.live.bits }
-    requires within { length window.now ≤ length look.now.site.now.run.letters }
-    requires form { IsForm window.now form.now }
-    ensures some { IfOk result (λ o. IfSome o (IsLowest (setting_of look.now.rules.now) (lines_seen look.now) (number_seen look.now) (length window.now))) }
-    ensures moved { IfOk result (λ o. IfSome o (λ c. Moves look.now.scene.now.layout c.window c.new c.moved)) }
-    ensures none { IfOk result (λ o. IfNone o (NoneOf refused.new (setting_of look.now.rules.now) (lines_seen look.now) (number_seen look.now) (length window.now))) }
+    requires { IsSight sight.now }
+    ensures some { IfOk result (λ o. IfSome o (IsLowest (setting_of sight.now.look.now.rules.now) (lines_seen sight.now.look.now) (number_seen sight.now.look.now) (length sight.now.window.now))) }
+    ensures moved { IfOk result (λ o. IfSome o (λ c. Moves sight.now.look.now.scene.now.layout c.window c.new c.moved)) }
+    ensures none { IfOk result (λ o. IfNone o (NoneOf refused.new (setting_of sight.now.look.now.rules.now) (lines_seen sight.now.look.now) (number_seen sight.now.look.now) (length sight.now.window.now))) }
     ensures stays { OnOk result (refused.old ≡ true → refused.new ≡ true) }
-    ensures cost { steps.new ≤ steps.old + of_length (length window.now) (sides_of look.now.rules.now) }
+    ensures cost { steps.new ≤ steps.old + of_length (length sight.now.window.now) (sides_of sight.now.look.now.rules.now) }
     ensures rises { IfOk result (λ o. RisesByAtLeast steps.old steps.new (from_bool (is_some o))) }
 {
-    if let Some(choice) = lowest_by(alloc, look, window, form, refused, steps)? {
+    if let Some(choice) = lowest_by(alloc, sight, refused, steps)? {
         return Ok(Some(choice));
     }
-    lowest_family(alloc, look, window, form, refused, steps)
+    lowest_family(alloc, sight, refused, steps)
 }
 
 /// The lowest entry, or else family, that applies to a window at the place, after which these items are live.
@@ -314,7 +294,14 @@ fn lowest<L: Ledger>(
     }
     match Form::of(window, live) {
         None => Ok(None),
-        Some(form) => lowest_in(alloc, look, window, &form, refused, steps),
+        Some(form) => {
+            let sight = Sight {
+                look,
+                window,
+                form: &form,
+            };
+            lowest_in(alloc, &sight, refused, steps)
+        }
     }
 }
 

@@ -11,19 +11,14 @@ use arrayvec::ArrayVec;
 use rule_table::Map;
 use thumb_instr::{Items, Low, Mask};
 
-/// The registers, and what a map gives, if it is one.
-fn and_given(registers: ArrayVec<Low, 8>, given: Option<Low>) -> ArrayVec<Low, 8>
-    requires { length registers.items < 8 }
-    ensures registers { result.items ≡ registers.items ++ registers_of (given ∷ []) }
-    ensures few { length result.items ≤ length registers.items + 1 }
+/// Puts what a map gives behind the registers, if it is one.
+fn add_given(registers: &mut ArrayVec<Low, 8>, given: Option<Low>)
+    requires { length registers.old.items < 8 }
+    ensures registers { registers.new.items ≡ registers.old.items ++ registers_of (given ∷ []) }
+    ensures few { length registers.new.items ≤ length registers.old.items + 1 }
 {
-    match given {
-        None => registers,
-        Some(register) => {
-            let mut more = registers;
-            more.push(register);
-            more
-        }
+    if let Some(register) = given {
+        registers.push(register);
     }
 }
 
@@ -34,7 +29,7 @@ pub(crate) fn registers_of(map: &Map) -> ArrayVec<Low, 8>
 {
     let mut registers = ArrayVec::new();
     for canonical in 0..8u8 {
-        registers = and_given(registers, map.get(canonical));
+        add_given(&mut registers, map.get(canonical));
     }
     registers
 }

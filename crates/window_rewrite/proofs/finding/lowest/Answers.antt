@@ -16,6 +16,10 @@ of-requires g c = c.requires.stands.is_window.letters
 pub returns-in-None-clause-none : goal.returns-in-None-clause-none
 returns-in-None-clause-none g c = none_formed _ c.args.look.now.rules.now.costs.now c.args.look.now.rules.now.base c.args.look.now.rules.now.longest (table_in c.args.look.now.rules.now) (lines_seen c.args.look.now) (number_seen c.args.look.now) c.args.window.now c.requires.look.ready.fit c.requires.stands.is_window c.in-None.ensures.none
 
-pub lowest_in-requires-clause-stands : goal.lowest_in-requires-clause-stands
-lowest_in-requires-clause-stands g c =
-    subst (λ (i : Items). StandsThere (lines_seen c.args.look.now) (number_seen c.args.look.now) c.args.window.now i.bits) (sym c.in-Some.ensures.live) c.requires.stands
+pub lowest_in-requires : goal.lowest_in-requires
+lowest_in-requires g c = record {
+  look = c.requires.look;
+  stands = subst (λ (i : Items). StandsThere (lines_seen c.args.look.now) (number_seen c.args.look.now) c.args.window.now i.bits) (sym c.in-Some.ensures.live) c.requires.stands;
+  within = c.requires.within;
+  form = c.in-Some.ensures.some;
+}

@@ -30,15 +30,15 @@ use Rattle.window_rewrite.proofs.finding.try_rule.Goals as goal
 pub returns-then-not-is_lighter-clause-none : goal.returns-then-not-is_lighter-clause-none
 returns-then-not-is_lighter-clause-none g c = λ table numbers o used here m.
     let rule : Rule = entry_rule c.args.rule.now in
-    let costs : Option (List ℕ) = c.args.look.now.rules.now.costs.now in
-    let lighter = used_lighter costs c.args.look.now.rules.now.base table (lines_seen c.args.look.now) o (with_open rule numbers) used m.0 in
+    let costs : Option (List ℕ) = c.args.sight.now.look.now.rules.now.costs.now in
+    let lighter = used_lighter costs c.args.sight.now.look.now.rules.now.base table (lines_seen c.args.sight.now.look.now) o (with_open rule numbers) used m.0 in
     absurd (true≢false (sym (lt-ltb (weight_under costs rule.right) (weight_under costs rule.left) lighter) ∙ sym c.is_lighter.ensures ∙ c.if-not-is_lighter.true))
 
 pub returns-then-not-may_fit-clause-none : goal.returns-then-not-may_fit-clause-none
 returns-then-not-may_fit-clause-none g c = λ table numbers o used here m.
     let rule : Rule = entry_rule c.args.rule.now in
-    let f = fitted_by _ c.args.look.now.rules.now.costs.now c.args.look.now.rules.now.base c.args.look.now.rules.now.longest table numbers (lines_seen c.args.look.now) (number_seen c.args.look.now) o rule c.args.window.now c.args.form.now.live.bits used c.requires.fit c.requires.long c.requires.stands here m in
-    let has_all : (x : ℕ) → has c.args.form.now.mask.items.bits x ≡ true → has c.args.rule.now.mask.items.bits x ≡ true = λ x h. (has_one c.args.rule.now.mask.items.bits x (c.requires.form.mask rule (left_registers rule o.registers) c.requires.fit.sound c.requires.fit.canonical f.fits.fits x h)).0 in
+    let f = fitted_by _ c.args.sight.now.look.now.rules.now.costs.now c.args.sight.now.look.now.rules.now.base c.args.sight.now.look.now.rules.now.longest table numbers (lines_seen c.args.sight.now.look.now) (number_seen c.args.sight.now.look.now) o rule c.args.sight.now.window.now c.args.sight.now.form.now.live.bits used c.requires.fit c.requires.long c.requires.sight.stands here m in
+    let has_all : (x : ℕ) → has c.args.sight.now.form.now.mask.items.bits x ≡ true → has c.args.rule.now.mask.items.bits x ≡ true = λ x h. (has_one c.args.rule.now.mask.items.bits x (c.requires.sight.form.mask rule (left_registers rule o.registers) c.requires.fit.sound c.requires.fit.canonical f.fits.fits x h)).0 in
     absurd (true≢false (sym (c.may_fit.ensures has_all) ∙ c.if-not-may_fit.true))
 
 pub fitting-requires-clause-sound : goal.fitting-requires-clause-sound
@@ -50,7 +50,7 @@ fitting-requires-clause-canonical g c = c.requires.fit.canonical
 pub returns-in-None-clause-none : goal.returns-in-None-clause-none
 returns-in-None-clause-none g c = λ table numbers o used here m.
     let rule : Rule = entry_rule c.args.rule.now in
-    let f = fitted_by _ c.args.look.now.rules.now.costs.now c.args.look.now.rules.now.base c.args.look.now.rules.now.longest table numbers (lines_seen c.args.look.now) (number_seen c.args.look.now) o rule c.args.window.now c.args.form.now.live.bits used c.requires.fit c.requires.long c.requires.stands here m in
+    let f = fitted_by _ c.args.sight.now.look.now.rules.now.costs.now c.args.sight.now.look.now.rules.now.base c.args.sight.now.look.now.rules.now.longest table numbers (lines_seen c.args.sight.now.look.now) (number_seen c.args.sight.now.look.now) o rule c.args.sight.now.window.now c.args.sight.now.form.now.live.bits used c.requires.fit c.requires.long c.requires.sight.stands here m in
     c.in-None.ensures o.registers f.fits
 
 pub returns-then-not-is_settled-clause-none : goal.returns-then-not-is_settled-clause-none
@@ -59,9 +59,9 @@ returns-then-not-is_settled-clause-none g c = λ table numbers o used here m.
     let registers : List Low = registers_of c.in-Some.map in
     let new : c.renamed_all-new.result ≡ map (renamed registers) rule.right =
     c.renamed_all-new.ensures ∙ ap (λ (rs : List Low). map (renamed rs) c.as_slice.result.now) (c.deref.ensures.0 ∙ c.registers_of.ensures) ∙ ap (map (renamed registers)) c.as_slice.ensures.value in
-    let f = fitted_by _ c.args.look.now.rules.now.costs.now c.args.look.now.rules.now.base c.args.look.now.rules.now.longest table numbers (lines_seen c.args.look.now) (number_seen c.args.look.now) o rule c.args.window.now c.args.form.now.live.bits used c.requires.fit c.requires.long c.requires.stands here m in
-    let also = settled_under (code_of (lines_seen c.args.look.now)) (number_seen c.args.look.now) (length c.args.window.now) o.registers registers rule.right f.settled in
-    let settled = c.is_settled.ensures.1 (subst (λ (js : List Instr). IsSettled (places_of (lines_seen c.args.look.now)) (labels_from 0 (lines_seen c.args.look.now)) (number_seen c.args.look.now) (length c.args.window.now) js) (sym (c.as_slice-2.ensures.value ∙ new)) also) in
+    let f = fitted_by _ c.args.sight.now.look.now.rules.now.costs.now c.args.sight.now.look.now.rules.now.base c.args.sight.now.look.now.rules.now.longest table numbers (lines_seen c.args.sight.now.look.now) (number_seen c.args.sight.now.look.now) o rule c.args.sight.now.window.now c.args.sight.now.form.now.live.bits used c.requires.fit c.requires.long c.requires.sight.stands here m in
+    let also = settled_under (code_of (lines_seen c.args.sight.now.look.now)) (number_seen c.args.sight.now.look.now) (length c.args.sight.now.window.now) o.registers registers rule.right f.settled in
+    let settled = c.is_settled.ensures.1 (subst (λ (js : List Instr). IsSettled (places_of (lines_seen c.args.sight.now.look.now)) (labels_from 0 (lines_seen c.args.sight.now.look.now)) (number_seen c.args.sight.now.look.now) (length c.args.sight.now.window.now) js) (sym (c.as_slice-2.ensures.value ∙ new)) also) in
     let never : true ≡ false = sym settled ∙ c.if-not-is_settled.true in
     absurd (true≢false never)
 
@@ -76,7 +76,7 @@ moved_layout-requires-clause-letters g c =
 pub moved_layout-requires-clause-some : goal.moved_layout-requires-clause-some
 moved_layout-requires-clause-some g c =
     let rule : Rule = entry_rule c.args.rule.now in
-    let costs : Option (List ℕ) = c.args.look.now.rules.now.costs.now in
+    let costs : Option (List ℕ) = c.args.sight.now.look.now.rules.now.costs.now in
     let some = lighter_some costs rule.left rule.right (lighter_true costs rule (sym c.is_lighter.ensures ∙ c.if-not-is_lighter.false)) in
     let long = c.requires.long in
     omega arith
@@ -99,10 +99,10 @@ returns-in-None-2-clause-none g c = λ table numbers o used here m.
     let registers : List Low = registers_of c.in-Some.map in
     let new : c.renamed_all-new.result ≡ map (renamed registers) rule.right =
     c.renamed_all-new.ensures ∙ ap (λ (rs : List Low). map (renamed rs) c.as_slice.result.now) (c.deref.ensures.0 ∙ c.registers_of.ensures) ∙ ap (map (renamed registers)) c.as_slice.ensures.value in
-    let laid = laid_by c.args.look.now.rules.now.costs.now c.args.look.now.rules.now.base table numbers (lines_seen c.args.look.now) (number_seen c.args.look.now) o rule c.args.window.now used c.requires.long here m in
-    let also = left_under c.args.look.now.rules.now.base (number_seen c.args.look.now) (length c.args.window.now) (rule_registers rule) o.registers registers rule.right (lines_seen c.args.look.now) c.requires.fit.sound.right laid in
-    let left : IsLeft c.args.look.now.rules.now.base (lines_seen c.args.look.now) (lines_left c.args.look.now c.args.window.now c.as_slice-3.result.now) =
-    subst (λ (js : List Instr). IsLeft c.args.look.now.rules.now.base (lines_seen c.args.look.now) (lines_left c.args.look.now c.args.window.now js)) (sym (c.as_slice-3.ensures.value ∙ new)) also in
+    let laid = laid_by c.args.sight.now.look.now.rules.now.costs.now c.args.sight.now.look.now.rules.now.base table numbers (lines_seen c.args.sight.now.look.now) (number_seen c.args.sight.now.look.now) o rule c.args.sight.now.window.now used c.requires.long here m in
+    let also = left_under c.args.sight.now.look.now.rules.now.base (number_seen c.args.sight.now.look.now) (length c.args.sight.now.window.now) (rule_registers rule) o.registers registers rule.right (lines_seen c.args.sight.now.look.now) c.requires.fit.sound.right laid in
+    let left : IsLeft c.args.sight.now.look.now.rules.now.base (lines_seen c.args.sight.now.look.now) (lines_left c.args.sight.now.look.now c.args.sight.now.window.now c.as_slice-3.result.now) =
+    subst (λ (js : List Instr). IsLeft c.args.sight.now.look.now.rules.now.base (lines_seen c.args.sight.now.look.now) (lines_left c.args.sight.now.look.now c.args.sight.now.window.now js)) (sym (c.as_slice-3.ensures.value ∙ new)) also in
     let may = c.in_ok-moved_layout.ensures.allowed.1 (record { few = left.few; layable = λ _. left.layable }) in
     let never : true ≡ false = sym may ∙ ap is_some c.in-None-2.is in
     absurd (true≢false never)
@@ -111,27 +111,27 @@ pub copied-requires : goal.copied-requires
 copied-requires g c =
     let short = c.requires.fit.short in
     let long = c.requires.long in
-    let few = c.requires.look.ready.few in
+    let few = c.requires.sight.look.ready.few in
     omega arith
 
 pub returns-clause-some : goal.returns-clause-some
 returns-clause-some g c =
-    let lines : List Line = lines_seen c.args.look.now in
-    let place : ℕ = number_seen c.args.look.now in
+    let lines : List Line = lines_seen c.args.sight.now.look.now in
+    let place : ℕ = number_seen c.args.sight.now.look.now in
     let rule : Rule = entry_rule c.args.rule.now in
     let registers : List Low = registers_of c.in-Some.map in
     let new : c.renamed_all-new.result ≡ map (renamed registers) rule.right =
     c.renamed_all-new.ensures ∙ ap (λ (rs : List Low). map (renamed rs) c.as_slice.result.now) (c.deref.ensures.0 ∙ c.registers_of.ensures) ∙ ap (map (renamed registers)) c.as_slice.ensures.value in
-    let count : length c.args.window.now ≡ length rule.left = sym c.requires.long in
-    let settled : IsSettled (places_of lines) (labels_from 0 lines) place (length c.args.window.now) c.renamed_all-new.result =
-    subst (λ (js : List Instr). IsSettled (places_of lines) (labels_from 0 lines) place (length c.args.window.now) js) c.as_slice-2.ensures.value (c.is_settled.ensures.0 c.if-not-is_settled.false) in
-    let allowed : MayBeLeft c.args.look.now c.args.window.now c.as_slice-3.result.now = c.in_ok-moved_layout.ensures.allowed.0 (ap is_some c.in-Some-2.is) in
-    let asked : is_steady c.args.look.now.scene.now.layout ≡ false → Layable c.args.look.now.rules.now.base (replaced_lines own_line place (length c.args.window.now) (map (renamed registers) rule.right) lines) =
-    λ f. subst (λ (js : List Instr). Layable c.args.look.now.rules.now.base (replaced_lines own_line place (length c.args.window.now) js lines)) (c.as_slice-3.ensures.value ∙ new) (allowed.layable f) in
+    let count : length c.args.sight.now.window.now ≡ length rule.left = sym c.requires.long in
+    let settled : IsSettled (places_of lines) (labels_from 0 lines) place (length c.args.sight.now.window.now) c.renamed_all-new.result =
+    subst (λ (js : List Instr). IsSettled (places_of lines) (labels_from 0 lines) place (length c.args.sight.now.window.now) js) c.as_slice-2.ensures.value (c.is_settled.ensures.0 c.if-not-is_settled.false) in
+    let allowed : MayBeLeft c.args.sight.now.look.now c.args.sight.now.window.now c.as_slice-3.result.now = c.in_ok-moved_layout.ensures.allowed.0 (ap is_some c.in-Some-2.is) in
+    let asked : is_steady c.args.sight.now.look.now.scene.now.layout ≡ false → Layable c.args.sight.now.look.now.rules.now.base (replaced_lines own_line place (length c.args.sight.now.window.now) (map (renamed registers) rule.right) lines) =
+    λ f. subst (λ (js : List Instr). Layable c.args.sight.now.look.now.rules.now.base (replaced_lines own_line place (length c.args.sight.now.window.now) js lines)) (c.as_slice-3.ensures.value ∙ new) (allowed.layable f) in
     let few : length (replaced_lines own_line place (length rule.left) (map (renamed registers) rule.right) lines) ≤ max (length lines) most_lines =
     subst (λ n. length (replaced_lines own_line place n (map (renamed registers) rule.right) lines) ≤ max (length lines) most_lines) count
-    (subst (λ (js : List Instr). length (replaced_lines own_line place (length c.args.window.now) js lines) ≤ max (length lines) most_lines) (c.as_slice-3.ensures.value ∙ new) allowed.few) in
-    let costs : Option (List ℕ) = c.args.look.now.rules.now.costs.now in
+    (subst (λ (js : List Instr). length (replaced_lines own_line place (length c.args.sight.now.window.now) js lines) ≤ max (length lines) most_lines) (c.as_slice-3.ensures.value ∙ new) allowed.few) in
+    let costs : Option (List ℕ) = c.args.sight.now.look.now.rules.now.costs.now in
     let lighter = lighter_true costs rule (sym c.is_lighter.ensures ∙ c.if-not-is_lighter.false) in
     let some = lighter_some costs rule.left rule.right lighter in
     let made : Replacement = record { place = place; entry = c.args.entry - 1; instance = c.args.instance; registers = registers } in
@@ -139,12 +139,12 @@ returns-clause-some g c =
       is = λ table numbers used.
           let own : Rule = with_open rule numbers in
           let sound = sound_open rule numbers c.requires.fit.sound in
-          let m : IsMade (setting_by c.args.look.now.rules.now.costs.now c.args.look.now.rules.now.base table) lines made c.args.window.now c.renamed_all-new.result =
-          applied c.args.look.now.rules.now.costs.now c.args.look.now.rules.now.base table lines made own c.args.window.now c.args.form.now.live.bits c.renamed_all-new.result used sound lighter c.requires.stands
-          (whole_open rule numbers registers c.args.window.now c.args.form.now.live.bits c.in-Some.ensures.0) c.in-Some.ensures.1 new settled few
-          (laid c.args.look.now.rules.now c.args.look.now.scene.now.layout lines place own registers c.args.window.now c.requires.look.over.over sound some count asked) in
-          let made_at : IsMade (setting_by c.args.look.now.rules.now.costs.now c.args.look.now.rules.now.base table) lines made c.copied.result c.renamed_all-new.result =
-          subst (λ (js : List Instr). IsMade (setting_by c.args.look.now.rules.now.costs.now c.args.look.now.rules.now.base table) lines made js c.renamed_all-new.result) (sym c.copied.ensures) m in
+          let m : IsMade (setting_by c.args.sight.now.look.now.rules.now.costs.now c.args.sight.now.look.now.rules.now.base table) lines made c.args.sight.now.window.now c.renamed_all-new.result =
+          applied c.args.sight.now.look.now.rules.now.costs.now c.args.sight.now.look.now.rules.now.base table lines made own c.args.sight.now.window.now c.args.sight.now.form.now.live.bits c.renamed_all-new.result used sound lighter c.requires.sight.stands
+          (whole_open rule numbers registers c.args.sight.now.window.now c.args.sight.now.form.now.live.bits c.in-Some.ensures.0) c.in-Some.ensures.1 new settled few
+          (laid c.args.sight.now.look.now.rules.now c.args.sight.now.look.now.scene.now.layout lines place own registers c.args.sight.now.window.now c.requires.sight.look.over.over sound some count asked) in
+          let made_at : IsMade (setting_by c.args.sight.now.look.now.rules.now.costs.now c.args.sight.now.look.now.rules.now.base table) lines made c.copied.result c.renamed_all-new.result =
+          subst (λ (js : List Instr). IsMade (setting_by c.args.sight.now.look.now.rules.now.costs.now c.args.sight.now.look.now.rules.now.base table) lines made js c.renamed_all-new.result) (sym c.copied.ensures) m in
           record { whole = record { counted = c.requires.counted; in_place = c.in-Some.ensures.3 }; applies = made_at.applies; is_window = made_at.is_window; gives_way = made_at.gives_way; leaves = made_at.leaves; long = made_at.long };
       at = refl;
       entry_is = refl;
