@@ -6,19 +6,14 @@ use Rattle.thumb_instr.specs.declared.instr.Instr.{Instr}
 use Rattle.thumb_model.specs.Listing.{Mention, Op, Code, is_call_instr}
 use Rattle.code_flow.specs.Reached.{Reached}
 use Rattle.flow_tidy.specs.Tidying.{is_branch, Cause, ToNext, ToEnd, Idle, HasCause, IsIdle}
-use Rattle.flow_tidy.specs.Due.{may_change, AreDue, IsCaused}
-use Rattle.flow_tidy.proofs.Settled.{caused_within}
+use Rattle.flow_tidy.specs.Due.{may_change, IsCaused}
 
 branch_may : (code : Code) (p : ℕ) (mark : Bool) (i : Instr) (mention : Option Mention) → slice_get code.places p ≡ Some (Op i mention) → is_branch i ≡ true → may_change (slice_get code.places p) mark ≡ true
 branch_may code p mark i mention e b = ap (λ o. may_change o mark) e ∙ ap (λ (x : Bool). x || not (mark || is_call_instr i)) b
 
-or_true : (b : Bool) → (b || true) ≡ true
-or_true true = refl
-or_true false = refl
-
 idle_may : (code : Code) (p : ℕ) (mark : Bool) → (mark ≡ true) ↔ Reached code p → IsIdle code p → may_change (slice_get code.places p) mark ≡ true
 idle_may code p true m h = absurd (h.unreached (m.0 refl))
-idle_may code p false m h = ap (λ o. may_change o false) h.stands ∙ ap (λ (x : Bool). is_branch h.i || not (false || x)) h.no_call ∙ or_true (is_branch h.i)
+idle_may code p false m h = ap (λ o. may_change o false) h.stands ∙ ap (λ (x : Bool). is_branch h.i || not (false || x)) h.no_call ∙ elim (is_branch h.i) as (λ b. (b || true) ≡ true) [ true ↦ refl | false ↦ refl ]
 
 may_by : (code : Code) (p : ℕ) (mark : Bool) (cause : Cause) → (mark ≡ true) ↔ Reached code p → HasCause code p cause → may_change (slice_get code.places p) mark ≡ true
 may_by code p mark ToNext m h = branch_may code p mark h.i h.mention h.stands h.branch
@@ -50,6 +45,3 @@ one_more_due code xs new n b many e h here p l c = elim (cases_lt p n) [
       let now : IsCaused code n = subst (IsCaused code) same c in
       ap (λ (ys : List Bool). slice_get ys p) e ∙ get_last xs b p (omega arith) ∙ ap Some (here now))
 ]
-
-pub all_are_due : (code : Code) (due : List Bool) (n : ℕ) → length due ≡ length code.places → n ≡ length code.places → ((p : ℕ) → p < n → IsCaused code p → slice_get due p ≡ Some true) → AreDue code due
-all_are_due code due n many e h = record { len = many; each = λ p c. let w = caused_within code p c in h p (omega arith) c }

@@ -16,7 +16,7 @@ use Rattle.flow_tidy.specs.declared.outcome.Outcome.TheVariants as outcome
 use Rattle.flow_tidy.specs.declared.outcome.Redirected.{Redirected}
 use Rattle.flow_tidy.specs.declared.outcome.Redirected.TheVariants as redirected
 use Rattle.flow_tidy.specs.Tidying.{line_length, lines_by, rank as turn, Cause, ToEnd, GoesToEnd, HasCause, IsPossible, setting}
-use Rattle.flow_tidy.specs.Due.{AreDue, HasEnd}
+use Rattle.flow_tidy.specs.Due.{AreDue}
 use Rattle.flow_tidy.specs.Halves.{wide_of}
 use Rattle.flow_tidy.specs.Made.{change, label_of_branch}
 use Rattle.flow_tidy.specs.Ground.{IsGround, IsSteadyTo}
@@ -113,9 +113,8 @@ pub record ChangesSoonest (base : ℕ) (ls new : List Line) (r : ℕ) : Type 0 w
   pub soonest : (o : Cause) → IsPossible (setting base) (change r o) ls → turn cause ≤ turn o
   pub lines : new ≡ lines_by (setting base) r cause ls
 
--- what became of a draft at a kept place whose branch, if one stands there, doesn't go to the next
+-- what became of a draft at a kept place whose branch doesn't go to the next, and whose chain has an end
 abbrev pub IsRedirected : Redirected → ℕ → Drafted → ℕ → Drafted → Type 0
-IsRedirected redirected.NoEnd base d p new = (new ≡ d) × (HasEnd (code_of (lines_now d)) (rank d.gone p) → ⊥)
 IsRedirected redirected.Refused base d p new = (new ≡ d) × ((label : Name) → IsPossible (setting base) (change (rank d.gone p) (ToEnd label)) (lines_now d) → ⊥)
 IsRedirected redirected.Made base d p new = ChangesSoonest base (lines_now d) (lines_now new) (rank d.gone p)
 IsRedirected redirected.Unsure base d p new = new ≡ d

@@ -14,8 +14,6 @@ pub(crate) enum Outcome {
 /// What became of the branch at a place.
 #[derive(Clone, Copy, PartialEq, Eq)]
 pub(crate) enum Redirected {
-    /// There is none whose chain has an end.
-    NoEnd,
     /// It doesn't reach the end of its chain.
     Refused,
     /// It goes to the end of its chain now.

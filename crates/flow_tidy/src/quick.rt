@@ -12,7 +12,7 @@ ghost use Rattle.flow_tidy.specs.Due.{AreDue, HasEnd};
 ghost use Rattle.flow_tidy.specs.ChainEnds.{AreEnds};
 ghost use Rattle.flow_tidy.specs.Halves.{halves};
 ghost use Rattle.flow_tidy.specs.Made.{change};
-ghost use Rattle.flow_tidy.specs.Quick.{left, EndsAt, GoesTo, IsOutcome, IsOutcomeAt, IsQuick, IsRedirected, IsSafe, IsSure, MayAim};
+ghost use Rattle.flow_tidy.specs.Quick.{left, EndsAt, IsOutcome, IsOutcomeAt, IsQuick, IsRedirected, IsSafe, IsSure, MayAim};
 
 use crate::chain_ends::{Ends, chain_end};
 use crate::drafted::{is_idle, is_next, lets_on, target};
@@ -171,32 +171,6 @@ fn retarget(
     }
 }
 
-/// What becomes of the branch at a kept place that doesn't go to the next one. The other place is the kept one that it goes to.
-fn redirect(
-    alloc: Global,
-    draft: &mut Draft,
-    ends: &mut Ends,
-    ground: &Ground,
-    place: u32,
-    to: u32,
-) -> Result<Redirected, Memory>
-    requires within { place < length draft.old.gone }
-    requires kept { is_gone draft.old.gone place ≡ false }
-    requires later { GoesToNext (code_of (lines_now draft.old)) (rank draft.old.gone place) → ⊥ }
-    requires goes { GoesTo draft.old place to }
-    requires safe { IsSafe ground.now draft.old }
-    requires ends { AreEnds draft.old ends.old }
-    ensures redirected { IfOk result (λ o. IsRedirected o ground.now.base draft.old place draft.new) }
-    ensures quick { OnOk result ((marks dues : List Bool) → IsQuick draft.old marks dues → IsQuick draft.new marks dues) }
-    ensures safe { OnOk result (IsSafe ground.now draft.new) }
-    ensures ends { OnOk result (AreEnds draft.new ends.new) }
-{
-    match chain_end(draft, ends, place, to) {
-        None => Ok(Redirected::NoEnd),
-        Some(last) => retarget(alloc, draft, ground, place, last),
-    }
-}
-
 /// Lets the instruction at a kept place go, if nothing reaches it. Else the place is due no more, unless a branch stands there that is out of reach of its end.
 fn change_idle(
     draft: &mut Draft,
@@ -259,9 +233,11 @@ fn change_at(
         ends.forget();
         return Ok(Outcome::Made);
     }
-    let redirected = redirect(alloc, draft, ends, ground, place, to)?;
+    let Some(last) = chain_end(draft, ends, place, to) else {
+        return Ok(change_idle(draft, due, ends, reached, ground, place, false));
+    };
+    let redirected = retarget(alloc, draft, ground, place, last)?;
     match redirected {
-        Redirected::NoEnd => Ok(change_idle(draft, due, ends, reached, ground, place, false)),
         Redirected::Refused => Ok(change_idle(draft, due, ends, reached, ground, place, true)),
         Redirected::Made => Ok(Outcome::Made),
         Redirected::Unsure => Ok(Outcome::Unsure),

@@ -11,6 +11,7 @@ ghost use Rattle.flow_tidy.specs.Tidying.{GoesToNext, IsIdle, setting};
 
 use crate::chains::{is_always, is_branch};
 use crate::due::Due;
+use crate::found::{Changed, Found};
 use crate::marks::Marks;
 use label_layout::{Layout, LayoutError, layout};
 use listing_parser::{Listing, Memory, Place};
@@ -92,28 +93,32 @@ fn laid_after(
     }
 }
 
-/// Settles what is known of the listing after a change at a place. `moved` is where the new listing lies, if that was found. A branch that goes elsewhere changes
-/// nothing of what is known.
+/// Settles what is known of a listing after a change that was found, and gives the listing then. A branch that goes elsewhere changes nothing of what is known.
 pub(crate) fn settle(
     alloc: Global,
     listing: &Listing,
-    new: &Listing,
-    moved: Option<Layout>,
-    place: u32,
+    found: Found,
     laid: &mut Layout,
     reached: &mut Marks,
     due: &mut Due,
-) -> Result<(), Memory>
+) -> Result<Listing, Memory>
     requires known { IsKnown listing.now laid.old reached.old due.old }
-    requires next { IsNextAt (setting laid.old.base) place listing.now new.now }
-    requires moved { IsMovedTo laid.old.base new.now moved }
+    requires next { IsNextAt (setting laid.old.base) found.place listing.now found.changed.listing }
+    requires moved { IsMovedTo laid.old.base found.changed.listing found.changed.moved }
+    ensures new { IfOk result (λ new. new ≡ found.changed.listing) }
     ensures base { OnOk result (laid.new.base ≡ laid.old.base) }
-    ensures known { OnOk result (IsKnown new.now laid.new reached.new due.new) }
+    ensures known { OnOk result (IsKnown found.changed.listing laid.new reached.new due.new) }
 {
-    if new.place_count() < listing.place_count() {
-        leave(listing, place, reached, due);
-        let base = laid.base();
-        *laid = laid_after(alloc, new, base, moved)?;
+    let Found { place, changed } = found;
+    let Changed {
+        listing: new,
+        moved,
+    } = changed;
+    if new.place_count() >= listing.place_count() {
+        return Ok(new);
     }
-    Ok(())
+    leave(listing, place, reached, due);
+    let base = laid.base();
+    *laid = laid_after(alloc, &new, base, moved)?;
+    Ok(new)
 }

@@ -15,7 +15,6 @@ ghost use Rattle.flow_tidy.specs.Tidying.{tidying_cost, AreTidiedBy, IsRefusal};
 use crate::chain_ends::Ends;
 use crate::due::Due;
 use crate::errors::TidyError;
-use crate::found::{Changed, Found};
 use crate::ground::{Ground, ground_of};
 use crate::marks::Marks;
 use crate::outcome::Outcome;
@@ -47,22 +46,7 @@ fn tidied(
     let mut due = Due::all(alloc, places)?;
     let mut changes = 0;
     while let Some(found) = first_change(alloc, &listing, &laid, &reached, &mut due)? {
-        let Found { place, changed } = found;
-        let Changed {
-            listing: new,
-            moved,
-        } = changed;
-        settle(
-            alloc,
-            &listing,
-            &new,
-            moved,
-            place,
-            &mut laid,
-            &mut reached,
-            &mut due,
-        )?;
-        listing = new;
+        listing = settle(alloc, &listing, found, &mut laid, &mut reached, &mut due)?;
         changes += 1;
     }
     Ok(Tidy { listing, changes })

@@ -76,7 +76,7 @@ is_next-requires-clause-goes c =
     let e = c.in-Some.ensures in
     subst (λ (x : Drafted). GoesTo x c.args.place c.in-Some.to) (sym c.target.ensures.same) (record { is = e.place; within = e.within; kept = e.kept })
 
-pub redirect-requires-clause-goes : goal.redirect-requires-clause-goes
-redirect-requires-clause-goes c =
+pub chain_end-requires-clause-goes : goal.chain_end-requires-clause-goes
+chain_end-requires-clause-goes c =
     let e = c.in-Some.ensures in
     subst (λ (x : Drafted). GoesTo x c.args.place c.in-Some.to) (sym (c.is_next.ensures.same ∙ c.target.ensures.same)) (record { is = e.place; within = e.within; kept = e.kept })

@@ -1,6 +1,6 @@
-use Rattle.std.proofs.Common.{◌∙◌, ◌+◌, ◌<◌, ◌^◌, length, refl, sym, subst, arith}
+use Rattle.std.proofs.Common.{◌∙◌, ◌+◌, ◌<◌, ◌^◌, Some, length, refl, sym, subst, arith}
 use Rattle.thumb_model.specs.Listing.{code_of, places_of}
-use Rattle.flow_tidy.specs.Due.{IsFoundNext, IsNextAt}
+use Rattle.flow_tidy.specs.Due.{IsFoundNext, IsKnown, IsNextAt}
 use Rattle.flow_tidy.specs.Tidying.{NonePossible, setting}
 use Rattle.flow_tidy.specs.Due.{AreDue}
 use Rattle.flow_tidy.proofs.Ends.{room_of}
@@ -41,22 +41,24 @@ pub loop-due-smaller : goal.loop-due-smaller
 loop-due-smaller c =
     let s = setting c.loop-due.laid.base in
     let next = subst (IsFoundNext s c.loop-due.listing) c.in-Some.is c.in_ok-found.ensures.next in
-    let left = next_room s c.loop-due.listing c.in-Some.found.changed.listing c.in-Some.found.place next.0 in
-    let less : room_of c.in-Some.found.changed.listing < room_of c.loop-due.listing = omega (arith, left) in
+    let same = subst (IsNextAt s c.in-Some.found.place c.loop-due.listing) (sym c.in_ok-listing.ensures.new) next.0 in
+    let left = next_room s c.loop-due.listing c.in_ok-listing.listing c.in-Some.found.place same in
+    let less : room_of c.in_ok-listing.listing < room_of c.loop-due.listing = omega (arith, left) in
     less
 
 pub loop-due-preserved : goal.loop-due-preserved
 loop-due-preserved c =
-    let s = setting c.loop-due.laid.base in
     let i = c.loop-due.invariant in
-    let next = subst (IsFoundNext s c.loop-due.listing) c.in-Some.is c.in_ok-found.ensures.next in
-    let left = next_room s c.loop-due.listing c.in-Some.found.changed.listing c.in-Some.found.place next.0 in
-    let same : IsNextAt (setting c.args.laid.base) c.in-Some.found.place c.loop-due.listing c.in-Some.found.changed.listing = subst (λ b. IsNextAt (setting b) c.in-Some.found.place c.loop-due.listing c.in-Some.found.changed.listing) i.base next.0 in
+    let s = setting c.args.laid.base in
+    let e = sym c.in_ok-listing.ensures.new in
+    let next = subst (λ b. IsFoundNext (setting b) c.loop-due.listing (Some c.in-Some.found)) i.base (subst (IsFoundNext (setting c.loop-due.laid.base) c.loop-due.listing) c.in-Some.is c.in_ok-found.ensures.next) in
+    let same = subst (IsNextAt s c.in-Some.found.place c.loop-due.listing) e next.0 in
+    let left = next_room s c.loop-due.listing c.in_ok-listing.listing c.in-Some.found.place same in
     record {
-      made = next_made (setting c.args.laid.base) c.args.listing c.loop-due.listing c.in-Some.found.changed.listing c.loop-due.changes c.in-Some.found.place i.made same;
+      made = next_made s c.args.listing c.loop-due.listing c.in_ok-listing.listing c.loop-due.changes c.in-Some.found.place i.made same;
       room = omega (arith, left, i.room);
-      base = c.in_ok-settle.ensures.base ∙ i.base;
-      known = c.in_ok-settle.ensures.known;
+      base = c.in_ok-listing.ensures.base ∙ i.base;
+      known = subst (λ ls. IsKnown ls c.settle.new.laid c.settle.new.reached c.settle.new.due) e c.in_ok-listing.ensures.known;
     }
 
 pub returns : goal.returns
