@@ -5,7 +5,7 @@
 
 ghost use Rattle.std.specs.Prelude.{◌≤◌, length};
 
-use listing_parser::{Line, Statement, parse, print};
+use listing_parser::{ListingLine, Statement, parse, print};
 use rule_table::read_table;
 use std::io::{Read, Write};
 use std::time::Instant;
@@ -26,10 +26,10 @@ fn end_of_table(text: &[u8]) -> usize
 }
 
 /// How many lines have an instruction.
-fn instruction_count(lines: &[Line]) -> u64 {
+fn instruction_count(lines: &[ListingLine]) -> u64 {
     let mut count = 0u64;
     for line in lines {
-        if let Statement::Runs { .. } = &line.statement {
+        if let Statement::Instruction { .. } = &line.statement {
             count = count.wrapping_add(1);
         }
     }

@@ -13,7 +13,7 @@ struct Start {
     aligned: bool,
 }
 
-/// What a stretch begins with.
+/// What a block begins with.
 #[derive(Clone, Copy)]
 enum Head {
     Plain,
@@ -21,26 +21,26 @@ enum Head {
     Aims { instr: Instr, plus: u32, to: Option<Target> },
 }
 
-/// The stretch that begins with a label, or an address that is set.
+/// The block that begins with a label, or an address that is set.
 #[derive(Clone, Copy)]
 enum Target {
-    Stretch(usize),
+    Block(usize),
     Address(u32),
 }
 
 /// Lines of which the first alone may have labels, mention a name or align.
-struct Stretch {
+struct Block {
     at: u32,
     head: Head,
     /// How many bytes it takes, its padding aside.
     bytes: u32,
-    /// The stretches that begin with an instruction that mentions its label.
+    /// The blocks that begin with an instruction that mentions its label.
     callers: Vec<usize>,
     /// What 4 and the sizes of all alignments from here on divide.
-    grain: u32,
+    alignment: u32,
 }
 
-impl Stretch {
+impl Block {
     /// Where it ends if it begins at an address.
     fn end(&self, at: u32) -> u32 {
         at + self.bytes
@@ -56,15 +56,15 @@ impl Stretch {
 
 pub struct Reach {
     is_steady: bool,
-    stretches: Vec<Stretch>,
-    /// The number of the stretch in which each line stands.
+    blocks: Vec<Block>,
+    /// The number of the block in which each line stands.
     numbers: Vec<usize>,
-    /// The stretches from this one on lie so many bytes before where they were noted.
+    /// The blocks from this one on lie so many bytes before where they were noted.
     border: usize,
     shift: u32,
-    /// The stretches whose mention may come out of reach by coming nearer.
+    /// The blocks whose mention may come out of reach by coming nearer.
     loose: Vec<usize>,
-    /// The new addresses of the stretches that move by themselves, and by how many bytes those behind move.
+    /// The new addresses of the blocks that move by themselves, and by how many bytes those behind move.
     moved: Vec<u32>,
     by: u32,
 }
@@ -85,7 +85,7 @@ fn behind(here: Start, statement: &Statement) -> Start {
     }
 }
 
-/// The number of the stretch in which each line stands.
+/// The number of the block in which each line stands.
 fn numbers(listing: &Listing) -> Vec<usize> {
     let mut number = 0;
     let begins = |statement: &Statement| matches!(statement, Statement::Aligns { .. } | Statement::Runs { mention: Some(_), .. });
@@ -96,9 +96,9 @@ fn numbers(listing: &Listing) -> Vec<usize> {
     listing.lines.iter().map(|line| next(!line.names.is_empty() || begins(&line.statement))).collect()
 }
 
-/// The stretches of a listing from a base.
-fn stretches(listing: &Listing, base: u32, numbers: &[usize]) -> Vec<Stretch> {
-    let mut all = vec![Stretch { at: base, head: Head::Plain, bytes: 0, callers: Vec::new(), grain: 4 }];
+/// The blocks of a listing from a base.
+fn blocks(listing: &Listing, base: u32, numbers: &[usize]) -> Vec<Block> {
+    let mut all = vec![Block { at: base, head: Head::Plain, bytes: 0, callers: Vec::new(), alignment: 4 }];
     for (line, number) in listing.lines.iter().zip(numbers) {
         if *number == all.len() {
             let last = &all[number - 1];
@@ -106,42 +106,42 @@ fn stretches(listing: &Listing, base: u32, numbers: &[usize]) -> Vec<Stretch> {
                 Statement::Aligns { size, most } => Head::Pads { size: *size, most: *most },
                 Statement::Runs { instr, mention: Some(Mention { name, plus }) } => {
                     let to = listing.names.get(name).map(|meaning| match meaning {
-                        Meaning::Label(line) => Target::Stretch(numbers[*line]),
+                        Meaning::Label(line) => Target::Block(numbers[*line]),
                         Meaning::Address(address) => Target::Address(address & !1),
                     });
                     Head::Aims { instr: *instr, plus: *plus, to }
                 }
                 _ => Head::Plain,
             };
-            all.push(Stretch { at: last.end(last.at), head, bytes: 0, callers: Vec::new(), grain: 4 });
+            all.push(Block { at: last.end(last.at), head, bytes: 0, callers: Vec::new(), alignment: 4 });
         }
         if !matches!(line.statement, Statement::Aligns { .. }) {
             all[*number].bytes += size(&line.statement, 0) as u32;
         }
     }
     for number in 0..all.len() {
-        if let Head::Aims { to: Some(Target::Stretch(label)), .. } = all[number].head {
+        if let Head::Aims { to: Some(Target::Block(label)), .. } = all[number].head {
             all[label].callers.push(number);
         }
     }
-    let mut grain = 4;
-    for stretch in all.iter_mut().rev() {
-        if let Head::Pads { size, .. } = stretch.head {
-            grain = grain.max(size);
+    let mut alignment = 4;
+    for block in all.iter_mut().rev() {
+        if let Head::Pads { size, .. } = block.head {
+            alignment = alignment.max(size);
         }
-        stretch.grain = grain;
+        block.alignment = alignment;
     }
     all
 }
 
-/// The stretches whose mention may come out of reach by coming nearer: of an address, or by a literal of a label that isn't behind it.
-fn loose(stretches: &[Stretch]) -> Vec<usize> {
-    let is_loose = |(number, stretch): (usize, &Stretch)| match stretch.head {
+/// The blocks whose mention may come out of reach by coming nearer: of an address, or by a literal of a label that isn't behind it.
+fn loose(blocks: &[Block]) -> Vec<usize> {
+    let is_loose = |(number, block): (usize, &Block)| match block.head {
         Head::Aims { to: Some(Target::Address(_)), .. } => Some(number),
-        Head::Aims { instr, to: Some(Target::Stretch(label)), .. } => (is_literal(instr) && label <= number).then_some(number),
+        Head::Aims { instr, to: Some(Target::Block(label)), .. } => (is_literal(instr) && label <= number).then_some(number),
         _ => None,
     };
-    stretches.iter().enumerate().filter_map(is_loose).collect()
+    blocks.iter().enumerate().filter_map(is_loose).collect()
 }
 
 /// Whether each mention stays in reach whichever instructions give way to fewer.
@@ -172,8 +172,8 @@ impl Reach {
     pub fn of(listing: &Listing, base: u32) -> Reach {
         let is_steady = is_steady(listing, base);
         let numbers = if is_steady { Vec::new() } else { numbers(listing) };
-        let stretches = if is_steady { Vec::new() } else { stretches(listing, base, &numbers) };
-        Reach { is_steady, border: 0, shift: 0, loose: loose(&stretches), stretches, numbers, moved: Vec::new(), by: 0 }
+        let blocks = if is_steady { Vec::new() } else { blocks(listing, base, &numbers) };
+        Reach { is_steady, border: 0, shift: 0, loose: loose(&blocks), blocks, numbers, moved: Vec::new(), by: 0 }
     }
 
     pub fn is_steady(&self) -> bool {
@@ -181,10 +181,10 @@ impl Reach {
     }
 
     fn start(&self, number: usize) -> u32 {
-        self.stretches[number].at - if number < self.border { 0 } else { self.shift }
+        self.blocks[number].at - if number < self.border { 0 } else { self.shift }
     }
 
-    /// Where a stretch begins once one has moved what is behind it.
+    /// Where a block begins once one has moved what is behind it.
     fn moved(&self, here: usize, number: usize) -> u32 {
         match number.checked_sub(here + 1) {
             None => self.start(number),
@@ -192,39 +192,39 @@ impl Reach {
         }
     }
 
-    /// Whether what a stretch begins with is in reach then.
+    /// Whether what a block begins with is in reach then.
     fn reaches(&self, here: usize, number: usize) -> bool {
-        let Head::Aims { instr, plus, to: Some(to) } = self.stretches[number].head else { return true };
+        let Head::Aims { instr, plus, to: Some(to) } = self.blocks[number].head else { return true };
         let to = match to {
-            Target::Stretch(label) => self.moved(here, label),
+            Target::Block(label) => self.moved(here, label),
             Target::Address(address) => address,
         };
         aim_fault(self.moved(here, number), instr, to, plus).is_none()
     }
 
-    /// Moves what is behind a stretch that takes so many bytes fewer, up to where all that is behind moves alike.
+    /// Moves what is behind a block that takes so many bytes fewer, up to where all that is behind moves alike.
     fn walk(&mut self, here: usize, bytes: u32) {
         self.moved.clear();
         self.by = 0;
-        let mut at = self.stretches[here].end(self.start(here)) - bytes;
-        for number in here + 1..self.stretches.len() {
-            let (start, stretch) = (self.start(number), &self.stretches[number]);
-            if at <= start && (start - at) % stretch.grain == 0 {
+        let mut at = self.blocks[here].end(self.start(here)) - bytes;
+        for number in here + 1..self.blocks.len() {
+            let (start, block) = (self.start(number), &self.blocks[number]);
+            if at <= start && (start - at) % block.alignment == 0 {
                 self.by = start - at;
                 return;
             }
             self.moved.push(at);
-            at = stretch.end(at);
+            at = block.end(at);
         }
     }
 
-    /// Takes so many bytes from a line's stretch where no mention comes out of reach, and tells whether none does.
+    /// Takes so many bytes from a line's block where no mention comes out of reach, and tells whether none does.
     pub fn gives_way(&mut self, line: usize, bytes: u32) -> bool {
         let here = self.numbers[line];
         self.walk(here, bytes);
         let end = here + 1 + self.moved.len();
         let is_kept = self.reaches(here, here)
-            && (here + 1..end).all(|number| self.reaches(here, number) && self.stretches[number].callers.iter().all(|caller| self.reaches(here, *caller)))
+            && (here + 1..end).all(|number| self.reaches(here, number) && self.blocks[number].callers.iter().all(|caller| self.reaches(here, *caller)))
             && self.loose.iter().all(|number| self.reaches(here, *number));
         if is_kept {
             self.shrink(here, end, bytes);
@@ -235,13 +235,13 @@ impl Reach {
     fn shrink(&mut self, here: usize, end: usize, bytes: u32) {
         for number in self.border.min(here + 1)..self.border.max(end) {
             let start = self.start(number);
-            self.stretches[number].at = match number.checked_sub(here + 1) {
+            self.blocks[number].at = match number.checked_sub(here + 1) {
                 None => start,
                 Some(at) => self.moved.get(at).copied().unwrap_or(start + self.shift),
             };
         }
         self.border = end;
         self.shift += self.by;
-        self.stretches[here].bytes -= bytes;
+        self.blocks[here].bytes -= bytes;
     }
 }

@@ -31,13 +31,13 @@ mod refusals;
 mod words;
 
 mod chains;
-mod ground;
+mod widest;
 mod mentioned;
 mod rooms;
 mod shared;
 
 use crate::chains::{Aim, Chains};
-use crate::ground::{Ground, Refusal, WINDOW};
+use crate::widest::{Widest, Refusal, WINDOW};
 use crate::kept::{Due, Kept, NONE};
 use crate::layout::size;
 use crate::line::{line, Line, Statement};
@@ -59,7 +59,7 @@ struct Tidier<'a> {
     wait_for_lines: Due,
     is_idle: Vec<bool>,
     chains: Chains<'a>,
-    ground: Ground,
+    widest: Widest,
     /// By how many bytes the branch of each block misses the end of its chain, at least, as far as that lies near.
     misses: Rooms,
     /// The instructions that can't go, by the blocks whose bytes and the alignments whose paddings are to blame.
@@ -76,7 +76,7 @@ impl<'a> Tidier<'a> {
         let mut kept = Kept::all(count);
         let mentioned = mentioned(listing);
         let chains = Chains::of(listing, &mentioned, &mut kept);
-        let ground = Ground::of(listing, &mentioned, setting.base);
+        let widest = Widest::of(listing, &mentioned, setting.base);
         let is_idle = idle(listing);
         let mut due = Due::none(count);
         (0..count).filter(|place| is_idle[*place] || chains.aim(*place).is_some()).for_each(|place| due.put(place));
@@ -88,10 +88,10 @@ impl<'a> Tidier<'a> {
             wait_for_lines: Due::none(count),
             is_idle,
             chains,
-            misses: Rooms::none(ground.count()),
-            by_bytes: Refusals::none(ground.count()),
-            by_paddings: Refusals::none(ground.count()),
-            ground,
+            misses: Rooms::none(widest.count()),
+            by_bytes: Refusals::none(widest.count()),
+            by_paddings: Refusals::none(widest.count()),
+            widest,
             is_retargeted: vec![false; count],
             lines: listing.lines.len(),
             changes: 0,
@@ -109,8 +109,8 @@ impl<'a> Tidier<'a> {
 
     /// Makes all branches due within reach of a block's first and last byte, and some more.
     fn put_near(&mut self, block: usize) {
-        let (from, to) = self.ground.around(block, NEAR);
-        for place in (from..to).filter_map(|block| self.ground.place(block)) {
+        let (from, to) = self.widest.around(block, NEAR);
+        for place in (from..to).filter_map(|block| self.widest.place(block)) {
             if self.chains.aim(place).is_some() {
                 self.due.put(place);
             }
@@ -122,13 +122,13 @@ impl<'a> Tidier<'a> {
         if self.misses.is_empty() {
             return;
         }
-        for (block, by) in &self.ground.shorter {
-            let (from, to) = self.ground.around(*block, WINDOW);
+        for (block, by) in &self.widest.shorter {
+            let (from, to) = self.widest.around(*block, WINDOW);
             self.misses.lower(from, to, *by as i32);
         }
         while let Some(block) = self.misses.first_below(1) {
             self.misses.take(block);
-            self.ground.place(block).into_iter().for_each(|place| self.due.put(place));
+            self.widest.place(block).into_iter().for_each(|place| self.due.put(place));
         }
     }
 
@@ -159,7 +159,7 @@ impl<'a> Tidier<'a> {
             None => {
                 self.put_near(block);
                 if let Some(end) = self.chains.end(&mut self.kept, next) {
-                    self.put_near(self.ground.block(end.line));
+                    self.put_near(self.widest.block(end.line));
                 }
             }
         }
@@ -168,15 +168,15 @@ impl<'a> Tidier<'a> {
     /// Takes the instruction of a place away, where the layout allows it.
     fn remove(&mut self, place: usize) -> bool {
         let line = self.line(place);
-        let block = self.ground.block(line);
+        let block = self.widest.block(line);
         let bytes = size(&self.listing.lines[line as usize].statement, 0) as u32;
-        if let Err(Refusal { bytes, paddings }) = self.ground.may_go(place, line, bytes) {
+        if let Err(Refusal { bytes, paddings }) = self.widest.may_go(place, line, bytes) {
             self.by_bytes.put(&bytes, place);
             self.by_paddings.put(&paddings, place);
             return false;
         }
         self.put_missed();
-        self.ground.settle();
+        self.widest.settle();
         self.lines -= usize::from(!self.has_labels(place));
         self.due.take(place);
         let before = self.kept.previous[place];
@@ -185,17 +185,17 @@ impl<'a> Tidier<'a> {
         }
         self.leave(place, block);
         self.put_refused(block, false);
-        self.ground.unmentioned.into_iter().for_each(|label| self.put_refused(label, false));
-        for n in 0..self.ground.moved.len() {
-            self.put_refused(self.ground.moved[n], true);
+        self.widest.unmentioned.into_iter().for_each(|label| self.put_refused(label, false));
+        for n in 0..self.widest.moved.len() {
+            self.put_refused(self.widest.moved[n], true);
         }
         true
     }
 
     /// Gives a branch the label of its chain's end, where that is in reach and within the limits.
     fn retarget(&mut self, place: usize, end: Aim) -> bool {
-        let block = self.ground.block(self.line(place));
-        if let Some(by) = self.ground.miss(block, end.line) {
+        let block = self.widest.block(self.line(place));
+        if let Some(by) = self.widest.miss(block, end.line) {
             self.misses.put(block, by);
             return false;
         }
@@ -211,7 +211,7 @@ impl<'a> Tidier<'a> {
         }
         self.is_retargeted[place] = true;
         self.chains.retarget(&mut self.kept, place, end);
-        self.ground.retarget(block, end.line);
+        self.widest.retarget(block, end.line);
         self.due.put(place);
         self.put_refused(block, false);
         true
@@ -222,7 +222,7 @@ impl<'a> Tidier<'a> {
         self.wait_for_lines.take(place);
         let mut is_tried = false;
         if let Some(aim) = self.chains.aim(place) {
-            self.misses.take(self.ground.block(self.line(place)));
+            self.misses.take(self.widest.block(self.line(place)));
             let to = self.chains.place(&mut self.kept, aim);
             is_tried = to == self.kept.next[place];
             if is_tried && self.remove(place) {
@@ -290,7 +290,7 @@ fn left_of(listing: Listing, changed: Vec<(usize, Option<Vec<u8>>)>) -> Listing 
 
 fn tidied(listing: Listing, setting: &Setting) -> Result<(Listing, u64), String> {
     let mut tidier = Tidier::of(&listing, setting);
-    if !tidier.ground.is_laid() {
+    if !tidier.widest.is_laid() {
         return Err(refusal(&listing, setting.base).unwrap_or_default());
     }
     tidier.tidy();

@@ -3,16 +3,16 @@
 #![tactic(auto)]
 
 use flow_tidy::{Tidy, tidy};
-use listing_parser::{Line, Statement, parse, print};
+use listing_parser::{ListingLine, Statement, parse, print};
 use std::io::{Read, Write};
 use std::time::Instant;
 use step_ledger::{Counted, Ledger, Steps};
 
 /// How many lines have an instruction.
-fn instruction_count(lines: &[Line]) -> u64 {
+fn instruction_count(lines: &[ListingLine]) -> u64 {
     let mut count = 0u64;
     for line in lines {
-        if let Statement::Runs { .. } = &line.statement {
+        if let Statement::Instruction { .. } = &line.statement {
             count = count.wrapping_add(1);
         }
     }

@@ -1,8 +1,8 @@
 -- Why what `demo` tells is what its definition says, and why nothing is refused but a text that is too long.
 use Rattle.std.proofs.Common.{◌≡◌, ◌∙◌, ℕ, ◌≤◌, List, [], ◌++◌, append_assoc, length, refl, sym, subst, arith, Option, Some, None, leb-true}
-use Rattle.thumb_model.specs.Listing.{Line}
+use Rattle.thumb_model.specs.Listing.{ListingLine}
 use Rattle.rule_model.specs.Rewriting.{Replacement, AreRewritten}
-use Rattle.seq_enum.specs.Alphabet.{numbers_from, held_in, grid2, grid3, rows, members, alphabet, words}
+use Rattle.seq_enum.specs.Alphabet.{numbers_from, those_within, grid2, grid3, rows, members, alphabet, words}
 use Rattle.listing_parser.specs.Parsing.{IsListing}
 use Rattle.listing_parser.proofs.MadeLemmas.{one_listing}
 use Rattle.listing_parser.proofs.VerdictLemmas.{one_verdict}
@@ -15,7 +15,7 @@ use Rattle.table_audit.specs.Acceptance.{TableVerdict, IsAccepted, width_of}
 use Rattle.table_audit.specs.Shorter.{sequences_below}
 use Rattle.table_audit.proofs.Determined.{table_same}
 use Rattle.table_learn.specs.Given.{AreInLimits}
-use Rattle.window_rewrite.specs.Rewriting.{setting}
+use Rattle.window_rewrite.specs.TableRewriting.{setting}
 use Rattle.thumb_assembler.specs.Bytes.{first_flaw}
 use Rattle.thumb_assembler.specs.Runs.{IsAssembled}
 use Rattle.command_runs.specs.Plans.{Outcome, Refuses, Does}
@@ -54,23 +54,23 @@ never_unaudited text t _ is accepted (bad_family u other number k verdict) = two
 pub none_some : {A : Type 0} (o : Option A) (a : A) → o ≡ None → o ≡ Some a → ⊥
 none_some {A} o a e f = (let bad : None ≡ Some a = sym e ∙ f in absurd (cc))
 
-pub never_without_image : (base : ℕ) (lines : List Line) (r : Refusal) → first_flaw base lines ≡ None → HasNoImage base lines r → ⊥
+pub never_without_image : (base : ℕ) (lines : List ListingLine) (r : Refusal) → first_flaw base lines ≡ None → HasNoImage base lines r → ⊥
 never_without_image base lines _ none (no_address line h) = none_some (first_flaw base lines) _ none h
 never_without_image base lines _ none (inside line h) = none_some (first_flaw base lines) _ none h
 
 -- few sequences are shorter than two instructions
 narrow : width_of demo_settings ≤ 5000000
-unfolding sequences_below alphabet rows members words held_in numbers_from grid2 grid3
+unfolding sequences_below alphabet rows members words those_within numbers_from grid2 grid3
 narrow = leb-true (width_of demo_settings) 5000000 refl
 
 -- ---- lines ----
 
-pub made_mute : (lines : List Line) → IsDemoListing lines → AreMute lines
+pub made_mute : (lines : List ListingLine) → IsDemoListing lines → AreMute lines
 made_mute lines (n, few, is) = subst AreMute (one_listing (demo_text n) (demo_lines n) lines (demo_listed n few) is) (demo_mute n)
 
 -- ---- what is told ----
 
-pub is_rewriting_told : (t : Table) (given lines : List Line) (rs : List Replacement) (bytes : List ℕ) (replaced before after size : ℕ) (told : List ℕ)
+pub is_rewriting_told : (t : Table) (given lines : List ListingLine) (rs : List Replacement) (bytes : List ℕ) (replaced before after size : ℕ) (told : List ℕ)
     → AreRewritten (setting 0 t) given rs lines → IsAssembled 0 lines bytes
     → replaced ≡ length rs → before ≡ instruction_count given → after ≡ instruction_count lines → size ≡ length bytes
     → told ≡ report_of replaced before after ++ image_line size → IsRewritingTold t given told
@@ -83,7 +83,7 @@ is_rewriting_told t given lines rs bytes replaced before after size told rewritt
   are_told = is ∙ (λ i. report_of (r i) (b i) (a i) ++ image_line (s i));
 }
 
-pub is_demo : (n : ℕ) (lines : List Line) (t u : Table) (rewriting told : List ℕ) → IsListing (demo_text n) lines → IsLearnt demo_settings lines t → u ≡ t → IsRewritingTold u lines rewriting
+pub is_demo : (n : ℕ) (lines : List ListingLine) (t u : Table) (rewriting told : List ℕ) → IsListing (demo_text n) lines → IsLearnt demo_settings lines t → u ≡ t → IsRewritingTold u lines rewriting
     → told ≡ (demo_line n ++ learnt_line (length t.rules) (opens_of t) (length t.states)) ++ rewriting → IsDemo n told
 is_demo n lines t u rewriting told listing learnt same rewritten is = record {
   lines = lines;
@@ -97,11 +97,11 @@ is_demo n lines t u rewriting told listing learnt same rewritten is = record {
 
 -- ---- outcomes ----
 
-full_alone : (n : ℕ) (lines : List Line) (r : Refusal) → IsListing (demo_text n) lines → IsUnlearnt demo_settings lines r → DemoComesTo n (Refuses (refusal_line r))
+full_alone : (n : ℕ) (lines : List ListingLine) (r : Refusal) → IsListing (demo_text n) lines → IsUnlearnt demo_settings lines r → DemoComesTo n (Refuses (refusal_line r))
 full_alone n lines _ listing (too_wide wide) = absurd (let few = narrow in omega arith)
 full_alone n lines _ listing (long_text windows are t bytes full) = too_long lines listing windows are t bytes full
 
-pub is_full : (n : ℕ) (lines : List Line) (r : Refusal) (o : Outcome) → IsListing (demo_text n) lines → IsUnlearnt demo_settings lines r → o ≡ Refuses (refusal_line r) → DemoComesTo n o
+pub is_full : (n : ℕ) (lines : List ListingLine) (r : Refusal) (o : Outcome) → IsListing (demo_text n) lines → IsUnlearnt demo_settings lines r → o ≡ Refuses (refusal_line r) → DemoComesTo n o
 is_full n lines r o listing h is = subst (DemoComesTo n) (sym is) (full_alone n lines r listing h)
 
 pub is_shown : (n : ℕ) (told : List ℕ) (o : Outcome) → IsDemo n told → o ≡ Does [] told → DemoComesTo n o

@@ -14,13 +14,13 @@ use Rattle.thumb_instr.specs.declared.instr.Instr.TheVariants as instr
 use Rattle.thumb_instr.specs.declared.operation.Right.TheVariants as right
 use Rattle.thumb_instr.specs.declared.operation.Operation.TheVariants as operation
 use Rattle.thumb_instr.specs.declared.operation.ByteOperation.TheVariants as byte
-use Rattle.thumb_instr.specs.declared.operation.Hint.TheVariants as hint
+use Rattle.thumb_instr.specs.declared.operation.HintOperation.TheVariants as hint
 use Rattle.thumb_instr.specs.declared.within.Within.{Within}
 use Rattle.thumb_instr.specs.declared.within.General.{General}
 use Rattle.thumb_syntax.specs.Operands.{is_name}
 use Rattle.thumb_syntax.specs.Spelling.{text_of}
 use Rattle.seq_enum.specs.Alphabet.{wide}
-use Rattle.thumb_model.specs.Listing.{Name, Nothing, Line}
+use Rattle.thumb_model.specs.Listing.{Name, Nothing, ListingLine}
 use Rattle.thumb_model.specs.Replaced.{new_line}
 use Rattle.listing_parser.specs.Grammar.{Read, read_lines, shown_of, most_lines}
 use Rattle.listing_parser.proofs.FirstTwice.{first_twice}
@@ -133,7 +133,7 @@ spells_back : Spells back (codes "bx lr")
 unfolding link
 spells_back = refl
 
-abbrev own_lines : List Instr → List Line
+abbrev own_lines : List Instr → List ListingLine
 own_lines is = map (new_line own_line) is
 
 abbrev texts : List Instr → List ℕ
@@ -172,10 +172,10 @@ windows_texts : (n : ℕ) → windows_text n ≡ texts (windows_instrs n)
 windows_texts zero = refl
 windows_texts (suc n) = ap₂ (λ (x y : List ℕ). x ++ y) (windows_texts n) (window_texts n) ∙ sym (texts_append (windows_instrs n) (window_instrs n))
 
-abbrev label_line : Line
+abbrev label_line : ListingLine
 label_line = record { names = codes "demo" ∷ []; statement = Nothing; text = codes "demo:" ++ 10 ∷ []; front = codes "demo:" ++ 10 ∷ [] }
 
-pub demo_lines : ℕ → List Line
+pub demo_lines : ℕ → List ListingLine
 demo_lines n = label_line ∷ own_lines (demo_instrs n)
 
 demo_texts : (n : ℕ) → demo_text n ≡ text_of_lines (demo_lines n)
@@ -276,7 +276,7 @@ demo_mute n = (refl, own_mute (demo_instrs n))
 listed : (is : List Instr) → list_all names_no_label is ≡ true → length is ≤ 65535 → IsListing (text_of_lines (label_line ∷ own_lines is)) (label_line ∷ own_lines is)
 unfolding AreRead AreEnded
 listed is free few =
-    let lines : List Line = label_line ∷ own_lines is in
+    let lines : List ListingLine = label_line ∷ own_lines is in
     let reads : List Read = read_label ∷ map read_own is in
     let are = own_are is free in
     let read : AreRead lines reads = (record { same = refl; reads = label_read }, are.0) in

@@ -2,7 +2,7 @@
 use Rattle.std.proofs.Common.{◌≡◌, ℕ, List, [], ◌∷◌, ◌++◌, Option, Some, None, refl, sym, subst}
 use Rattle.std.proofs.lemmas.List.{append-nil}
 use Rattle.std.specs.Prelude.{Ok}
-use Rattle.thumb_model.specs.Listing.{Line}
+use Rattle.thumb_model.specs.Listing.{ListingLine}
 use Rattle.thumb_model.specs.Layout.{Layable}
 use Rattle.listing_parser.specs.Parsing.{IsListing, text_of_lines}
 use Rattle.rule_table.specs.Table.{Table}
@@ -26,12 +26,12 @@ IsAct (Does keeps lines) = Unit {0}
 record Found (to : Destination) (table listing : List ℕ) (o : Outcome) : Type 0 where
   rules : Table
   is : IsAudited table rules
-  given : List Line
+  given : List ListingLine
   listed : IsListing listing given
   layable : Layable to.base given
   done : IsRewriting to rules given o
 
-found_lines : (to : Destination) (table listing : List ℕ) (t : Table) (given : List Line) (o : Outcome) → IsAudited table t → IsListing listing given → LinesRewrite to t given o → IsAct o → Found to table listing o
+found_lines : (to : Destination) (table listing : List ℕ) (t : Table) (given : List ListingLine) (o : Outcome) → IsAudited table t → IsListing listing given → LinesRewrite to t given o → IsAct o → Found to table listing o
 unfolding IsAct
 found_lines to table listing t given _ is listed (unlaid r h) act = absurd act
 found_lines to table listing t given _ is listed (rewritten layable o h) act = record { rules = t; is = is; given = given; listed = listed; layable = layable; done = h }
@@ -47,13 +47,13 @@ found to table listing _ (unaudited r h) act = absurd act
 found to table listing _ (audited t is o h) act = found_text to table listing t o is h act
 
 -- what was handed out: the listing, its image where one is asked for, and the counts
-record Handed (to : Destination) (given lines : List Line) (c : Counts) (o : Outcome) : Type 0 where
+record Handed (to : Destination) (given lines : List ListingLine) (c : Counts) (o : Outcome) : Type 0 where
   image : Option (List ℕ)
   is : IsImage to given lines image
   keeps : keeps_of o ≡ (to.out, text_of_lines lines) ∷ image_kept to.image image
   told : due o ≡ report_of c.replaced c.before c.after ++ image_told image
 
-handed : (to : Destination) (given lines : List Line) (c : Counts) (o : Outcome) → ((bytes : List ℕ) → IsAssembled to.base lines bytes → RunsAsPromised to.base given lines bytes) → Leaves to lines c o → IsAct o → Handed to given lines c o
+handed : (to : Destination) (given lines : List ListingLine) (c : Counts) (o : Outcome) → ((bytes : List ℕ) → IsAssembled to.base lines bytes → RunsAsPromised to.base given lines bytes) → Leaves to lines c o → IsAct o → Handed to given lines c o
 unfolding IsAct
 handed to given lines c _ runs (alone none) act = record { image = None; is = none; keeps = refl; told = sym (append-nil (report_of c.replaced c.before c.after)) }
 handed to given lines c _ runs (pair some bytes made) act = record { image = Some bytes; is = (some, made, runs bytes made); keeps = refl; told = refl }

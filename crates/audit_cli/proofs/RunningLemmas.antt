@@ -3,15 +3,15 @@ use Rattle.std.proofs.Common.{◌≡◌, ◌∙◌, ℕ, zero, suc, ◌+◌, ◌
 use Rattle.std.specs.Prelude.{slice_get}
 use Rattle.thumb_model.specs.Listing.{Code, Place, Op, Word}
 use Rattle.thumb_model.specs.Naming.{Naming}
-use Rattle.thumb_model.specs.States.{State, Event, At, Here, Ended, Next, On, Stay, To, Over}
+use Rattle.thumb_model.specs.States.{State, Event, Position, Here, Ended, Continuation, On, Stay, To, Over}
 use Rattle.thumb_model.specs.Acts.{act}
 use Rattle.thumb_model.specs.Steps.{around_of, arrives, step, step_at, step_on, times}
 use Rattle.thumb_model.specs.Same.{has_ended}
 use Rattle.thumb_machine.specs.declared.answers.Answer.{Answer}
 use Rattle.thumb_machine.specs.declared.world.End.{End}
 use Rattle.thumb_machine.specs.declared.world.End.TheVariants as end
-use Rattle.thumb_machine.specs.declared.machine.At.{At as MachineAt}
-use Rattle.thumb_machine.specs.declared.machine.At.TheVariants as at
+use Rattle.thumb_machine.specs.declared.machine.Position.{Position as MachinePosition}
+use Rattle.thumb_machine.specs.declared.machine.Position.TheVariants as at
 use Rattle.thumb_machine.specs.declared.machine.Stage.{Stage}
 use Rattle.thumb_machine.specs.declared.machine.Stage.TheVariants as stage
 use Rattle.thumb_machine.specs.declared.machine.Machine.{Machine}
@@ -35,14 +35,14 @@ no_end_wants end.Fault h = absurd (cc)
 no_end_wants end.Astray h = absurd (cc)
 no_end_wants end.Fell h = absurd (cc)
 
-going_next : (n : Next) (here : MachineAt) → IsStage stage.Going n here → (n ≡ On) ⊎ ((p : ℕ) × (n ≡ To p))
+going_next : (n : Continuation) (here : MachinePosition) → IsStage stage.Going n here → (n ≡ On) ⊎ ((p : ℕ) × (n ≡ To p))
 going_next On here h = inl refl
 going_next (To p) here h = inr (p, refl)
 going_next Stay here h = absurd (let bad : stage.Going ≡ stage.Wants = h in cc)
 going_next Over (at.Here p) h = absurd h
 going_next Over (at.Ended e) h = no_end_goes e h
 
-wanting_next : (n : Next) (here : MachineAt) → IsStage stage.Wants n here → n ≡ Stay
+wanting_next : (n : Continuation) (here : MachinePosition) → IsStage stage.Wants n here → n ≡ Stay
 wanting_next Stay here h = refl
 wanting_next On here h = absurd (let bad : stage.Wants ≡ stage.Going = h in cc)
 wanting_next (To p) here h = absurd (let bad : stage.Wants ≡ stage.Going = h in cc)
@@ -50,14 +50,14 @@ wanting_next Over (at.Here p) h = absurd h
 wanting_next Over (at.Ended e) h = no_end_wants e h
 
 -- the run goes on to a place
-arrives_on : (n : Next) (p q : ℕ) → (n ≡ On) ⊎ ((r : ℕ) × (n ≡ To r)) → has_ended (arrives p q n) ≡ false
+arrives_on : (n : Continuation) (p q : ℕ) → (n ≡ On) ⊎ ((r : ℕ) × (n ≡ To r)) → has_ended (arrives p q n) ≡ false
 arrives_on On p q h = refl
 arrives_on (To r) p q h = refl
 arrives_on Stay p q h = refl
 arrives_on Over p q (inl e) = absurd (let bad : Over ≡ On = e in cc)
 arrives_on Over p q (inr (r, e)) = absurd (let bad : Over ≡ To r = e in cc)
 
-no_stay : (n : Next) → (n ≡ On) ⊎ ((r : ℕ) × (n ≡ To r)) → n ≡ Stay → ⊥
+no_stay : (n : Continuation) → (n ≡ On) ⊎ ((r : ℕ) × (n ≡ To r)) → n ≡ Stay → ⊥
 no_stay n (inl e) h = let bad : On ≡ Stay = sym e ∙ h in absurd (cc)
 no_stay n (inr (r, e)) h = let bad : To r ≡ Stay = sym e ∙ h in absurd (cc)
 
@@ -65,7 +65,7 @@ over_is_none : {X : Type 0} → (Over ≡ On) ⊎ ((r : ℕ) × (Over ≡ To r))
 over_is_none (inl e) = absurd (let bad : Over ≡ On = e in cc)
 over_is_none (inr (r, e)) = absurd (let bad : Over ≡ To r = e in cc)
 
-step_runs : (names : Naming) (code : Code) (a : At) (s : State) → (next_at names code a s ≡ On) ⊎ ((r : ℕ) × (next_at names code a s ≡ To r)) → has_ended (step_at names code a s).at ≡ false
+step_runs : (names : Naming) (code : Code) (a : Position) (s : State) → (next_at names code a s ≡ On) ⊎ ((r : ℕ) × (next_at names code a s ≡ To r)) → has_ended (step_at names code a s).at ≡ false
 step_runs names code Ended s h = over_is_none h
 step_runs names code (Here p) s h = on (slice_get code.places p) h where
   on : (o : Option Place) → (next_on names code p o s ≡ On) ⊎ ((r : ℕ) × (next_on names code p o s ≡ To r)) → has_ended (step_on names code p o s).at ≡ false
@@ -100,14 +100,14 @@ none_yet names code m left h = record {
 }
 
 -- a stage of neither kind is that of an end
-over_at : (n : Next) (s : Stage) (a : MachineAt) → IsStage s n a → (s ≡ stage.Going → ⊥) → (s ≡ stage.Wants → ⊥) → (n ≡ Over) × (e : End) × (a ≡ at.Ended e) × (s ≡ stage_of e)
+over_at : (n : Continuation) (s : Stage) (a : MachinePosition) → IsStage s n a → (s ≡ stage.Going → ⊥) → (s ≡ stage.Wants → ⊥) → (n ≡ Over) × (e : End) × (a ≡ at.Ended e) × (s ≡ stage_of e)
 over_at On s a h going wanting = absurd (going h)
 over_at (To p) s a h going wanting = absurd (going h)
 over_at Stay s a h going wanting = absurd (wanting h)
 over_at Over s (at.Here p) h going wanting = absurd h
 over_at Over s (at.Ended e) h going wanting = (refl, e, refl, h)
 
-ended_last : (old : MachineAt) (e : End) (es : List Event) → has_ended (at_of old) ≡ false → EndedBy old (at.Ended e) es
+ended_last : (old : MachinePosition) (e : End) (es : List Event) → has_ended (at_of old) ≡ false → EndedBy old (at.Ended e) es
     → (front : List Event) × (last : Event) × (es ≡ front ++ last ∷ []) × (end_of last ≡ Some e)
 ended_last (at.Here p) e es running h = h
 ended_last (at.Ended d) e es running h = absurd (let bad : true ≡ false = running in cc)
@@ -118,7 +118,7 @@ module _ (names : Naming) (code : Code) (start : State) (most n : ℕ) (m new : 
   abbrev now : State
   now = times (step names code) n start
 
-  abbrev next : Next
+  abbrev next : Continuation
   next = next_at names code now.at now
 
   stood : state_of m before ≡ now
@@ -163,12 +163,12 @@ module _ (names : Naming) (code : Code) (start : State) (most n : ℕ) (m new : 
   is_over going wanting =
       let o = over_at next s new.at staged going wanting in
       let e : End = o.1 in
-      let ends = ended_last m.at e (events_of new.world.events.items) far.running (subst (λ (a : MachineAt). EndedBy m.at a (events_of new.world.events.items)) o.2 did.ends) in
+      let ends = ended_last m.at e (events_of new.world.events.items) far.running (subst (λ (a : MachinePosition). EndedBy m.at a (events_of new.world.events.items)) o.2 did.ends) in
       record {
         within = omega (arith, less);
         goes_on = went (λ h. let bad : Over ≡ Stay = sym o.0 ∙ h in absurd (cc));
         stands = subst (λ (t : Stage). StandsAfter names code most (n + 1) (times (step names code) (n + 1) start) t) (sym o.3)
-            (ended (sym (ap has_ended stands_next.place) ∙ ap (λ (a : MachineAt). has_ended (at_of a)) o.2) ends.0 ends.1 e (sym stands_next.events ∙ ends.2) ends.3);
+            (ended (sym (ap has_ended stands_next.place) ∙ ap (λ (a : MachinePosition). has_ended (at_of a)) o.2) ends.0 ends.1 e (sym stands_next.events ∙ ends.2) ends.3);
       }
 
 -- all steps were taken

@@ -5,14 +5,14 @@ use Rattle.thumb_instr.specs.declared.instr.Instr.{Instr}
 use Rattle.thumb_instr.specs.declared.instr.Instr.TheVariants as instr
 use Rattle.thumb_instr.specs.declared.operation.Access.{Access}
 use Rattle.thumb_instr.specs.declared.operation.Access.TheVariants as access
-use Rattle.thumb_instr.specs.declared.operation.Hint.{Hint}
-use Rattle.thumb_instr.specs.declared.operation.Hint.TheVariants as hint
+use Rattle.thumb_instr.specs.declared.operation.HintOperation.{HintOperation}
+use Rattle.thumb_instr.specs.declared.operation.HintOperation.TheVariants as hint
 use Rattle.thumb_instr.specs.Items.{has}
 use Rattle.thumb_instr.specs.Shape.{registers_in, pushed, offset_access, word_access}
 use Rattle.thumb_model.specs.Effect.{sp}
 use Rattle.thumb_model.specs.Listing.{Code, Place, Op, Word}
 use Rattle.thumb_model.specs.Naming.{Naming}
-use Rattle.thumb_model.specs.States.{State, At, Here, Ended, World, Answer, Target, Inside, External, Landing, Goes, Leaves, Strays, Around, Act, Event, Call, Sys, Fault, On, Stay, To, Over, puts, ends, tells, takes, aligned, answered, served, handed, answers_with}
+use Rattle.thumb_model.specs.States.{State, Position, Here, Ended, World, Answer, Target, Inside, External, Landing, Goes, Leaves, Strays, Around, Act, Event, Call, Sys, Fault, On, Stay, To, Over, puts, ends, tells, takes, aligned, answered, served, handed, answers_with}
 use Rattle.thumb_model.specs.Accesses.{is_device, access_size, value_at, gets, loads, stores, accesses, behind, below, stores_many, device_words, enough, loads_many}
 use Rattle.thumb_model.specs.Acts.{act, branches, jumps, calls_out, calls, calls_by, with_pc, popped_word, pops_to, pops, holds, hints, special_code, reads_special, offset}
 use Rattle.thumb_model.specs.Steps.{around_of, step_at, step_on}
@@ -101,7 +101,7 @@ quiet_calls_by (Goes p) word link w h = refl
 quiet_calls_by Leaves word link w h = quiet_out word w h
 quiet_calls_by Strays word link w h = quiet_ends _ w h
 
-quiet_hints : (x : Hint) (w : World) → Quiet (hints x w)
+quiet_hints : (x : HintOperation) (w : World) → Quiet (hints x w)
 quiet_hints hint.Nop w h = refl
 quiet_hints hint.Yield w h = quiet_tells _ w h
 quiet_hints hint.Wfe w h = quiet_tells _ w h
@@ -136,7 +136,7 @@ quiet_act around (instr.WriteMask m) w = quiet_tells _ w
 quiet_act around i w = λ h. refl
 
 -- a step that stays for want of answers adds no event
-pub stays_quiet : (names : Naming) (code : Code) (a : At) (s : State) → next_at names code a s ≡ Stay → (step_at names code a s).events ≡ s.events
+pub stays_quiet : (names : Naming) (code : Code) (a : Position) (s : State) → next_at names code a s ≡ Stay → (step_at names code a s).events ≡ s.events
 stays_quiet names code Ended s e = refl
 stays_quiet names code (Here p) s e = on (slice_get code.places p) e where
   on : (o : Option Place) → next_on names code p o s ≡ Stay → (step_on names code p o s).events ≡ s.events

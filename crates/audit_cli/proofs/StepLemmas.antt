@@ -6,9 +6,9 @@ use Rattle.rule_table.specs.Refused.{IsText, IsRefused as IsRefusedTable}
 use Rattle.proof_logs.specs.Proofs.{Answers}
 use Rattle.table_audit.specs.declared.errors.AuditError.{AuditError}
 use Rattle.table_audit.specs.declared.errors.AuditError.TheVariants as audit
-use Rattle.thumb_model.specs.Listing.{Line}
+use Rattle.thumb_model.specs.Listing.{ListingLine}
 use Rattle.thumb_model.specs.Layout.{Fault, Layable}
-use Rattle.listing_parser.specs.declared.errors.Kind.{Kind}
+use Rattle.listing_parser.specs.declared.errors.ListingFault.{ListingFault}
 use Rattle.listing_parser.specs.Parsing.{IsListing, IsRefused}
 use Rattle.label_layout.specs.Refusals.{first_fault}
 use Rattle.label_layout.specs.Addresses.{Addresses}
@@ -34,23 +34,23 @@ refused_verdict {A} x d e V h is same other = go (subst (λ (y : Result A AuditE
 pub accepted_verdict : {A : Type 0} (x : Result A AuditError) (a : A) (V : Option AuditError → Type 0) → Answers audit.Memory x V → x ≡ Ok a → V None
 accepted_verdict {A} x a V h is = subst (λ (y : Result A AuditError). Answers audit.Memory y V) is h
 
-pub is_unread : (text : List ℕ) (line : ℕ) (k : Kind) → IsRefused text line k → IsUnread text (refusal.Listing line k)
+pub is_unread : (text : List ℕ) (line : ℕ) (k : ListingFault) → IsRefused text line k → IsUnread text (refusal.Listing line k)
 is_unread text line k h = unread line k h
 
-pub is_unlaid : (base : ℕ) (lines : List Line) (line : ℕ) (fault : Fault) (r : Refusal) → first_fault base lines ≡ Some (line, fault) → r ≡ unlaid_refusal line fault → IsUnlaid base lines r
+pub is_unlaid : (base : ℕ) (lines : List ListingLine) (line : ℕ) (fault : Fault) (r : Refusal) → first_fault base lines ≡ Some (line, fault) → r ≡ unlaid_refusal line fault → IsUnlaid base lines r
 is_unlaid base lines line fault r h e = subst (IsUnlaid base lines) (sym e) (unlaid line fault h)
 
 -- what the assembler answered
-pub is_no_address : (base : ℕ) (lines : List Line) (line : ℕ) → IsRefusal base lines (image.NoAddress line) → HasNoImage base lines (refusal.Address line)
+pub is_no_address : (base : ℕ) (lines : List ListingLine) (line : ℕ) → IsRefusal base lines (image.NoAddress line) → HasNoImage base lines (refusal.Address line)
 is_no_address base lines line h = no_address line h
 
-pub is_inside : (base : ℕ) (lines : List Line) (line : ℕ) → IsRefusal base lines (image.Inside line) → HasNoImage base lines (refusal.Inside line)
+pub is_inside : (base : ℕ) (lines : List ListingLine) (line : ℕ) → IsRefusal base lines (image.Inside line) → HasNoImage base lines (refusal.Inside line)
 is_inside base lines line h = inside line h
 
-pub is_made : {A : Type 0} (view : A → List ℕ) (base : ℕ) (lines : List Line) (x : Result A Refusal) (a : A) → MakesImage base lines (result_map_both view (λ e. e) x) → x ≡ Ok a → IsAssembled base lines (view a)
+pub is_made : {A : Type 0} (view : A → List ℕ) (base : ℕ) (lines : List ListingLine) (x : Result A Refusal) (a : A) → MakesImage base lines (result_map_both view (λ e. e) x) → x ≡ Ok a → IsAssembled base lines (view a)
 is_made {A} view base lines x a h e = subst (λ (y : Result A Refusal). MakesImage base lines (result_map_both view (λ r. r) y)) e h
 
-pub not_made : {A : Type 0} (view : A → List ℕ) (base : ℕ) (lines : List Line) (x : Result A Refusal) (r : Refusal) → MakesImage base lines (result_map_both view (λ e. e) x) → x ≡ Err r → HasNoImage base lines r
+pub not_made : {A : Type 0} (view : A → List ℕ) (base : ℕ) (lines : List ListingLine) (x : Result A Refusal) (r : Refusal) → MakesImage base lines (result_map_both view (λ e. e) x) → x ≡ Err r → HasNoImage base lines r
 not_made {A} view base lines x r h e = subst (λ (y : Result A Refusal). MakesImage base lines (result_map_both view (λ s. s) y)) e h
 
 -- what holds of the refusal's line holds of an outcome that is it
@@ -82,14 +82,14 @@ not_audited {A} view text x r h e = subst (λ (y : Result A Refusal). AuditsTabl
 
 -- what a step answered
 
-pub is_read : (text : List ℕ) (x : Result (List Line) Refusal) (lines : List Line) → ReadsListing text x → x ≡ Ok lines → IsListing text lines
+pub is_read : (text : List ℕ) (x : Result (List ListingLine) Refusal) (lines : List ListingLine) → ReadsListing text x → x ≡ Ok lines → IsListing text lines
 is_read text x lines h e = subst (ReadsListing text) e h
 
-pub not_read : (text : List ℕ) (x : Result (List Line) Refusal) (r : Refusal) → ReadsListing text x → x ≡ Err r → IsUnread text r
+pub not_read : (text : List ℕ) (x : Result (List ListingLine) Refusal) (r : Refusal) → ReadsListing text x → x ≡ Err r → IsUnread text r
 not_read text x r h e = subst (ReadsListing text) e h
 
-pub is_laid : (base : ℕ) (lines : List Line) (x : Result Addresses Refusal) (laid : Addresses) → LaysOut base lines x → x ≡ Ok laid → Layable base lines
+pub is_laid : (base : ℕ) (lines : List ListingLine) (x : Result Addresses Refusal) (laid : Addresses) → LaysOut base lines x → x ≡ Ok laid → Layable base lines
 is_laid base lines x laid h e = (let l : LaysOut base lines (Ok laid) = subst (LaysOut base lines) e h in l.2)
 
-pub not_laid : (base : ℕ) (lines : List Line) (x : Result Addresses Refusal) (r : Refusal) → LaysOut base lines x → x ≡ Err r → IsUnlaid base lines r
+pub not_laid : (base : ℕ) (lines : List ListingLine) (x : Result Addresses Refusal) (r : Refusal) → LaysOut base lines x → x ≡ Err r → IsUnlaid base lines r
 not_laid base lines x r h e = subst (LaysOut base lines) e h

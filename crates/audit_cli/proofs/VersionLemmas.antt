@@ -5,7 +5,7 @@ use Rattle.std.proofs.lemmas.Bool.{le-leb, lt-leb}
 use Rattle.thumb_instr.specs.declared.instr.Instr.{Instr}
 use Rattle.rule_table.specs.declared.header.Field.{Field}
 use Rattle.rule_table.specs.declared.header.Field.TheVariants.{Version, Regs, Left, Seed, Budget, Scratch}
-use Rattle.rule_table.specs.declared.header.Head.TheVariants.{Number, Costs}
+use Rattle.rule_table.specs.declared.header.HeaderLine.TheVariants.{Number, Costs}
 use Rattle.rule_table.specs.Header.{Header, IsHeader, IsWithin, number_in, has_line, since, blank}
 use Rattle.rule_table.specs.Table.{Opened, Rule, Table}
 use Rattle.proof_logs.specs.Proofs.{Tests, Then, InTurn}

@@ -5,7 +5,7 @@ use Rattle.std.specs.List.{list_all}
 use Rattle.thumb_instr.specs.declared.instr.Instr.{Instr}
 use Rattle.thumb_instr.specs.declared.instr.Instr.TheVariants as instr
 use Rattle.thumb_instr.specs.Window.{Low, renamed, is_in_window}
-use Rattle.thumb_model.specs.Listing.{Line, Place, plain, places_of, code_of, is_op_place}
+use Rattle.thumb_model.specs.Listing.{ListingLine, Place, plain, places_of, code_of, is_op_place}
 use Rattle.rule_model.specs.Rules.{Rule, Applies, AreSound}
 use Rattle.thumb_model.specs.Effect.{AreOver}
 use Rattle.rule_model.specs.Rewriting.{Replacement, AppliesIn, AreRewritten, lines_after, lines_after_rule}
@@ -18,7 +18,7 @@ use Rattle.listing_parser.proofs.PrintLemmas.{prints_back}
 use Rattle.listing_parser.proofs.ReplacedLines.{replaced_reads_again}
 use Rattle.rule_table.specs.Table.{Table}
 use Rattle.table_audit.specs.Soundness.{numbers_of}
-use Rattle.window_rewrite.specs.Rewriting.{setting}
+use Rattle.window_rewrite.specs.TableRewriting.{setting}
 use Rattle.thumb_assembler.proofs.Fairness.{few_lines}
 
 -- ---- one replacement ----
@@ -42,14 +42,14 @@ plain_at (i ∷ is) zero lt = refl
 plain_at (i ∷ is) (suc k) lt = plain_at is k (omega arith)
 
 -- instructions stand where an entry applies
-stand_there : (rule : Rule) (r : Replacement) (ls : List Line) → Applies rule r.registers (code_of ls) r.place → (k : ℕ) → k < length rule.left → is_op_place (slice_get (places_of ls) (r.place + k)) ≡ true
+stand_there : (rule : Rule) (r : Replacement) (ls : List ListingLine) → Applies rule r.registers (code_of ls) r.place → (k : ℕ) → k < length rule.left → is_op_place (slice_get (places_of ls) (r.place + k)) ≡ true
 stand_there rule r ls a k lt =
     let n = window_length rule r.registers (code_of ls) r.place a in
     let there : slice_get (places_of ls) (r.place + k) ≡ slice_get (map plain a.window) k =
     sym (get_drop r.place (places_of ls) k (r.place + k) refl) ∙ sym (get_take (length rule.left) (drop r.place (places_of ls)) k lt) ∙ ap (λ (ps : List Place). slice_get ps k) a.stands in
     ap is_op_place there ∙ plain_at a.window k (omega arith)
 
-reads_after : (base : ℕ) (t : Table) (r : Replacement) (bytes : List ℕ) (ls : List Line) → AreSound (numbers_of t) → AppliesIn (setting base t) r ls → IsListing bytes ls
+reads_after : (base : ℕ) (t : Table) (r : Replacement) (bytes : List ℕ) (ls : List ListingLine) → AreSound (numbers_of t) → AppliesIn (setting base t) r ls → IsListing bytes ls
     → IsListing (text_of_lines (lines_after (setting base t) r ls)) (lines_after (setting base t) r ls)
 reads_after base t r bytes ls sound a is =
     let s = setting base t in
@@ -70,9 +70,9 @@ reads_after base t r bytes ls sound a is =
 
 -- ---- all of them ----
 
-pub still_reads : (base : ℕ) (t : Table) (bytes : List ℕ) (given : List Line) (rs : List Replacement) (new : List Line) → AreSound (numbers_of t) → AreRewritten (setting base t) given rs new → IsListing bytes given
+pub still_reads : (base : ℕ) (t : Table) (bytes : List ℕ) (given : List ListingLine) (rs : List Replacement) (new : List ListingLine) → AreSound (numbers_of t) → AreRewritten (setting base t) given rs new → IsListing bytes given
     → IsListing (text_of_lines new) new
-still_reads base t bytes given [] new sound h is = subst (λ (ls : List Line). IsListing (text_of_lines ls) ls) (sym h.1) (subst (λ (bs : List ℕ). IsListing bs given) (sym (prints_back bytes given is)) is)
+still_reads base t bytes given [] new sound h is = subst (λ (ls : List ListingLine). IsListing (text_of_lines ls) ls) (sym h.1) (subst (λ (bs : List ℕ). IsListing bs given) (sym (prints_back bytes given is)) is)
 still_reads base t bytes given (r ∷ rs) new sound h is =
     let next = lines_after (setting base t) r given in
     still_reads base t (text_of_lines next) next rs new sound h.1 (reads_after base t r bytes given sound h.0.applies is)

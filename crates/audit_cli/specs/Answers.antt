@@ -1,6 +1,6 @@
 -- What the steps of the code answer.
 use Rattle.std.specs.Prelude.{◌≡◌, ◌≤◌, ℕ, List, Result, Ok, Err}
-use Rattle.thumb_model.specs.Listing.{Line}
+use Rattle.thumb_model.specs.Listing.{ListingLine}
 use Rattle.thumb_model.specs.Layout.{Layable}
 use Rattle.listing_parser.specs.Parsing.{IsListing}
 use Rattle.label_layout.specs.Addresses.{Addresses, AreAddresses}
@@ -23,25 +23,25 @@ AuditsTable text (Ok t) = IsAudited text t
 AuditsTable text (Err r) = IsUnaudited text r
 
 -- what comes of reading a text
-abbrev pub ReadsListing : List ℕ → Result (List Line) Refusal → Type 0
+abbrev pub ReadsListing : List ℕ → Result (List ListingLine) Refusal → Type 0
 ReadsListing text (Ok lines) = IsListing text lines
 ReadsListing text (Err r) = IsUnread text r
 
 -- what comes of making an image of lines
-abbrev pub MakesImage : ℕ → List Line → Result (List ℕ) Refusal → Type 0
+abbrev pub MakesImage : ℕ → List ListingLine → Result (List ℕ) Refusal → Type 0
 MakesImage base lines (Ok bytes) = IsAssembled base lines bytes
 MakesImage base lines (Err r) = HasNoImage base lines r
 
 -- what comes of laying lines out
-abbrev pub LaysOut : ℕ → List Line → Result Addresses Refusal → Type 0
+abbrev pub LaysOut : ℕ → List ListingLine → Result Addresses Refusal → Type 0
 LaysOut base lines (Ok laid) = AreAddresses lines laid × (laid.base ≡ base) × Layable base lines
 LaysOut base lines (Err r) = IsUnlaid base lines r
 
 -- what comes of learning from lines
-abbrev pub Teach : Settings → List Line → Result Table Refusal → Type 0
+abbrev pub Teach : Settings → List ListingLine → Result Table Refusal → Type 0
 Teach s lines (Ok t) = IsLearnt s lines t
 Teach s lines (Err r) = IsUnlearnt s lines r
 
 -- lines are the listing that `demo` makes of so many windows
-abbrev pub IsDemoListing : List Line → Type 0
+abbrev pub IsDemoListing : List ListingLine → Type 0
 IsDemoListing lines = (n : ℕ) × (n ≤ 20000) × IsListing (demo_text n) lines

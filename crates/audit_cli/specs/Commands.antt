@@ -3,14 +3,14 @@ use Rattle.audit_cli.specs.declared.steps.Counts.{Counts as Counted}
 use Rattle.audit_cli.specs.declared.rewrite.Rewrite.{Rewrite}
 use Rattle.audit_cli.specs.Rewrite.{Counts, Destination}
 use Rattle.audit_cli.specs.declared.export.Export.{Export}
-use Rattle.audit_cli.specs.Tables.{Extract}
+use Rattle.audit_cli.specs.Tables.{ExportArguments}
 use Rattle.std.specs.Prelude.{ℕ, List, Option, Some, None}
 use Rattle.audit_cli.specs.declared.learn.Learn.{Learn}
 use Rattle.audit_cli.specs.declared.learn.LearnByCosts.{LearnByCosts}
 use Rattle.table_learn.specs.Learnt.{Settings}
-use Rattle.audit_cli.specs.Learn.{Lesson}
+use Rattle.audit_cli.specs.Learn.{LearnArguments}
 use Rattle.audit_cli.specs.declared.trace.Trace.{Trace}
-use Rattle.audit_cli.specs.Trace.{Journey}
+use Rattle.audit_cli.specs.Trace.{TraceArguments}
 use Rattle.audit_cli.specs.declared.generalising.Generalise.{Generalise}
 use Rattle.rule_table.specs.Table.{Family}
 use Rattle.audit_cli.specs.Generalise.{wanted}
@@ -21,8 +21,8 @@ destination_of r = record { out = r.out.now; image = r.image.now; base = r.base.
 abbrev pub counts_of : Counted → Counts
 counts_of c = record { replaced = c.replaced; before = c.before; after = c.after }
 
-abbrev pub extract_of : Export → Extract
-extract_of e = record { entry = e.entry; cnf = e.cnf.now; lrat = e.lrat.now }
+abbrev pub export_arguments_of : Export → ExportArguments
+export_arguments_of e = record { entry = e.entry; cnf = e.cnf.now; lrat = e.lrat.now }
 
 -- with costs a table has version 4
 abbrev pub version_with : Option (List ℕ) → ℕ
@@ -32,15 +32,15 @@ version_with (Some costs) = 4
 abbrev pub settings_for : Learn → Settings
 settings_for l = record { version = version_with l.costs; regs = l.regs.number; left = l.left.number; budget = l.budget.number; seed = l.seed; pool = l.pool.now; scratch = l.scratch.number; costs = l.costs }
 
-abbrev pub lesson_of : Learn → Lesson
-lesson_of l = record { out = l.out.now; settings = settings_for l }
+abbrev pub learn_arguments_of : Learn → LearnArguments
+learn_arguments_of l = record { out = l.out.now; settings = settings_for l }
 
 -- before the costs are read the version alone says that there are some
-abbrev pub lesson_by_costs : LearnByCosts → Lesson
-lesson_by_costs l = record { out = l.learn.out.now; settings = record (settings_for l.learn) { version = 4 } }
+abbrev pub learn_arguments_by_costs : LearnByCosts → LearnArguments
+learn_arguments_by_costs l = record { out = l.learn.out.now; settings = record (settings_for l.learn) { version = 4 } }
 
-abbrev pub journey_of : Trace → Journey
-journey_of t = record { label = t.label.now; most = t.most }
+abbrev pub trace_arguments_of : Trace → TraceArguments
+trace_arguments_of t = record { label = t.label.now; most = t.most }
 
 abbrev pub wanted_by : Generalise → Family
 wanted_by g = wanted g.entry g.number g.low g.high

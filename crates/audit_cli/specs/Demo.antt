@@ -1,12 +1,12 @@
 -- What `demo` comes to: a listing is made, a table learnt from its windows, the listing rewritten by that table, and its image made.
 use Rattle.std.specs.Prelude.{◌≡◌, ℕ, zero, suc, ◌%◌, ◌==◌, List, [], ◌∷◌, ◌++◌, None, length, codes, if◌then◌else◌}
 use Rattle.std.specs.Fmt.{decimal}
-use Rattle.thumb_model.specs.Listing.{Line}
+use Rattle.thumb_model.specs.Listing.{ListingLine}
 use Rattle.rule_model.specs.Rewriting.{Replacement, AreRewritten}
 use Rattle.listing_parser.specs.Parsing.{IsListing}
 use Rattle.rule_table.specs.Table.{Table}
 use Rattle.table_learn.specs.Learnt.{Settings, Window, IsFull}
-use Rattle.window_rewrite.specs.Rewriting.{setting}
+use Rattle.window_rewrite.specs.TableRewriting.{setting}
 use Rattle.thumb_assembler.specs.Runs.{IsAssembled}
 use Rattle.command_runs.specs.Plans.{Outcome, Refuses, Does}
 use Rattle.audit_cli.specs.declared.refusal.Refusal.TheVariants as refusal
@@ -51,9 +51,9 @@ abbrev pub demo_settings : Settings
 demo_settings = record { version = 2; regs = 1; left = 2; budget = 20000; seed = 42; pool = 1 ∷ 24 ∷ []; scratch = 0; costs = None }
 
 -- lines are rewritten by a table, laid out from address 0 on, and made an image; what is told of that
-pub record IsRewritingTold (t : Table) (given : List Line) (told : List ℕ) : Type 0 where
+pub record IsRewritingTold (t : Table) (given : List ListingLine) (told : List ℕ) : Type 0 where
   pub replacements : List Replacement
-  pub lines : List Line
+  pub lines : List ListingLine
   pub rewritten : AreRewritten (setting 0 t) given replacements lines
   pub bytes : List ℕ
   pub image : IsAssembled 0 lines bytes
@@ -61,7 +61,7 @@ pub record IsRewritingTold (t : Table) (given : List Line) (told : List ℕ) : T
 
 -- the listing of so many windows, the table that is learnt from it, and its rewriting by that table; what is told of all
 pub record IsDemo (n : ℕ) (told : List ℕ) : Type 0 where
-  pub lines : List Line
+  pub lines : List ListingLine
   pub listing : IsListing (demo_text n) lines
   pub table : Table
   pub learnt : IsLearnt demo_settings lines table
@@ -72,5 +72,5 @@ pub record IsDemo (n : ℕ) (told : List ℕ) : Type 0 where
 -- what so many windows come to: nothing is kept, and all that is told is printed; or the table of the first windows has a text that is too long
 pub data DemoComesTo (n : ℕ) : Outcome → Type 0 where
   shown : (told : List ℕ) → IsDemo n told → DemoComesTo n (Does [] told)
-  too_long : (lines : List Line) → IsListing (demo_text n) lines → (windows : List Window) → AreWindowsOf demo_settings lines windows
+  too_long : (lines : List ListingLine) → IsListing (demo_text n) lines → (windows : List Window) → AreWindowsOf demo_settings lines windows
       → (t : Table) (bytes : ℕ) → IsFull demo_settings windows t bytes → DemoComesTo n (Refuses (refusal_line (refusal.Full bytes)))

@@ -1,7 +1,7 @@
 -- The theorem on `rewrite` in one record, in the order in which a user would say it. It follows from the contract of the top call, and says nothing more.
 use Rattle.std.specs.Prelude.{◌≡◌, ◌≤◌, ℕ, All, List, [], ◌∷◌, ◌++◌, Option, Some, None, Ok, length}
 use Rattle.std.specs.Str.{IsUtf8}
-use Rattle.thumb_model.specs.Listing.{Line, code_of}
+use Rattle.thumb_model.specs.Listing.{ListingLine, code_of}
 use Rattle.thumb_model.specs.Layout.{Layable}
 use Rattle.thumb_model.specs.Same.{Same}
 use Rattle.rule_model.specs.Rewriting.{Replacement, AreRewritten, AllApplied, NoneApplies}
@@ -10,7 +10,7 @@ use Rattle.rule_table.specs.Table.{Table}
 use Rattle.rule_table.specs.Refused.{IsText as IsTableText}
 use Rattle.table_audit.specs.Acceptance.{IsAccepted}
 use Rattle.table_audit.specs.Soundness.{IsSound}
-use Rattle.window_rewrite.specs.Rewriting.{setting}
+use Rattle.window_rewrite.specs.TableRewriting.{setting}
 use Rattle.thumb_assembler.specs.Runs.{IsAssembled}
 use Rattle.command_line.specs.CommandLine.{rewrite, AskFor}
 use Rattle.outer_store.specs.Outside.{Putting, Seen, Sunk, Gave}
@@ -23,7 +23,7 @@ use Rattle.audit_cli.specs.Peep.{Peeps}
 -- ---- the image, where one is asked for ----
 
 -- none is asked for, or the bytes of these lines, whose run meets theirs, and that of the given ones, wherever the laid naming fits
-abbrev pub IsImage : Destination → List Line → List Line → Option (List ℕ) → Type 0
+abbrev pub IsImage : Destination → List ListingLine → List ListingLine → Option (List ℕ) → Type 0
 IsImage to given lines None = WantsNone to
 IsImage to given lines (Some bytes) = (WantsNone to → ⊥) × IsAssembled to.base lines bytes × RunsAsPromised to.base given lines bytes
 
@@ -49,11 +49,11 @@ pub record IsHeadline (table listing : List ℕ) (to : Destination) (old new : S
   pub is_table : IsTableText table_text rules
   pub accepted : IsAccepted rules
   -- the other is a well-formed listing, which can be laid out
-  pub given : List Line
+  pub given : List ListingLine
   pub is_listing : IsListing listing_text given
   pub given_layable : Layable to.base given
   -- lines are left: while some entry applies, it is replaced at the first place where one does, the longest left side first, then the lowest entry
-  pub lines : List Line
+  pub lines : List ListingLine
   pub replacements : List Replacement
   pub rewritten : AreRewritten (setting to.base rules) given replacements lines
   -- they have the same runs from every state, in no more steps

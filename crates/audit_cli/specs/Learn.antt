@@ -1,6 +1,6 @@
 -- What `learn` comes to.
 use Rattle.std.specs.Prelude.{◌≡◌, ◌<◌, ◌≤◌, ℕ, List, [], ◌∷◌, Some, length, map}
-use Rattle.thumb_model.specs.Listing.{Line}
+use Rattle.thumb_model.specs.Listing.{ListingLine}
 use Rattle.listing_parser.specs.Parsing.{IsListing}
 use Rattle.seq_enum.specs.Costs.{IsCostText, IsRefusedCosts}
 use Rattle.window_harvest.specs.Harvest.{Pair, Limits, AreHarvest}
@@ -15,7 +15,7 @@ use Rattle.audit_cli.specs.Printed.{refusal_line, learnt_line, IsUnread}
 use Rattle.audit_cli.specs.Tables.{opens_of}
 
 -- the name that a table is kept under, and the settings that it is learnt with
-pub record Lesson : Type 0 where
+pub record LearnArguments : Type 0 where
   pub out : List ℕ
   pub settings : Settings
 
@@ -27,7 +27,7 @@ abbrev pub window_for : Pair → Window
 window_for pair = record { seq = pair.seq; mask = pair.mask }
 
 -- the windows of lines, each with the items that are live after it, in order of first appearance
-pub record AreWindowsOf (s : Settings) (lines : List Line) (windows : List Window) : Type 0 where
+pub record AreWindowsOf (s : Settings) (lines : List ListingLine) (windows : List Window) : Type 0 where
   pub pairs : List Pair
   pub harvest : AreHarvest (limits_of s) lines pairs
   pub same : windows ≡ map window_for pairs
@@ -37,12 +37,12 @@ abbrev pub kept_table : List ℕ → Table → Outcome
 kept_table out t = Does ((out, text_of t) ∷ []) (learnt_line (length t.rules) (opens_of t) (length t.states))
 
 -- nothing is learnt from lines: more than 5,000,000 sequences may be below the longest windows, or the table of the first windows has a text that is too long
-pub data IsUnlearnt (s : Settings) (lines : List Line) : Refusal → Type 0 where
+pub data IsUnlearnt (s : Settings) (lines : List ListingLine) : Refusal → Type 0 where
   too_wide : 5000000 < width_of s → IsUnlearnt s lines (refusal.Wide (width_of s))
   too_long : (windows : List Window) → AreWindowsOf s lines windows → (t : Table) (bytes : ℕ) → IsFull s windows t bytes → IsUnlearnt s lines (refusal.Full bytes)
 
 -- a table is learnt from all windows of lines, and its text is not too long
-pub record IsLearnt (s : Settings) (lines : List Line) (t : Table) : Type 0 where
+pub record IsLearnt (s : Settings) (lines : List ListingLine) (t : Table) : Type 0 where
   pub windows : List Window
   pub are : AreWindowsOf s lines windows
   pub learnt : Learnt s windows t
@@ -50,23 +50,23 @@ pub record IsLearnt (s : Settings) (lines : List Line) (t : Table) : Type 0 wher
   pub fits : text_length t ≤ text_limit
 
 -- what the lines of a listing come to: nothing is learnt from them, or a table, which is kept
-pub data LinesLearn (to : Lesson) (lines : List Line) : Outcome → Type 0 where
+pub data LinesLearn (to : LearnArguments) (lines : List ListingLine) : Outcome → Type 0 where
   unlearnt : (r : Refusal) → IsUnlearnt to.settings lines r → LinesLearn to lines (Refuses (refusal_line r))
   learnt : (t : Table) → IsLearnt to.settings lines t → LinesLearn to lines (kept_table to.out t)
 
 -- what a text comes to: it is no listing, or a table is learnt from its lines
-pub data Learns (to : Lesson) (text : List ℕ) : Outcome → Type 0 where
+pub data Learns (to : LearnArguments) (text : List ℕ) : Outcome → Type 0 where
   unread : (r : Refusal) → IsUnread text r → Learns to text (Refuses (refusal_line r))
-  read : (lines : List Line) → IsListing text lines → (o : Outcome) → LinesLearn to lines o → Learns to text o
+  read : (lines : List ListingLine) → IsListing text lines → (o : Outcome) → LinesLearn to lines o → Learns to text o
 
 -- `learn` goes by one text
-abbrev pub LearnComesTo : Lesson → List (List ℕ) → Outcome → Type 0
+abbrev pub LearnComesTo : LearnArguments → List (List ℕ) → Outcome → Type 0
 LearnComesTo to texts o = (text : List ℕ) × (texts ≡ text ∷ []) × Learns to text o
 
 -- ---- by costs ----
 
 -- by these costs, which a table of version 4 has
-abbrev pub priced : List ℕ → Lesson → Lesson
+abbrev pub priced : List ℕ → LearnArguments → LearnArguments
 priced costs to = record to { settings = record to.settings { version = 4; costs = Some costs } }
 
 -- a text of costs is refused at a line
@@ -74,10 +74,10 @@ abbrev pub unpriced_at : ℕ → Outcome
 unpriced_at line = Refuses (refusal_line (refusal.Costs line))
 
 -- what the texts of a listing and of costs come to: the costs are refused at the least line such that so many first lines begin no such text, or a table is learnt from the listing's lines by them
-pub data LearnsByCosts (to : Lesson) (text costs : List ℕ) : Outcome → Type 0 where
+pub data LearnsByCosts (to : LearnArguments) (text costs : List ℕ) : Outcome → Type 0 where
   unpriced : (line : ℕ) → IsRefusedCosts costs line → LearnsByCosts to text costs (unpriced_at line)
   priced_so : (cs : List ℕ) → IsCostText costs cs → (o : Outcome) → Learns (priced cs to) text o → LearnsByCosts to text costs o
 
 -- `learn --costs` goes by two texts
-abbrev pub LearnByCostsComesTo : Lesson → List (List ℕ) → Outcome → Type 0
+abbrev pub LearnByCostsComesTo : LearnArguments → List (List ℕ) → Outcome → Type 0
 LearnByCostsComesTo to texts o = (text : List ℕ) × (costs : List ℕ) × (texts ≡ text ∷ costs ∷ []) × LearnsByCosts to text costs o

@@ -2,15 +2,15 @@
 use Rattle.std.specs.Prelude.{ℕ, List, [], ◌∷◌, ◌++◌, codes, ◌≡◌, Some}
 use Rattle.std.specs.Fmt.{decimal, signed_decimal}
 use Rattle.thumb_model.specs.Layout as layout
-use Rattle.listing_parser.specs.declared.errors.Kind.{Kind}
-use Rattle.listing_parser.specs.declared.errors.Kind.TheVariants as kind
+use Rattle.listing_parser.specs.declared.errors.ListingFault.{ListingFault}
+use Rattle.listing_parser.specs.declared.errors.ListingFault.TheVariants as kind
 use Rattle.table_audit.specs.declared.errors.EntryFault.{EntryFault}
 use Rattle.table_audit.specs.declared.errors.EntryFault.TheVariants as fault
 use Rattle.table_audit.specs.declared.errors.FamilyKind.{FamilyKind}
 use Rattle.table_audit.specs.declared.errors.FamilyKind.TheVariants as family
 use Rattle.audit_cli.specs.declared.refusal.Refusal.{Refusal}
 use Rattle.audit_cli.specs.declared.refusal.Refusal.TheVariants as refusal
-use Rattle.thumb_model.specs.Listing.{Line}
+use Rattle.thumb_model.specs.Listing.{ListingLine}
 use Rattle.thumb_model.specs.Layout.{Fault}
 use Rattle.rule_table.specs.Table.{Table}
 use Rattle.rule_table.specs.Refused.{IsText, IsRefused as IsRefusedTable}
@@ -73,7 +73,7 @@ families_line families lines = printed (codes "families" ++ and_number families 
 
 -- ---- refusals ----
 
-abbrev pub kind_number : Kind → ℕ
+abbrev pub kind_number : ListingFault → ℕ
 kind_number kind.Shape = 1
 kind_number kind.Twice = 2
 kind_number kind.Target = 3
@@ -136,14 +136,14 @@ pub data IsUnaudited (text : List ℕ) : Refusal → Type 0 where
 
 -- a text is refused at the first line that makes it no listing
 pub data IsUnread (text : List ℕ) : Refusal → Type 0 where
-  unread : (line : ℕ) (k : Kind) → IsRefused text line k → IsUnread text (refusal.Listing line k)
+  unread : (line : ℕ) (k : ListingFault) → IsRefused text line k → IsUnread text (refusal.Listing line k)
 
 -- lines are refused at the first that can't be laid out from a base
-pub data IsUnlaid (base : ℕ) (lines : List Line) : Refusal → Type 0 where
+pub data IsUnlaid (base : ℕ) (lines : List ListingLine) : Refusal → Type 0 where
   unlaid : (line : ℕ) (fault : Fault) → first_fault base lines ≡ Some (line, fault) → IsUnlaid base lines (unlaid_refusal line fault)
 
 -- lines have no image because of the first that mentions in `b`, `bl` or `.word` a name with no address, or sets an address in the image
-pub data HasNoImage (base : ℕ) (lines : List Line) : Refusal → Type 0 where
+pub data HasNoImage (base : ℕ) (lines : List ListingLine) : Refusal → Type 0 where
   no_address : (line : ℕ) → IsRefusal base lines (image.NoAddress line) → HasNoImage base lines (refusal.Address line)
   inside : (line : ℕ) → IsRefusal base lines (image.Inside line) → HasNoImage base lines (refusal.Inside line)
 

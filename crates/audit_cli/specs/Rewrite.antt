@@ -1,6 +1,6 @@
 -- What the command `rewrite` comes to: the program's headline, but for its store and sink.
 use Rattle.std.specs.Prelude.{◌≡◌, ◌≤◌, ◌+◌, ℕ, List, [], ◌∷◌, ◌++◌, None, length, codes, if◌then◌else◌}
-use Rattle.thumb_model.specs.Listing.{Name, Line, code_of}
+use Rattle.thumb_model.specs.Listing.{Name, ListingLine, code_of}
 use Rattle.thumb_model.specs.Layout.{Layable}
 use Rattle.thumb_model.specs.Naming.{Fits, laid}
 use Rattle.thumb_model.specs.Same.{Same}
@@ -9,9 +9,9 @@ use Rattle.thumb_model.specs.Replaced.{is_op}
 use Rattle.rule_table.specs.Table.{Table}
 use Rattle.table_audit.specs.Soundness.{IsSound}
 use Rattle.listing_parser.specs.Parsing.{IsListing, text_of_lines}
-use Rattle.window_rewrite.specs.Rewriting.{setting}
+use Rattle.window_rewrite.specs.TableRewriting.{setting}
 use Rattle.thumb_assembler.specs.Bytes.{IsSetBy}
-use Rattle.thumb_assembler.specs.Runs.{IsAssembled, Follows}
+use Rattle.thumb_assembler.specs.Runs.{IsAssembled, ImageFollows}
 use Rattle.command_runs.specs.Plans.{Outcome, Refuses, Does}
 use Rattle.audit_cli.specs.Printed.{report_of, image_line, refusal_line, HasNoImage, IsAudited, IsUnaudited, IsUnread, IsUnlaid}
 use Rattle.audit_cli.specs.declared.refusal.Refusal.{Refusal}
@@ -29,7 +29,7 @@ WantsNone to = to.image ≡ codes "-"
 -- ---- what is kept and printed ----
 
 -- how many instructions lines hold
-abbrev pub instruction_count : List Line → ℕ
+abbrev pub instruction_count : List ListingLine → ℕ
 instruction_count [] = 0
 instruction_count (l ∷ ls) = if is_op l.statement then instruction_count ls + 1 else instruction_count ls
 
@@ -40,7 +40,7 @@ pub record Counts : Type 0 where
   pub after : ℕ
 
 -- the listing is kept, and then its image if one is asked for, and the counts and the image's size are told; where it has no image, that is refused
-pub data Leaves (to : Destination) (lines : List Line) (c : Counts) : Outcome → Type 0 where
+pub data Leaves (to : Destination) (lines : List ListingLine) (c : Counts) : Outcome → Type 0 where
   alone : WantsNone to → Leaves to lines c (Does ((to.out, text_of_lines lines) ∷ []) (report_of c.replaced c.before c.after))
   pair : (WantsNone to → ⊥) → (bytes : List ℕ) → IsAssembled to.base lines bytes
       → Leaves to lines c (Does ((to.out, text_of_lines lines) ∷ (to.image, bytes) ∷ []) (report_of c.replaced c.before c.after ++ image_line (length bytes)))
@@ -49,17 +49,17 @@ pub data Leaves (to : Destination) (lines : List Line) (c : Counts) : Outcome �
 -- ---- the headline ----
 
 -- the run of an image of lines that were rewritten
-pub record RunsAsPromised (base : ℕ) (given lines : List Line) (bytes : List ℕ) : Type 0 where
+pub record RunsAsPromised (base : ℕ) (given lines : List ListingLine) (bytes : List ℕ) : Type 0 where
   -- wherever the laid naming fits these lines, it meets their run
-  pub as_left : (set : Name → ℕ) → IsSetBy lines set → Fits (laid base set lines) (code_of lines) → Follows base set lines bytes lines
+  pub as_left : (set : Name → ℕ) → IsSetBy lines set → Fits (laid base set lines) (code_of lines) → ImageFollows base set lines bytes lines
   -- and the given lines' run, wherever it fits those too
-  pub as_given : (set : Name → ℕ) → IsSetBy lines set → Fits (laid base set lines) (code_of lines) → Fits (laid base set lines) (code_of given) → Follows base set lines bytes given
+  pub as_given : (set : Name → ℕ) → IsSetBy lines set → Fits (laid base set lines) (code_of lines) → Fits (laid base set lines) (code_of given) → ImageFollows base set lines bytes given
 
 -- a listing is rewritten by a table
-pub record IsRewriting (to : Destination) (t : Table) (given : List Line) (o : Outcome) : Type 0 where
+pub record IsRewriting (to : Destination) (t : Table) (given : List ListingLine) (o : Outcome) : Type 0 where
   -- the one listing that is left: each replacement is the first that can be made
   pub replacements : List Replacement
-  pub lines : List Line
+  pub lines : List ListingLine
   pub rewritten : AreRewritten (setting to.base t) given replacements lines
   -- its text is read as these lines, which can be laid out, and are no more than before where the table has no costs
   pub listed : IsListing (text_of_lines lines) lines
@@ -79,14 +79,14 @@ pub record IsRewriting (to : Destination) (t : Table) (given : List Line) (o : O
   pub left : Leaves to lines (record { replaced = length replacements; before = instruction_count given; after = instruction_count lines }) o
 
 -- what the lines of a listing come to by an accepted table: they are refused at the first that can't be laid out from the base, or rewritten
-pub data LinesRewrite (to : Destination) (t : Table) (given : List Line) : Outcome → Type 0 where
+pub data LinesRewrite (to : Destination) (t : Table) (given : List ListingLine) : Outcome → Type 0 where
   unlaid : (r : Refusal) → IsUnlaid to.base given r → LinesRewrite to t given (Refuses (refusal_line r))
   rewritten : Layable to.base given → (o : Outcome) → IsRewriting to t given o → LinesRewrite to t given o
 
 -- what a text comes to by an accepted table: it is refused at the first line that makes it no listing, or its lines are rewritten
 pub data Rewrites (to : Destination) (t : Table) (text : List ℕ) : Outcome → Type 0 where
   unread : (r : Refusal) → IsUnread text r → Rewrites to t text (Refuses (refusal_line r))
-  read : (given : List Line) → IsListing text given → (o : Outcome) → LinesRewrite to t given o → Rewrites to t text o
+  read : (given : List ListingLine) → IsListing text given → (o : Outcome) → LinesRewrite to t given o → Rewrites to t text o
 
 -- what the texts of a table and a listing come to: the table is refused, or accepted, and then the listing is rewritten by it
 pub data Comes (to : Destination) (table listing : List ℕ) : Outcome → Type 0 where

@@ -35,7 +35,7 @@ AuditComesTo texts o = (text : List ℕ) × (texts ≡ text ∷ []) × Audits te
 -- ---- `export` ----
 
 -- which entry or family, counted from 1, the families behind the entries, and the names that its formula and its proof are kept under
-pub record Extract : Type 0 where
+pub record ExportArguments : Type 0 where
   pub entry : ℕ
   pub cnf : List ℕ
   pub lrat : List ℕ
@@ -45,32 +45,32 @@ abbrev pub proof_text : List Content → List ℕ
 proof_text lines = flat_map (λ line. text_of line ++ 10 ∷ []) lines
 
 -- the formula is kept, and then the proof
-abbrev pub extracted : Extract → Cnf → List Content → Outcome
-extracted to f proof = Does ((to.cnf, dimacs f) ∷ (to.lrat, proof_text proof) ∷ []) (formula_line f.variables (length f.clauses) (length proof))
+abbrev pub exported : ExportArguments → Cnf → List Content → Outcome
+exported to f proof = Does ((to.cnf, dimacs f) ∷ (to.lrat, proof_text proof) ∷ []) (formula_line f.variables (length f.clauses) (length proof))
 
 -- what an entry comes to: its sides or mask are not what the table's header allows, or its formula and proof are kept
-pub data ExportsEntry (to : Extract) (t : Table) (e : Rule) : Outcome → Type 0 where
+pub data ExportsEntry (to : ExportArguments) (t : Table) (e : Rule) : Outcome → Type 0 where
   unfit : (SidesFit t e → ⊥) → ExportsEntry to t e (Refuses (refusal_line (refusal.Entry to.entry fault.Sides)))
-  found : SidesFit t e → ExportsEntry to t e (extracted to (formula_of t.header e) e.proof)
+  found : SidesFit t e → ExportsEntry to t e (exported to (formula_of t.header e) e.proof)
 
 -- a family counted from 1 among the families, by the number that it has behind the entries
-abbrev pub own_number : Extract → Table → ℕ
+abbrev pub own_number : ExportArguments → Table → ℕ
 own_number to t = to.entry - length t.rules
 
 -- what a family comes to: it raises no entry, or one whose sides or mask are not what the header allows, or its number can't be raised, or its formula and proof are kept
-pub data ExportsFamily (to : Extract) (t : Table) (f : Family) : Outcome → Type 0 where
+pub data ExportsFamily (to : ExportArguments) (t : Table) (f : Family) : Outcome → Type 0 where
   raises_none : entry_of t f ≡ None → ExportsFamily to t f (Refuses (refusal_line (refusal.Family (own_number to t) family.Symbol)))
   raises_unfit : (e : Rule) → entry_of t f ≡ Some e → (SidesFit t e → ⊥) → ExportsFamily to t f (Refuses (refusal_line (refusal.Entry f.entry fault.Sides)))
   unraisable : (e : Rule) → entry_of t f ≡ Some e → SidesFit t e → (IsRaisable t.header.pool f e.left → ⊥) → ExportsFamily to t f (Refuses (refusal_line (refusal.Family (own_number to t) family.Symbol)))
-  raised : (e : Rule) → entry_of t f ≡ Some e → SidesFit t e → IsRaisable t.header.pool f e.left → ExportsFamily to t f (extracted to (raised_formula t.header f e) f.proof)
+  raised : (e : Rule) → entry_of t f ≡ Some e → SidesFit t e → IsRaisable t.header.pool f e.left → ExportsFamily to t f (exported to (raised_formula t.header f e) f.proof)
 
 -- what a text comes to: it is no table, or has neither such an entry nor such a family, or what the one that it has comes to
-pub data Exports (to : Extract) (text : List ℕ) : Outcome → Type 0 where
+pub data Exports (to : ExportArguments) (text : List ℕ) : Outcome → Type 0 where
   refused : (r : Refusal) → IsUnlisted text r → Exports to text (Refuses (refusal_line r))
   absent : (t : Table) → IsText text t → entry_at t.rules to.entry ≡ None → family_at t to.entry ≡ None → Exports to text (Refuses (refusal_line refusal.Number))
   entry : (t : Table) → IsText text t → (e : Rule) → entry_at t.rules to.entry ≡ Some e → (o : Outcome) → ExportsEntry to t e o → Exports to text o
   of_family : (t : Table) → IsText text t → (f : Family) → family_at t to.entry ≡ Some f → (o : Outcome) → ExportsFamily to t f o → Exports to text o
 
 -- `export` goes by one text
-abbrev pub ExportComesTo : Extract → List (List ℕ) → Outcome → Type 0
+abbrev pub ExportComesTo : ExportArguments → List (List ℕ) → Outcome → Type 0
 ExportComesTo to texts o = (text : List ℕ) × (texts ≡ text ∷ []) × Exports to text o

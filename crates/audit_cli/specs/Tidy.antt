@@ -1,6 +1,6 @@
 -- What `tidy` comes to.
 use Rattle.std.specs.Prelude.{◌≡◌, ℕ, List, [], ◌∷◌}
-use Rattle.thumb_model.specs.Listing.{Line, code_of}
+use Rattle.thumb_model.specs.Listing.{ListingLine, code_of}
 use Rattle.thumb_model.specs.Layout.{Layable}
 use Rattle.thumb_model.specs.Same.{Same}
 use Rattle.listing_parser.specs.Parsing.{IsListing, text_of_lines}
@@ -11,13 +11,13 @@ use Rattle.audit_cli.specs.Printed.{refusal_line, tidied_report, IsUnread, IsUnl
 use Rattle.audit_cli.specs.Rewrite.{instruction_count}
 
 -- the text of the lines that are left is kept, and the changes are counted, and the instructions before and after
-abbrev pub tidied_outcome : List ℕ → List Line → List Line → ℕ → Outcome
+abbrev pub tidied_outcome : List ℕ → List ListingLine → List ListingLine → ℕ → Outcome
 tidied_outcome out given lines changes = Does ((out, text_of_lines lines) ∷ []) (tidied_report changes (instruction_count given) (instruction_count lines))
 
 -- a listing is tidied for an image that would begin at the base
-pub record IsTidying (base : ℕ) (out : List ℕ) (given : List Line) (o : Outcome) : Type 0 where
+pub record IsTidying (base : ℕ) (out : List ℕ) (given : List ListingLine) (o : Outcome) : Type 0 where
   -- the one listing that is left: each change is the first that is possible
-  pub lines : List Line
+  pub lines : List ListingLine
   pub changes : ℕ
   pub tidied : AreTidiedBy base given lines changes
   -- it can be laid out
@@ -30,14 +30,14 @@ pub record IsTidying (base : ℕ) (out : List ℕ) (given : List Line) (o : Outc
   pub is : o ≡ tidied_outcome out given lines changes
 
 -- what the lines of a listing come to: they are refused at the first that can't be laid out from the base, or tidied
-pub data LinesTidy (base : ℕ) (out : List ℕ) (given : List Line) : Outcome → Type 0 where
+pub data LinesTidy (base : ℕ) (out : List ℕ) (given : List ListingLine) : Outcome → Type 0 where
   unlaid : (r : Refusal) → IsUnlaid base given r → LinesTidy base out given (Refuses (refusal_line r))
   tidied : Layable base given → (o : Outcome) → IsTidying base out given o → LinesTidy base out given o
 
 -- what a text comes to: it is refused at the first line that makes it no listing, or its lines are tidied
 pub data Tidies (base : ℕ) (out text : List ℕ) : Outcome → Type 0 where
   unread : (r : Refusal) → IsUnread text r → Tidies base out text (Refuses (refusal_line r))
-  read : (given : List Line) → IsListing text given → (o : Outcome) → LinesTidy base out given o → Tidies base out text o
+  read : (given : List ListingLine) → IsListing text given → (o : Outcome) → LinesTidy base out given o → Tidies base out text o
 
 -- `tidy` goes by one text
 abbrev pub TidyComesTo : ℕ → List ℕ → List (List ℕ) → Outcome → Type 0

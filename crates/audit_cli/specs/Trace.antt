@@ -4,7 +4,7 @@ use Rattle.thumb_model.specs.Effect.{Values, sp, lr}
 use Rattle.thumb_model.specs.Naming.{Naming}
 use Rattle.thumb_model.specs.States.{Answer, World, State, Event, Stay, Load, Store, Call, Sys, Left, Fault, Astray, Fell}
 use Rattle.thumb_model.specs.Steps.{step, times}
-use Rattle.thumb_model.specs.Listing.{Code, Name, Line, code_of, place_of}
+use Rattle.thumb_model.specs.Listing.{Code, Name, ListingLine, code_of, place_of}
 use Rattle.thumb_model.specs.Same.{has_ended, begun}
 use Rattle.thumb_machine.specs.declared.world.End.{End}
 use Rattle.thumb_machine.specs.declared.machine.Stage.{Stage}
@@ -108,23 +108,23 @@ steps_line n s = printed (codes "steps" ++ and_number n ++ (32 ∷ stage_word s)
 -- ---- the whole ----
 
 -- what is asked for: the label where the run begins, and the most steps
-pub record Journey : Type 0 where
+pub record TraceArguments : Type 0 where
   pub label : Name
   pub most : ℕ
 
 -- what lines come to: they are refused at the first that can't be laid out, or for want of the code label, or run from it under the naming that they are laid out with
-pub data LinesTrace (journey : Journey) (lines : List Line) : Outcome → Type 0 where
-  unlaid : (r : Refusal) → IsUnlaid 0 lines r → LinesTrace journey lines (Refuses (refusal_line r))
-  unlabelled : Layable 0 lines → place_of (code_of lines) journey.label ≡ None → LinesTrace journey lines (Refuses (refusal_line refusal.Label))
-  ran : Layable 0 lines → (p : ℕ) → place_of (code_of lines) journey.label ≡ Some p → (names : Naming) → IsLaid 0 lines names
-      → (n : ℕ) (s : Stage) → IsRun names (code_of lines) (begun (code_of lines) journey.label start_world []) journey.most n s
-      → LinesTrace journey lines (Does [] (event_lines (times (step names (code_of lines)) n (begun (code_of lines) journey.label start_world [])).events ++ steps_line n s))
+pub data LinesTrace (asked : TraceArguments) (lines : List ListingLine) : Outcome → Type 0 where
+  unlaid : (r : Refusal) → IsUnlaid 0 lines r → LinesTrace asked lines (Refuses (refusal_line r))
+  unlabelled : Layable 0 lines → place_of (code_of lines) asked.label ≡ None → LinesTrace asked lines (Refuses (refusal_line refusal.Label))
+  ran : Layable 0 lines → (p : ℕ) → place_of (code_of lines) asked.label ≡ Some p → (names : Naming) → IsLaid 0 lines names
+      → (n : ℕ) (s : Stage) → IsRun names (code_of lines) (begun (code_of lines) asked.label start_world []) asked.most n s
+      → LinesTrace asked lines (Does [] (event_lines (times (step names (code_of lines)) n (begun (code_of lines) asked.label start_world [])).events ++ steps_line n s))
 
 -- what a text comes to: it is refused at the first line that makes it no listing, or its lines are traced
-pub data Traces (journey : Journey) (text : List ℕ) : Outcome → Type 0 where
-  unread : (r : Refusal) → IsUnread text r → Traces journey text (Refuses (refusal_line r))
-  read : (lines : List Line) → IsListing text lines → (o : Outcome) → LinesTrace journey lines o → Traces journey text o
+pub data Traces (asked : TraceArguments) (text : List ℕ) : Outcome → Type 0 where
+  unread : (r : Refusal) → IsUnread text r → Traces asked text (Refuses (refusal_line r))
+  read : (lines : List ListingLine) → IsListing text lines → (o : Outcome) → LinesTrace asked lines o → Traces asked text o
 
 -- `trace` goes by one text
-abbrev pub TraceComesTo : Journey → List (List ℕ) → Outcome → Type 0
-TraceComesTo journey texts o = (text : List ℕ) × (texts ≡ text ∷ []) × Traces journey text o
+abbrev pub TraceComesTo : TraceArguments → List (List ℕ) → Outcome → Type 0
+TraceComesTo asked texts o = (text : List ℕ) × (texts ≡ text ∷ []) × Traces asked text o

@@ -60,7 +60,7 @@ fn outcome<L: Ledger>(
     }
 }
 
-impl command_runs::Command for Audit {
+impl command_runs::TextCommand for Audit {
     ghost use Rattle.audit_cli.specs.Tables.{AuditComesTo};
 
     ghost takes = { 1 };

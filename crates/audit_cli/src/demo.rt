@@ -215,7 +215,7 @@ fn outcome<L: Ledger>(
     }
 }
 
-impl command_runs::Command for Demo {
+impl command_runs::TextCommand for Demo {
     ghost use Rattle.audit_cli.specs.Demo.{DemoComesTo};
 
     ghost takes = { 0 };

@@ -11,8 +11,8 @@ ghost use Rattle.table_audit.specs.Shorter.{formula_of};
 ghost use Rattle.command_runs.specs.Outcomes.{outcome_view};
 ghost use Rattle.command_runs.specs.Plans.{Refuses};
 ghost use Rattle.audit_cli.specs.Printed.{refusal_line};
-ghost use Rattle.audit_cli.specs.Tables.{Exports, ExportsEntry, ExportsFamily, extracted, own_number, proof_text};
-ghost use Rattle.audit_cli.specs.Commands.{extract_of};
+ghost use Rattle.audit_cli.specs.Tables.{Exports, ExportsEntry, ExportsFamily, exported, own_number, proof_text};
+ghost use Rattle.audit_cli.specs.Commands.{export_arguments_of};
 
 use crate::printing::{formula_report, keeps_two};
 use crate::refusal::{Refusal, refused};
@@ -56,7 +56,7 @@ fn formula_outcome(
     formula: &Formula,
     proof: &[Line],
 ) -> Result<Outcome, Memory>
-    ensures { IfOk result (λ o. outcome_view o ≡ extracted (extract_of to.now) formula.now (map content_of proof.now)) }
+    ensures { IfOk result (λ o. outcome_view o ≡ exported (export_arguments_of to.now) formula.now (map content_of proof.now)) }
 {
     let cnf = write_dimacs(alloc, formula)?;
     let lrat = proof_text(alloc, proof)?;
@@ -78,7 +78,7 @@ fn fit_entry(
     entry: &Entry,
 ) -> Result<Outcome, Memory>
     requires { HasFormula (header_in table.now) (rule_of entry.now) }
-    ensures { IfOk result (λ o. outcome_view o ≡ extracted (extract_of to.now) (formula_of (header_in table.now) (rule_of entry.now)) (rule_of entry.now).proof) }
+    ensures { IfOk result (λ o. outcome_view o ≡ exported (export_arguments_of to.now) (formula_of (header_in table.now) (rule_of entry.now)) (rule_of entry.now).proof) }
 {
     let formula = entry_formula(alloc, table, entry)?;
     formula_outcome(alloc, to, &formula, &entry.proof)
@@ -94,7 +94,7 @@ fn fit_family(
 ) -> Result<Outcome, Memory>
     requires entry { HasFormula (header_in table.now) (rule_of entry.now) }
     requires raisable { IsRaisable table.now.pool (family_of family.now) entry.now.left }
-    ensures { IfOk result (λ o. outcome_view o ≡ extracted (extract_of to.now) (raised_formula (header_in table.now) (family_of family.now) (rule_of entry.now)) (family_of family.now).proof) }
+    ensures { IfOk result (λ o. outcome_view o ≡ exported (export_arguments_of to.now) (raised_formula (header_in table.now) (family_of family.now) (rule_of entry.now)) (family_of family.now).proof) }
 {
     let formula = family_formula(alloc, table, family, entry)?;
     formula_outcome(alloc, to, &formula, &family.proof)
@@ -130,7 +130,7 @@ fn entry_outcome(
     table: &Table,
     entry: &Entry,
 ) -> Result<Outcome, AllocError>
-    ensures { IfOk result (λ o. ExportsEntry (extract_of to.now) (table_of table.now) (rule_of entry.now) (outcome_view o)) }
+    ensures { IfOk result (λ o. ExportsEntry (export_arguments_of to.now) (table_of table.now) (rule_of entry.now) (outcome_view o)) }
 {
     if !sides_fit(table, entry) {
         return unfit(alloc, to.entry);
@@ -141,7 +141,7 @@ fn entry_outcome(
 /// The refusal of a family that can't be raised.
 fn unraisable(alloc: Global, to: &Export<'_>, table: &Table) -> Result<Outcome, AllocError>
     requires { length table.now.entries.items < to.now.entry }
-    ensures { IfOk result (λ o. outcome_view o ≡ Refuses (refusal_line (Refusal.Family (own_number (extract_of to.now) (table_of table.now)) Symbol))) }
+    ensures { IfOk result (λ o. outcome_view o ≡ Refuses (refusal_line (Refusal.Family (own_number (export_arguments_of to.now) (table_of table.now)) Symbol))) }
 {
     refused(
         alloc,
@@ -160,7 +160,7 @@ fn family_outcome(
     family: &Family,
 ) -> Result<Outcome, AllocError>
     requires { length table.now.entries.items < to.now.entry }
-    ensures { IfOk result (λ o. ExportsFamily (extract_of to.now) (table_of table.now) (family_of family.now) (outcome_view o)) }
+    ensures { IfOk result (λ o. ExportsFamily (export_arguments_of to.now) (table_of table.now) (family_of family.now) (outcome_view o)) }
 {
     let Some(entry) = entry_of(table, family) else {
         return unraisable(alloc, to, table);
@@ -176,7 +176,7 @@ fn family_outcome(
 
 /// What a table comes to.
 fn table_outcome(alloc: Global, to: &Export<'_>, table: &Table) -> Result<Outcome, AllocError>
-    ensures { (text : List ℕ) → IsText text (table_of table.now) → IfOk result (λ o. Exports (extract_of to.now) text (outcome_view o)) }
+    ensures { (text : List ℕ) → IsText text (table_of table.now) → IfOk result (λ o. Exports (export_arguments_of to.now) text (outcome_view o)) }
 {
     if let Some(entry) = entry_at(&table.entries, to.entry) {
         return entry_outcome(alloc, to, table, entry);
@@ -189,7 +189,7 @@ fn table_outcome(alloc: Global, to: &Export<'_>, table: &Table) -> Result<Outcom
 
 /// What a text comes to.
 fn outcome(alloc: Global, to: &Export<'_>, text: &[u8]) -> Result<Outcome, AllocError>
-    ensures { IfOk result (λ o. Exports (extract_of to.now) text.now (outcome_view o)) }
+    ensures { IfOk result (λ o. Exports (export_arguments_of to.now) text.now (outcome_view o)) }
 {
     match read_rules(alloc, text)? {
         Err(refusal) => {
@@ -203,13 +203,13 @@ fn outcome(alloc: Global, to: &Export<'_>, text: &[u8]) -> Result<Outcome, Alloc
     }
 }
 
-impl command_runs::Command for Export<'_> {
+impl command_runs::TextCommand for Export<'_> {
     ghost use Rattle.audit_cli.specs.Tables.{ExportComesTo};
-    ghost use Rattle.audit_cli.specs.Commands.{extract_of};
+    ghost use Rattle.audit_cli.specs.Commands.{export_arguments_of};
 
     ghost takes = { 1 };
 
-    ghost comes = { λ e texts o. ExportComesTo (extract_of e) texts o };
+    ghost comes = { λ e texts o. ExportComesTo (export_arguments_of e) texts o };
 
     fn compute<L: Ledger>(
         &self,

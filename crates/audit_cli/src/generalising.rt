@@ -116,7 +116,7 @@ fn outcome<L: Ledger>(
     }
 }
 
-impl command_runs::Command for Generalise<'_> {
+impl command_runs::TextCommand for Generalise<'_> {
     ghost use Rattle.audit_cli.specs.Commands.{wanted_by};
     ghost use Rattle.audit_cli.specs.Generalise.{GeneraliseComesTo};
 

@@ -6,7 +6,7 @@ ghost use Rattle.rule_table.specs.Views.{table_of};
 ghost use Rattle.table_learn.specs.Given.{settings_of, AreInLimits};
 ghost use Rattle.table_learn.specs.Learnt.{text_length, text_limit};
 ghost use Rattle.audit_cli.specs.Learn.{Learns, LearnsByCosts, LinesLearn, kept_table, priced};
-ghost use Rattle.audit_cli.specs.Commands.{lesson_of, lesson_by_costs, settings_for};
+ghost use Rattle.audit_cli.specs.Commands.{learn_arguments_of, learn_arguments_by_costs, settings_for};
 
 use crate::printing::keeps_text;
 use crate::refusal::{Refusal, refused};
@@ -78,7 +78,7 @@ fn listing_outcome<L: Ledger>(
     listing: &Listing,
     steps: &mut Steps<L>,
 ) -> Result<Outcome, AllocError>
-    ensures { IfOk result (λ o. LinesLearn (lesson_of to.now) listing.now (outcome_view o)) }
+    ensures { IfOk result (λ o. LinesLearn (learn_arguments_of to.now) listing.now (outcome_view o)) }
 {
     let settings = settings(to);
     match learnt(alloc, listing, settings, steps)? {
@@ -100,7 +100,7 @@ fn outcome<L: Ledger>(
     text: &[u8],
     steps: &mut Steps<L>,
 ) -> Result<Outcome, AllocError>
-    ensures { IfOk result (λ o. Learns (lesson_of to.now) text.now (outcome_view o)) }
+    ensures { IfOk result (λ o. Learns (learn_arguments_of to.now) text.now (outcome_view o)) }
 {
     match read_listing(alloc, text)? {
         Err(refusal) => {
@@ -116,7 +116,7 @@ fn outcome<L: Ledger>(
 
 /// The command with these costs.
 fn with_costs<'a>(to: &LearnByCosts<'a>, costs: Costs) -> Learn<'a>
-    ensures { lesson_of result ≡ priced costs (lesson_by_costs to.now) }
+    ensures { learn_arguments_of result ≡ priced costs (learn_arguments_by_costs to.now) }
 {
     let learn = &to.learn;
     Learn {
@@ -139,7 +139,7 @@ fn outcome_by_costs<L: Ledger>(
     costs: &[u8],
     steps: &mut Steps<L>,
 ) -> Result<Outcome, AllocError>
-    ensures { IfOk result (λ o. LearnsByCosts (lesson_by_costs to.now) text.now costs.now (outcome_view o)) }
+    ensures { IfOk result (λ o. LearnsByCosts (learn_arguments_by_costs to.now) text.now costs.now (outcome_view o)) }
 {
     match read_costs(costs) {
         Err(CostLine { number: line }) => refused(alloc, Refusal::Costs { line }),
@@ -147,13 +147,13 @@ fn outcome_by_costs<L: Ledger>(
     }
 }
 
-impl command_runs::Command for Learn<'_> {
+impl command_runs::TextCommand for Learn<'_> {
     ghost use Rattle.audit_cli.specs.Learn.{LearnComesTo};
-    ghost use Rattle.audit_cli.specs.Commands.{lesson_of};
+    ghost use Rattle.audit_cli.specs.Commands.{learn_arguments_of};
 
     ghost takes = { 1 };
 
-    ghost comes = { λ l texts o. LearnComesTo (lesson_of l) texts o };
+    ghost comes = { λ l texts o. LearnComesTo (learn_arguments_of l) texts o };
 
     fn compute<L: Ledger>(
         &self,
@@ -168,13 +168,13 @@ impl command_runs::Command for Learn<'_> {
     }
 }
 
-impl command_runs::Command for LearnByCosts<'_> {
+impl command_runs::TextCommand for LearnByCosts<'_> {
     ghost use Rattle.audit_cli.specs.Learn.{LearnByCostsComesTo};
-    ghost use Rattle.audit_cli.specs.Commands.{lesson_by_costs};
+    ghost use Rattle.audit_cli.specs.Commands.{learn_arguments_by_costs};
 
     ghost takes = { 2 };
 
-    ghost comes = { λ l texts o. LearnByCostsComesTo (lesson_by_costs l) texts o };
+    ghost comes = { λ l texts o. LearnByCostsComesTo (learn_arguments_by_costs l) texts o };
 
     fn compute<L: Ledger>(
         &self,

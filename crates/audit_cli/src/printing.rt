@@ -4,7 +4,7 @@ ghost use Rattle.audit_cli.specs.Printed.{report_of, image_line, entries_line, l
 ghost use Rattle.command_runs.specs.Outcomes.{outcome_view};
 ghost use Rattle.command_runs.specs.Plans.{Does};
 
-use command_runs::{Deed, Outcome};
+use command_runs::{KeptText, Outcome};
 use std::alloc::{AllocError, Global};
 
 /// What is printed of a rewritten listing: how many replacements were made, and how many instructions there were before and after.
@@ -113,9 +113,9 @@ pub fn keeps_text(
 ) -> Result<Outcome, AllocError>
     ensures { IfOk result (λ o. outcome_view o ≡ Does ((name.now, text.items) ∷ []) lines.items) }
 {
-    let deed = Deed::new(alloc, name, text)?;
+    let keep = KeptText::new(alloc, name, text)?;
     let mut keeps = Vec::new(alloc);
-    keeps.push(deed)?;
+    keeps.push(keep)?;
     Ok(Outcome::Does { keeps, lines })
 }
 
@@ -130,10 +130,10 @@ pub fn keeps_two(
 ) -> Result<Outcome, AllocError>
     ensures { IfOk result (λ o. outcome_view o ≡ Does ((name.now, text.items) ∷ (other_name.now, other.items) ∷ []) lines.items) }
 {
-    let deed = Deed::new(alloc, name, text)?;
-    let other_deed = Deed::new(alloc, other_name, other)?;
+    let keep = KeptText::new(alloc, name, text)?;
+    let other_keep = KeptText::new(alloc, other_name, other)?;
     let mut keeps = Vec::new(alloc);
-    keeps.push(deed)?;
-    keeps.push(other_deed)?;
+    keeps.push(keep)?;
+    keeps.push(other_keep)?;
     Ok(Outcome::Does { keeps, lines })
 }

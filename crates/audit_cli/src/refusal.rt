@@ -5,7 +5,7 @@ ghost use Rattle.command_runs.specs.Plans.{Refuses};
 ghost use Rattle.audit_cli.specs.Printed.{family_words, fault_words, kind_number, refusal_line};
 
 use command_runs::Outcome;
-use listing_parser::Kind;
+use listing_parser::ListingFault;
 use std::alloc::{AllocError, Global};
 use table_audit::{EntryFault, FamilyKind};
 
@@ -25,7 +25,7 @@ pub(crate) enum Refusal {
     /// There is no such entry.
     Number,
     /// The line is the first that makes a text no listing.
-    Listing { line: u64, kind: Kind },
+    Listing { line: u64, kind: ListingFault },
     /// The line is the first that cannot be laid out: what it mentions is that many bytes away.
     Range { line: u64, distance: i64 },
     /// The line is the first that cannot be laid out: what it mentions lies at that address, which is no multiple of 4.
@@ -49,7 +49,7 @@ pub(crate) enum Refusal {
 }
 
 /// The number of a kind of refusal.
-fn kind_number(kind: Kind) -> u8
+fn kind_number(kind: ListingFault) -> u8
     ensures { result ≡ kind_number kind }
 {
     kind as u8
@@ -137,7 +137,7 @@ fn number_line(alloc: Global) -> Result<Vec<u8>, AllocError>
 }
 
 /// `refused listing LINE KIND`
-fn listing_line(alloc: Global, line: u64, kind: Kind) -> Result<Vec<u8>, AllocError>
+fn listing_line(alloc: Global, line: u64, kind: ListingFault) -> Result<Vec<u8>, AllocError>
     ensures { IfOk result (λ v. v.items ≡ refusal_line (Refusal.Listing line kind)) }
 {
     let number = kind_number(kind);

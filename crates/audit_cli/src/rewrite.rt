@@ -179,7 +179,7 @@ fn outcome<L: Ledger>(
     }
 }
 
-impl command_runs::Command for Rewrite<'_> {
+impl command_runs::TextCommand for Rewrite<'_> {
     ghost use Rattle.audit_cli.specs.Rewrite.{RewriteComesTo};
     ghost use Rattle.audit_cli.specs.Commands.{destination_of};
 

@@ -22,8 +22,8 @@ ghost use Rattle.audit_cli.specs.Rewrite.{instruction_count};
 use crate::audit::open_count;
 use crate::printing::{image_report, learnt_report, report};
 use crate::refusal::Refusal;
-use label_layout::{Kind as LayoutKind, Layout, LayoutError, layout};
-use listing_parser::{Line, Listing, ListingError, Statement, parse};
+use label_layout::{Layout, LayoutError, LayoutFault, layout};
+use listing_parser::{Listing, ListingError, ListingLine, Statement, parse};
 use liveness::live;
 use rule_table::{Table, TableError, read_table};
 use std::alloc::{AllocError, Global};
@@ -98,12 +98,12 @@ pub(crate) fn read_listing(
 }
 
 /// The refusal of a line that cannot be laid out.
-pub(crate) fn unlaid(line: u64, kind: LayoutKind) -> Refusal
+pub(crate) fn unlaid(line: u64, kind: LayoutFault) -> Refusal
     ensures { result ≡ unlaid_refusal line (fault_of kind) }
 {
     match kind {
-        LayoutKind::Range(distance) => Refusal::Range { line, distance },
-        LayoutKind::Align(address) => Refusal::Align { line, address },
+        LayoutFault::Range(distance) => Refusal::Range { line, distance },
+        LayoutFault::Align(address) => Refusal::Align { line, address },
     }
 }
 
@@ -214,14 +214,14 @@ pub(crate) struct Counts {
 }
 
 /// Whether a line holds an instruction.
-fn is_instruction(line: &Line) -> bool
+fn is_instruction(line: &ListingLine) -> bool
     ensures { result ≡ is_op (line_view line.now).statement }
 {
-    matches!(line.statement, Statement::Runs { .. })
+    matches!(line.statement, Statement::Instruction { .. })
 }
 
 /// How many instructions the lines hold.
-pub(crate) fn instruction_count(lines: &[Line]) -> u64
+pub(crate) fn instruction_count(lines: &[ListingLine]) -> u64
     ensures { result ≡ instruction_count (map line_view lines.now) }
 {
     let mut count = 0;

@@ -90,7 +90,7 @@ fn outcome<L: Ledger>(
     }
 }
 
-impl command_runs::Command for Tidy<'_> {
+impl command_runs::TextCommand for Tidy<'_> {
     ghost use Rattle.audit_cli.specs.Tidy.{TidyComesTo};
 
     ghost takes = { 1 };

@@ -4,7 +4,7 @@ ghost use Rattle.thumb_model.specs.Listing.{code_of, place_of};
 ghost use Rattle.thumb_model.specs.Layout.{Layable};
 ghost use Rattle.label_layout.specs.Addresses.{AreAddresses};
 ghost use Rattle.command_runs.specs.Outcomes.{outcome_view};
-ghost use Rattle.audit_cli.specs.Commands.{journey_of};
+ghost use Rattle.audit_cli.specs.Commands.{trace_arguments_of};
 ghost use Rattle.audit_cli.specs.Trace.{LinesTrace, Traces};
 
 use crate::printing::prints;
@@ -39,7 +39,7 @@ fn traced(
     requires base { laid.now.base ≡ 0 }
     requires layable { Layable 0 listing.now }
     requires label { place_of (code_of listing.now) trace.now.label.now ≡ Some place }
-    ensures { IfOk result (λ o. LinesTrace (journey_of trace.now) listing.now (outcome_view o)) }
+    ensures { IfOk result (λ o. LinesTrace (trace_arguments_of trace.now) listing.now (outcome_view o)) }
 {
     let naming = Naming::laid(alloc, listing, laid)?;
     let state = state(alloc, place);
@@ -58,7 +58,7 @@ fn listing_outcome(
     trace: &Trace<'_>,
     listing: &Listing,
 ) -> Result<Outcome, AllocError>
-    ensures { IfOk result (λ o. LinesTrace (journey_of trace.now) listing.now (outcome_view o)) }
+    ensures { IfOk result (λ o. LinesTrace (trace_arguments_of trace.now) listing.now (outcome_view o)) }
 {
     match lay_out(alloc, listing, 0)? {
         Err(refusal) => {
@@ -80,7 +80,7 @@ fn listing_outcome(
 
 /// What a text comes to.
 fn outcome(alloc: Global, trace: &Trace<'_>, text: &[u8]) -> Result<Outcome, AllocError>
-    ensures { IfOk result (λ o. Traces (journey_of trace.now) text.now (outcome_view o)) }
+    ensures { IfOk result (λ o. Traces (trace_arguments_of trace.now) text.now (outcome_view o)) }
 {
     match read_listing(alloc, text)? {
         Err(refusal) => {
@@ -94,13 +94,13 @@ fn outcome(alloc: Global, trace: &Trace<'_>, text: &[u8]) -> Result<Outcome, All
     }
 }
 
-impl command_runs::Command for Trace<'_> {
+impl command_runs::TextCommand for Trace<'_> {
     ghost use Rattle.audit_cli.specs.Trace.{TraceComesTo};
-    ghost use Rattle.audit_cli.specs.Commands.{journey_of};
+    ghost use Rattle.audit_cli.specs.Commands.{trace_arguments_of};
 
     ghost takes = { 1 };
 
-    ghost comes = { λ t texts o. TraceComesTo (journey_of t) texts o };
+    ghost comes = { λ t texts o. TraceComesTo (trace_arguments_of t) texts o };
 
     fn compute<L: Ledger>(
         &self,

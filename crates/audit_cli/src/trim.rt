@@ -212,7 +212,7 @@ fn outcome<L: Ledger>(
     }
 }
 
-impl command_runs::Command for Trim<'_> {
+impl command_runs::TextCommand for Trim<'_> {
     ghost use Rattle.audit_cli.specs.Trim.{TrimComesTo};
 
     ghost takes = { 1 };

@@ -72,7 +72,7 @@ fn outcome<L: Ledger>(
     }
 }
 
-impl command_runs::Command for Upgrade<'_> {
+impl command_runs::TextCommand for Upgrade<'_> {
     ghost use Rattle.audit_cli.specs.Upgrade.{UpgradeComesTo};
 
     ghost takes = { 1 };

@@ -10,8 +10,8 @@ use Rattle.word_bits.specs.Word.{sum_of, shift_of, shifted, last_out}
 use Rattle.word_bits.proofs.Successive.{shift_of-some}
 use Rattle.thumb_instr.specs.declared.instr.Instr.{Instr}
 use Rattle.thumb_instr.specs.declared.instr.Instr.TheVariants as instr
-use Rattle.thumb_instr.specs.declared.operation.Sum.{Sum}
-use Rattle.thumb_instr.specs.declared.operation.Sum.TheVariants as sum
+use Rattle.thumb_instr.specs.declared.operation.SumOperation.{SumOperation}
+use Rattle.thumb_instr.specs.declared.operation.SumOperation.TheVariants as sum
 use Rattle.thumb_instr.specs.declared.operation.Right.{Right}
 use Rattle.thumb_instr.specs.declared.operation.Right.TheVariants as right
 use Rattle.thumb_instr.specs.declared.operation.Operation.{Operation}
@@ -34,7 +34,7 @@ use Rattle.bit_blast.specs.declared.slots.Slot.TheVariants.{Plain, Hole}
 use Rattle.bit_blast.specs.Slots.{Byte, filled as filled_slot, target_of, slot_target, IsSlotOver, AreSlotsOver}
 use Rattle.bit_blast.specs.Words.{bit_of, filled, constant, inverted, moved, moved_out, extended, turned}
 use Rattle.bit_blast.specs.Circuits.{each_of, none_of, add_of, product_from, Shifted, shift_by, rotate_by}
-use Rattle.bit_blast.specs.Forming.{Bits, Outcome, word, result_of, summed, joined_of, shifted_of, rotated_of, multiplied_of, unflagged, flags_alone, three_of, two_of, byte_of, number_shift, outcome_of, slot_outcome, written, formed, formed_all}
+use Rattle.bit_blast.specs.Forming.{Bits, ResultBits, word, result_of, summed, joined_of, shifted_of, rotated_of, multiplied_of, unflagged, flags_alone, three_of, two_of, byte_of, number_shift, outcome_of, slot_outcome, written, formed, formed_all}
 use Rattle.bit_blast.specs.Exactness.{number_of, values_at}
 use Rattle.bit_blast.proofs.Steps.{Goes, Goes-none, Goes-map, Goes-then, Goes-within, WordGives}
 use Rattle.bit_blast.proofs.Numbers.{number_at, complement_is, length-inverted, AllBelow-inverted, bit_below}
@@ -47,11 +47,11 @@ use Rattle.bit_blast.proofs.Outputs.{Numbers, all_outputs, result_numbers, sum_n
 
 -- ---- outcomes
 
-abbrev pub numbers_of : (ℕ → Bool) → Outcome → Numbers
+abbrev pub numbers_of : (ℕ → Bool) → ResultBits → Numbers
 numbers_of m o = record { value = number_of m o.value; n = from_bool (bit_value m o.n); z = from_bool (bit_value m o.z); c = from_bool (bit_value m o.c); v = from_bool (bit_value m o.v) }
 
 -- bits of what was built, and a whole word
-pub record IsOutcome (v : ℕ) (o : Outcome) : Type 0 where
+pub record IsOutcome (v : ℕ) (o : ResultBits) : Type 0 where
   pub value : AllBelow v o.value
   pub wide : length o.value ≡ 32
   pub n_of : BitBelow v o.n
@@ -60,19 +60,19 @@ pub record IsOutcome (v : ℕ) (o : Outcome) : Type 0 where
   pub v_of : BitBelow v o.v
 
 -- what a step for an outcome gives
-pub record OutcomeGives (n : ℕ) (b : Built) (step : Built → Built × Outcome) (f : (ℕ → Bool) → Numbers) : Type 0 where
+pub record OutcomeGives (n : ℕ) (b : Built) (step : Built → Built × ResultBits) (f : (ℕ → Bool) → Numbers) : Type 0 where
   pub goes : Goes n b step
   pub is : IsOutcome (step b).0.variables (step b).1
   pub value : (m : ℕ → Bool) → GatesHold m (step b).0.gates → numbers_of m (step b).1 ≡ f m
 
 -- the same numbers, said in another way
-at_numbers : (n : ℕ) (b : Built) (step : Built → Built × Outcome) (f g : (ℕ → Bool) → Numbers) → ((m : ℕ → Bool) → f m ≡ g m) → OutcomeGives n b step f → OutcomeGives n b step g
+at_numbers : (n : ℕ) (b : Built) (step : Built → Built × ResultBits) (f g : (ℕ → Bool) → Numbers) → ((m : ℕ → Bool) → f m ≡ g m) → OutcomeGives n b step f → OutcomeGives n b step g
 at_numbers n b step f g e h = record { goes = h.goes; is = h.is; value = λ m holds. h.value m holds ∙ e m }
 
-within : (n k : ℕ) (b : Built) (step : Built → Built × Outcome) (f : (ℕ → Bool) → Numbers) → n ≤ k → OutcomeGives n b step f → OutcomeGives k b step f
+within : (n k : ℕ) (b : Built) (step : Built → Built × ResultBits) (f : (ℕ → Bool) → Numbers) → n ≤ k → OutcomeGives n b step f → OutcomeGives k b step f
 within n k b step f le h = record { goes = Goes-within n k b step le h.goes; is = h.is; value = h.value }
 
-abbrev outcome : List Bit → Bit → Bit → Bit → Bit → Outcome
+abbrev outcome : List Bit → Bit → Bit → Bit → Bit → ResultBits
 outcome value n z c v = record { value = value; n = n; z = z; c = c; v = v }
 
 from_numbers : (x n z n' z' c v : ℕ) → n ≡ n' → z ≡ z' → (let a : Numbers = record { value = x; n = n; z = z; c = c; v = v } in a) ≡ record { value = x; n = n'; z = z'; c = c; v = v }
@@ -146,7 +146,7 @@ summed_gives low b xs ys c wx wy k px py pc =
     }
 
 -- a step whose target keeps its bits
-alone_gives : (n : ℕ) (b : Built) (x : List Bit) (step : Built → Built × Outcome) (f : (ℕ → Bool) → Numbers) → length x ≡ 32 → AllBelow b.variables x → OutcomeGives n b step f
+alone_gives : (n : ℕ) (b : Built) (x : List Bit) (step : Built → Built × ResultBits) (f : (ℕ → Bool) → Numbers) → length x ≡ 32 → AllBelow b.variables x → OutcomeGives n b step f
     → OutcomeGives n b (λ d. flags_alone x (step d)) (λ m. kept_numbers (number_of m x) (f m))
 alone_gives n b x step f wide px h = record {
   goes = Goes-map n b (λ o. outcome x o.n o.z o.c o.v) step h.goes;
@@ -220,7 +220,7 @@ same_word b xs f wide px e = record { goes = Goes-none 0 b xs; below = px; lengt
 inverted_wide : (ys : List Bit) → length ys ≡ 32 → length (inverted ys) ≡ 32
 inverted_wide ys wy = length-inverted ys ∙ wy
 
-three_gives : (low : ℕ) (b : Built) (o : Sum) (xs ys : List Bit) → length xs ≡ 32 → length ys ≡ 32 → Ready low b → AllBelow b.variables xs → AllBelow b.variables ys
+three_gives : (low : ℕ) (b : Built) (o : SumOperation) (xs ys : List Bit) → length xs ≡ 32 → length ys ≡ 32 → Ready low b → AllBelow b.variables xs → AllBelow b.variables ys
     → OutcomeGives 193 b (λ d. three_of o d xs ys) (λ m. sum_numbers (three_sum o (number_of m xs) (number_of m ys)))
 three_gives low b sum.Add xs ys wx wy k px py = summed_gives low b xs ys (Constant false) wx wy k px py tt
 three_gives low b sum.Sub xs ys wx wy k px py =
@@ -350,7 +350,7 @@ module _ (low : ℕ) (b : Built) (s : Bits) (k : Ready low b) (are : AreOf b.var
   below_at : (x : ℕ) → AllBelow b.variables (word s.r x)
   below_at x = word_below b.variables s.r x are.words
 
-  three_at : (o : Sum) (x : ℕ) (ys : List Bit) (y : (ℕ → Bool) → ℕ) → x < length s.r → x < 8 → length ys ≡ 32 → AllBelow b.variables ys → ((m : ℕ → Bool) → number_of m ys ≡ y m)
+  three_at : (o : SumOperation) (x : ℕ) (ys : List Bit) (y : (ℕ → Bool) → ℕ) → x < length s.r → x < 8 → length ys ≡ 32 → AllBelow b.variables ys → ((m : ℕ → Bool) → number_of m ys ≡ y m)
       → OutcomeGives 193 b (λ d. three_of o d (word s.r x) ys) (λ m. sum_numbers (three_sum o (values_at m s x) (y m)))
   three_at o x ys y h small wy py e =
       at_numbers 193 b (λ d. three_of o d (word s.r x) ys) (λ m. sum_numbers (three_sum o (number_of m (word s.r x)) (number_of m ys))) (λ m. sum_numbers (three_sum o (values_at m s x) (y m)))
@@ -494,7 +494,7 @@ is_register x d h t = let e : x ≡ d = eqb-true x d t in lt-ltb x 15 (omega ari
 no_flag : (x d f : ℕ) → d < 15 → 15 ≤ f → eqb x d ≡ true → eqb x f ≡ false
 no_flag x d f h g t = let e : x ≡ d = eqb-true x d t in ne_eqb x f (λ q. omega arith)
 
-written_values : (m : ℕ → Bool) (s : Bits) (o : Outcome) (d x : ℕ) → d < 8 → d < length s.r → values_at m (written d o s) x ≡ assigned (all_outputs d (numbers_of m o)) (values_at m s) x
+written_values : (m : ℕ → Bool) (s : Bits) (o : ResultBits) (d x : ℕ) → d < 8 → d < length s.r → values_at m (written d o s) x ≡ assigned (all_outputs d (numbers_of m o)) (values_at m s) x
 written_values m s o d x small h =
     ap (λ r. cond (eqb x n_flag) (from_bool (bit_value m o.n)) (cond (eqb x z_flag) (from_bool (bit_value m o.z)) (cond (eqb x c_flag) (from_bool (bit_value m o.c)) (cond (eqb x v_flag) (from_bool (bit_value m o.v)) r))))
     (ap (λ r. cond (ltb x 15) r 0) (number_set m s.r d x o.value h) ∙ register_test (eqb x d) (ltb x 15) (number_of m o.value) (number_of m (word s.r x)) (is_register x d small))

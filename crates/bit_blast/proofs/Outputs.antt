@@ -7,7 +7,7 @@ use Rattle.word_bits.specs.declared.Shift.TheVariants as shift
 use Rattle.word_bits.specs.Word.{sum_of, shift_of}
 use Rattle.thumb_instr.specs.declared.instr.Instr.{Instr}
 use Rattle.thumb_instr.specs.declared.instr.Instr.TheVariants as instr
-use Rattle.thumb_instr.specs.declared.operation.Sum.TheVariants as sum
+use Rattle.thumb_instr.specs.declared.operation.SumOperation.TheVariants as sum
 use Rattle.thumb_instr.specs.declared.operation.Operation.{Operation}
 use Rattle.thumb_instr.specs.declared.operation.Operation.TheVariants as operation
 use Rattle.thumb_instr.specs.declared.operation.ByteOperation.{ByteOperation}

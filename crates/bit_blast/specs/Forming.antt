@@ -4,8 +4,8 @@ use Rattle.word_bits.specs.declared.Shift.{Shift}
 use Rattle.word_bits.specs.declared.Shift.TheVariants as shift
 use Rattle.thumb_instr.specs.declared.instr.Instr.{Instr}
 use Rattle.thumb_instr.specs.declared.instr.Instr.TheVariants as instr
-use Rattle.thumb_instr.specs.declared.operation.Sum.{Sum}
-use Rattle.thumb_instr.specs.declared.operation.Sum.TheVariants as sum
+use Rattle.thumb_instr.specs.declared.operation.SumOperation.{SumOperation}
+use Rattle.thumb_instr.specs.declared.operation.SumOperation.TheVariants as sum
 use Rattle.thumb_instr.specs.declared.operation.Operation.{Operation}
 use Rattle.thumb_instr.specs.declared.operation.Operation.TheVariants as operation
 use Rattle.thumb_instr.specs.declared.operation.ByteOperation.{ByteOperation}
@@ -31,7 +31,7 @@ pub record Bits : Type 0 where
   pub v : Bit
 
 -- what an instruction leaves: the bits of its target and the flags
-pub record Outcome : Type 0 where
+pub record ResultBits : Type 0 where
   pub value : List Bit
   pub n : Bit
   pub z : Bit
@@ -45,46 +45,46 @@ word rs i = slice_index_or rs i []
 -- ---- what is common
 
 -- a result with its N and Z, and these C and V: N is its highest bit, and Z is formed after it
-abbrev pub result_of : Built → List Bit → Bit → Bit → Built × Outcome
+abbrev pub result_of : Built → List Bit → Bit → Bit → Built × ResultBits
 result_of b value c v =
     let z = none_of b value (Constant true) in
     (z.0, record { value = value; n = bit_of value 31; z = z.1; c = c; v = v })
 
 -- a sum with all its flags
-abbrev pub summed : Built → List Bit → List Bit → Bit → Built × Outcome
+abbrev pub summed : Built → List Bit → List Bit → Bit → Built × ResultBits
 summed b x y c =
     let s = add_of b x y c in
     result_of s.0 s.1.value s.1.carry s.1.overflow
 
 -- a gate of the bits of two words, a shift and a rotation by a register, and a product, each with its flags
-abbrev pub joined_of : Connective → Built → List Bit → List Bit → Bits → Built × Outcome
+abbrev pub joined_of : Connective → Built → List Bit → List Bit → Bits → Built × ResultBits
 joined_of gate b x y s = let r = each_of gate b x y in result_of r.0 r.1 s.c s.v
 
-abbrev pub shifted_of : Shift → Built → List Bit → List Bit → Bits → Built × Outcome
+abbrev pub shifted_of : Shift → Built → List Bit → List Bit → Bits → Built × ResultBits
 shifted_of kind b x y s = let r = shift_by kind b y (record { value = x; carry = s.c }) in result_of r.0 r.1.value r.1.carry s.v
 
-abbrev pub rotated_of : Built → List Bit → List Bit → Bits → Built × Outcome
+abbrev pub rotated_of : Built → List Bit → List Bit → Bits → Built × ResultBits
 rotated_of b x y s = let r = rotate_by b y (record { value = x; carry = s.c }) in result_of r.0 r.1.value r.1.carry s.v
 
-abbrev pub multiplied_of : Built → List Bit → List Bit → Bits → Built × Outcome
+abbrev pub multiplied_of : Built → List Bit → List Bit → Bits → Built × ResultBits
 multiplied_of b x y s = let r = product_from b 0 x y (filled (Constant false)) in result_of r.0 r.1 s.c s.v
 
 -- a word with the flags as they are
-abbrev pub unflagged : List Bit → Bits → Outcome
+abbrev pub unflagged : List Bit → Bits → ResultBits
 unflagged value s = record { value = value; n = s.n; z = s.z; c = s.c; v = s.v }
 
 -- the flags alone: the target keeps its bits x
-abbrev pub flags_alone : List Bit → Built × Outcome → Built × Outcome
+abbrev pub flags_alone : List Bit → Built × ResultBits → Built × ResultBits
 flags_alone x r = (r.0, record r.1 { value = x })
 
 -- ---- by operation
 
-abbrev pub three_of : Sum → Built → List Bit → List Bit → Built × Outcome
+abbrev pub three_of : SumOperation → Built → List Bit → List Bit → Built × ResultBits
 three_of sum.Add b x y = summed b x y (Constant false)
 three_of sum.Sub b x y = summed b x (inverted y) (Constant true)
 
 -- on the bits x of the target and y of the other register
-abbrev pub two_of : Operation → Built → List Bit → List Bit → Bits → Built × Outcome
+abbrev pub two_of : Operation → Built → List Bit → List Bit → Bits → Built × ResultBits
 two_of operation.And b x y s = joined_of And b x y s
 two_of operation.Eor b x y s = joined_of Xor b x y s
 two_of operation.Lsl b x y s = shifted_of shift.Lsl b x y s
@@ -103,19 +103,19 @@ two_of operation.Bic b x y s = joined_of And b x (inverted y) s
 two_of operation.Mvn b x y s = result_of b (inverted y) s.c s.v
 
 -- on the bits x of the target and those of a number
-abbrev pub byte_of : ByteOperation → Built → List Bit → List Bit → Bits → Built × Outcome
+abbrev pub byte_of : ByteOperation → Built → List Bit → List Bit → Bits → Built × ResultBits
 byte_of byte.Mov b x n s = result_of b n s.c s.v
 byte_of byte.Cmp b x n s = flags_alone x (three_of sum.Sub b x n)
 byte_of byte.Add b x n s = three_of sum.Add b x n
 byte_of byte.Sub b x n s = three_of sum.Sub b x n
 
 -- a shift by a number of places, which isn't 0
-abbrev pub number_shift : Shift → Built → List Bit → ℕ → Bits → Built × Outcome
+abbrev pub number_shift : Shift → Built → List Bit → ℕ → Bits → Built × ResultBits
 number_shift kind b x n s = result_of b (moved kind n x) (moved_out kind n x) s.v
 
 -- ---- by instruction
 
-abbrev pub outcome_of : Built → Instr → Bits → Built × Outcome
+abbrev pub outcome_of : Built → Instr → Bits → Built × ResultBits
 outcome_of b (instr.Mov d m) s = (b, unflagged (word s.r m.number) s)
 outcome_of b (instr.Three o d n m) s = three_of o b (word s.r n.number) (word s.r m.number)
 outcome_of b (instr.Two o d m) s = two_of o b (word s.r d.number) (word s.r m.number) s
@@ -130,12 +130,12 @@ outcome_of b (instr.Reverse r d m) s = (b, unflagged (turned r (word s.r m.numbe
 outcome_of b i s = (b, unflagged (word s.r 0) s)
 
 -- the bits with an outcome written
-abbrev pub written : ℕ → Outcome → Bits → Bits
+abbrev pub written : ℕ → ResultBits → Bits → Bits
 written d o s = record { r = slice_set s.r d o.value; n = o.n; z = o.z; c = o.c; v = o.v }
 
 -- ---- by slot, where w are the bits of the symbol's value
 
-abbrev pub slot_outcome : List Bit → Built → Slot → Bits → Built × Outcome
+abbrev pub slot_outcome : List Bit → Built → Slot → Bits → Built × ResultBits
 slot_outcome w b (Plain i) s = outcome_of b i s
 slot_outcome w b (Hole o d) s = byte_of o b (word s.r d.number) w s
 

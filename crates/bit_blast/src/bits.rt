@@ -7,9 +7,9 @@ ghost use Rattle.bit_blast.specs.Differences.{input_word, low_inputs, start_bits
 ghost use Rattle.cnf_gates.specs.Gates.{nothing_built};
 
 use crate::circuits::{Total, add};
-use crate::forming::{Outcome, byte, number_shift, result, right, three, two, unflagged};
+use crate::forming::{ResultBits, byte, number_shift, result, right, three, two, unflagged};
 use crate::slots::Slot;
-use crate::words::{Word, constant, copied, extended, turned};
+use crate::words::{BitVector, constant, copied, extended, turned};
 use cnf_gates::{Bit, Builder, GateError};
 use std::alloc::Global;
 use std::marker::Model;
@@ -19,7 +19,7 @@ use word_bits::Shift;
 /// The registers and flags as bits.
 #[derive(Drop)]
 pub struct Bits {
-    pub registers: Vec<Word>,
+    pub registers: Vec<BitVector>,
     pub n: Bit,
     pub z: Bit,
     pub c: Bit,
@@ -35,7 +35,7 @@ impl Model for Bits {
 }
 
 /// A word of `n` inputs, and False above them.
-pub fn low_inputs(builder: &mut Builder, n: usize) -> Result<Word, GateError>
+pub fn low_inputs(builder: &mut Builder, n: usize) -> Result<BitVector, GateError>
     requires { n ≤ 32 }
     ensures { IfOk result (λ w. (builder.new ≡ record builder.old { variables = builder.old.variables + n }) × (w ≡ low_inputs builder.old.variables n)) }
 {
@@ -47,7 +47,7 @@ pub fn low_inputs(builder: &mut Builder, n: usize) -> Result<Word, GateError>
 }
 
 /// A word of inputs.
-fn input_bits(builder: &mut Builder) -> Result<Word, GateError>
+fn input_bits(builder: &mut Builder) -> Result<BitVector, GateError>
     ensures { IfOk result (λ w. (builder.new ≡ record builder.old { variables = builder.old.variables + 32 }) × (w ≡ input_word builder.old.variables)) }
 {
     low_inputs(builder, 32)
@@ -91,7 +91,7 @@ impl Bits {
     }
 
     /// The bits of a register.
-    fn word(&self, register: u32) -> &Word
+    fn word(&self, register: u32) -> &BitVector
         requires { register < length self.now.r }
         ensures { result.now ≡ word self.now.r register }
     {
@@ -99,7 +99,7 @@ impl Bits {
     }
 
     /// What an instruction leaves.
-    fn outcome(&self, builder: &mut Builder, instr: &Instr) -> Result<Outcome, GateError>
+    fn outcome(&self, builder: &mut Builder, instr: &Instr) -> Result<ResultBits, GateError>
         requires window { is_in_window instr.now ≡ true }
         requires registers { AreBelow (length self.now.r) (named instr.now) }
         ensures { IfOk result (λ o. (builder.new, o) ≡ outcome_of builder.old instr.now self.now) }
@@ -196,12 +196,12 @@ impl Bits {
     }
 
     /// Writes what an instruction leaves.
-    fn write(&mut self, target: u32, outcome: Outcome)
+    fn write(&mut self, target: u32, outcome: ResultBits)
         requires { target < length self.old.r }
         ensures count { length self.new.r ≡ length self.old.r }
         ensures exact { self.new ≡ written target outcome self.old }
     {
-        let Outcome { value, n, z, c, v } = outcome;
+        let ResultBits { value, n, z, c, v } = outcome;
         self.registers[target as usize] = value;
         self.n = n;
         self.z = z;
@@ -214,8 +214,8 @@ impl Bits {
         &self,
         builder: &mut Builder,
         slot: &Slot,
-        symbol: &Word,
-    ) -> Result<Outcome, GateError>
+        symbol: &BitVector,
+    ) -> Result<ResultBits, GateError>
         requires { IsSlotOver (length self.now.r) slot.now }
         ensures { IfOk result (λ o. (builder.new, o) ≡ slot_outcome symbol.now builder.old slot.now self.now) }
     {
@@ -232,7 +232,12 @@ impl Bits {
     }
 
     /// The registers and flags after a slot.
-    fn form(&mut self, builder: &mut Builder, slot: &Slot, symbol: &Word) -> Result<(), GateError>
+    fn form(
+        &mut self,
+        builder: &mut Builder,
+        slot: &Slot,
+        symbol: &BitVector,
+    ) -> Result<(), GateError>
         requires { IsSlotOver (length self.old.r) slot.now }
         ensures count { IfOk result (λ _. length self.new.r ≡ length self.old.r) }
         ensures exact { IfOk result (λ _. (builder.new, self.new) ≡ formed symbol.now builder.old slot.now self.old) }
@@ -247,7 +252,7 @@ impl Bits {
         &mut self,
         builder: &mut Builder,
         side: &[Slot],
-        symbol: &Word,
+        symbol: &BitVector,
     ) -> Result<(), GateError>
         requires { AreSlotsOver (length self.old.r) side.now }
         ensures count { IfOk result (λ _. length self.new.r ≡ length self.old.r) }

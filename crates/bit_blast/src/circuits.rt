@@ -5,7 +5,7 @@ ghost use Rattle.cnf_gates.specs.declared.bit.Bit.TheVariants.{Constant};
 ghost use Rattle.bit_blast.specs.Words.{filled};
 ghost use Rattle.bit_blast.specs.Circuits.{connected, each_of, choose_each, none_of, any_of, place_of, places_of, add_of, product_from};
 
-use crate::words::{Word, filled, moved};
+use crate::words::{BitVector, filled, moved};
 use cnf_gates::{Bit, Builder, GateError};
 use std::marker::Model;
 use word_bits::Shift;
@@ -30,7 +30,12 @@ fn connected(builder: &mut Builder, gate: Connective, x: &Bit, y: &Bit) -> Resul
 }
 
 /// A gate of two words' bits, from the lowest on.
-pub fn each(builder: &mut Builder, gate: Connective, x: &Word, y: &Word) -> Result<Word, GateError>
+pub fn each(
+    builder: &mut Builder,
+    gate: Connective,
+    x: &BitVector,
+    y: &BitVector,
+) -> Result<BitVector, GateError>
     ensures { IfOk result (λ r. (builder.new, r) ≡ each_of gate builder.old x.now y.now) }
 {
     let mut value = [Bit::Constant(false); 32];
@@ -41,7 +46,12 @@ pub fn each(builder: &mut Builder, gate: Connective, x: &Word, y: &Word) -> Resu
 }
 
 /// Where `a` holds the bits of `y`, and else those of `x`.
-pub fn choose(builder: &mut Builder, a: &Bit, y: &Word, x: &Word) -> Result<Word, GateError>
+pub fn choose(
+    builder: &mut Builder,
+    a: &Bit,
+    y: &BitVector,
+    x: &BitVector,
+) -> Result<BitVector, GateError>
     ensures { IfOk result (λ r. (builder.new, r) ≡ choose_each builder.old a.now y.now x.now) }
 {
     let mut value = [Bit::Constant(false); 32];
@@ -52,7 +62,7 @@ pub fn choose(builder: &mut Builder, a: &Bit, y: &Word, x: &Word) -> Result<Word
 }
 
 /// Whether none of the bits is true.
-pub fn none(builder: &mut Builder, bits: &Word) -> Result<Bit, GateError>
+pub fn none(builder: &mut Builder, bits: &BitVector) -> Result<Bit, GateError>
     ensures { IfOk result (λ r. (builder.new, r) ≡ none_of builder.old bits.now (Constant true)) }
 {
     let mut none = Bit::Constant(true);
@@ -76,7 +86,7 @@ pub fn any(builder: &mut Builder, bits: &[Bit]) -> Result<Bit, GateError>
 /// The bits of a sum, the last carry, and the carry into the highest bit.
 #[derive(Drop)]
 struct Places {
-    value: Word,
+    value: BitVector,
     carry: Bit,
     before: Bit,
 }
@@ -92,7 +102,7 @@ impl Model for Places {
 /// The bits of a sum, C and V.
 #[derive(Drop)]
 pub struct Total {
-    pub value: Word,
+    pub value: BitVector,
     pub carry: Bit,
     pub overflow: Bit,
 }
@@ -118,7 +128,12 @@ fn place(builder: &mut Builder, x: &Bit, y: &Bit, c: &Bit) -> Result<(Bit, Bit),
 }
 
 /// The places of a sum of two words and a carry.
-fn place_by_place(builder: &mut Builder, x: &Word, y: &Word, c: &Bit) -> Result<Places, GateError>
+fn place_by_place(
+    builder: &mut Builder,
+    x: &BitVector,
+    y: &BitVector,
+    c: &Bit,
+) -> Result<Places, GateError>
     ensures { IfOk result (λ r. (builder.new, r) ≡ places_of builder.old x.now y.now c.now c.now) }
 {
     let mut value = [Bit::Constant(false); 32];
@@ -138,7 +153,7 @@ fn place_by_place(builder: &mut Builder, x: &Word, y: &Word, c: &Bit) -> Result<
 }
 
 /// AddWithCarry: the sum of two words and a carry.
-pub fn add(builder: &mut Builder, x: &Word, y: &Word, c: &Bit) -> Result<Total, GateError>
+pub fn add(builder: &mut Builder, x: &BitVector, y: &BitVector, c: &Bit) -> Result<Total, GateError>
     ensures { IfOk result (λ r. (builder.new, r) ≡ add_of builder.old x.now y.now c.now) }
 {
     let Places {
@@ -156,7 +171,7 @@ pub fn add(builder: &mut Builder, x: &Word, y: &Word, c: &Bit) -> Result<Total, 
 }
 
 /// The low 32 bits of a product, by shifts and sums: a row for each bit of `y`.
-pub fn product(builder: &mut Builder, x: &Word, y: &Word) -> Result<Word, GateError>
+pub fn product(builder: &mut Builder, x: &BitVector, y: &BitVector) -> Result<BitVector, GateError>
     ensures { IfOk result (λ r. (builder.new, r) ≡ product_from builder.old 0 x.now y.now (filled (Constant false))) }
 {
     let mut sum = filled(&Bit::Constant(false));

@@ -7,37 +7,42 @@ ghost use Rattle.bit_blast.specs.Forming.{result_of, summed, unflagged, joined_o
 use crate::bits::Bits;
 use crate::circuits::{Connective, Total, add, each, none, product};
 use crate::shifts::{Shifted, rotate_by, shift_by};
-use crate::words::{Word, copied, filled, inverted, moved, moved_out};
+use crate::words::{BitVector, copied, filled, inverted, moved, moved_out};
 use cnf_gates::{Bit, Builder, GateError};
 use std::marker::Model;
-use thumb_instr::{ByteOperation, Operation, Right, Sum};
+use thumb_instr::{ByteOperation, Operation, Right, SumOperation};
 use word_bits::Shift;
 
 /// What an instruction leaves: the bits of its target and the flags.
 #[derive(Drop)]
-pub struct Outcome {
-    pub value: Word,
+pub struct ResultBits {
+    pub value: BitVector,
     pub n: Bit,
     pub z: Bit,
     pub c: Bit,
     pub v: Bit,
 }
 
-impl Model for Outcome {
-    ghost use Rattle.bit_blast.specs.Forming.{Outcome};
+impl Model for ResultBits {
+    ghost use Rattle.bit_blast.specs.Forming.{ResultBits};
 
-    ghost Value = { Outcome };
+    ghost Value = { ResultBits };
 
     ghost view = { λ o. record { value = o.value; n = o.n; z = o.z; c = o.c; v = o.v } };
 }
 
 /// A result with its N and Z, and these C and V.
-pub fn result(builder: &mut Builder, value: Word, c: &Bit, v: &Bit) -> Result<Outcome, GateError>
+pub fn result(
+    builder: &mut Builder,
+    value: BitVector,
+    c: &Bit,
+    v: &Bit,
+) -> Result<ResultBits, GateError>
     ensures { IfOk result (λ o. (builder.new, o) ≡ result_of builder.old value c.now v.now) }
 {
     let z = none(builder, &value)?;
     let n = value[31];
-    Ok(Outcome {
+    Ok(ResultBits {
         value,
         n,
         z,
@@ -47,7 +52,12 @@ pub fn result(builder: &mut Builder, value: Word, c: &Bit, v: &Bit) -> Result<Ou
 }
 
 /// A sum with all its flags.
-fn summed(builder: &mut Builder, x: &Word, y: &Word, c: &Bit) -> Result<Outcome, GateError>
+fn summed(
+    builder: &mut Builder,
+    x: &BitVector,
+    y: &BitVector,
+    c: &Bit,
+) -> Result<ResultBits, GateError>
     ensures { IfOk result (λ o. (builder.new, o) ≡ summed builder.old x.now y.now c.now) }
 {
     let Total {
@@ -59,10 +69,10 @@ fn summed(builder: &mut Builder, x: &Word, y: &Word, c: &Bit) -> Result<Outcome,
 }
 
 /// A word with the flags as they are.
-pub fn unflagged(value: Word, before: &Bits) -> Outcome
+pub fn unflagged(value: BitVector, before: &Bits) -> ResultBits
     ensures { result ≡ unflagged value before.now }
 {
-    Outcome {
+    ResultBits {
         value,
         n: before.n,
         z: before.z,
@@ -72,21 +82,26 @@ pub fn unflagged(value: Word, before: &Bits) -> Outcome
 }
 
 /// The flags alone: the target keeps its bits.
-fn flags_alone(target: &Word, outcome: Outcome) -> Outcome
+fn flags_alone(target: &BitVector, outcome: ResultBits) -> ResultBits
     ensures { result ≡ record outcome { value = target.now } }
 {
-    let Outcome { n, z, c, v, .. } = outcome;
+    let ResultBits { n, z, c, v, .. } = outcome;
     let value = copied(target);
-    Outcome { value, n, z, c, v }
+    ResultBits { value, n, z, c, v }
 }
 
 /// A sum or a difference.
-pub fn three(builder: &mut Builder, sum: Sum, x: &Word, y: &Word) -> Result<Outcome, GateError>
+pub fn three(
+    builder: &mut Builder,
+    sum: SumOperation,
+    x: &BitVector,
+    y: &BitVector,
+) -> Result<ResultBits, GateError>
     ensures { IfOk result (λ o. (builder.new, o) ≡ three_of sum builder.old x.now y.now) }
 {
     match sum {
-        Sum::Add => summed(builder, x, y, &Bit::Constant(false)),
-        Sum::Sub => summed(builder, x, &inverted(y), &Bit::Constant(true)),
+        SumOperation::Add => summed(builder, x, y, &Bit::Constant(false)),
+        SumOperation::Sub => summed(builder, x, &inverted(y), &Bit::Constant(true)),
     }
 }
 
@@ -104,10 +119,10 @@ pub fn right(shift: Right) -> Shift
 pub fn number_shift(
     builder: &mut Builder,
     kind: Shift,
-    x: &Word,
+    x: &BitVector,
     n: u32,
     before: &Bits,
-) -> Result<Outcome, GateError>
+) -> Result<ResultBits, GateError>
     requires some { 0 < n }
     requires within { n ≤ 32 }
     ensures { IfOk result (λ o. (builder.new, o) ≡ number_shift kind builder.old x.now n before.now) }
@@ -121,10 +136,10 @@ pub fn number_shift(
 fn joined(
     builder: &mut Builder,
     gate: Connective,
-    x: &Word,
-    y: &Word,
+    x: &BitVector,
+    y: &BitVector,
     before: &Bits,
-) -> Result<Outcome, GateError>
+) -> Result<ResultBits, GateError>
     ensures { IfOk result (λ o. (builder.new, o) ≡ joined_of gate builder.old x.now y.now before.now) }
 {
     let value = each(builder, gate, x, y)?;
@@ -132,7 +147,7 @@ fn joined(
 }
 
 /// A word and C, to be shifted.
-fn unshifted(x: &Word, before: &Bits) -> Shifted
+fn unshifted(x: &BitVector, before: &Bits) -> Shifted
     ensures { result ≡ record { value = x.now; carry = before.now.c } }
 {
     let value = copied(x);
@@ -146,10 +161,10 @@ fn unshifted(x: &Word, before: &Bits) -> Shifted
 fn shifted(
     builder: &mut Builder,
     kind: Shift,
-    x: &Word,
-    y: &Word,
+    x: &BitVector,
+    y: &BitVector,
     before: &Bits,
-) -> Result<Outcome, GateError>
+) -> Result<ResultBits, GateError>
     ensures { IfOk result (λ o. (builder.new, o) ≡ shifted_of kind builder.old x.now y.now before.now) }
 {
     let Shifted { value, carry } = shift_by(builder, kind, y, unshifted(x, before))?;
@@ -157,7 +172,12 @@ fn shifted(
 }
 
 /// A rotation by a register.
-fn rotated(builder: &mut Builder, x: &Word, y: &Word, before: &Bits) -> Result<Outcome, GateError>
+fn rotated(
+    builder: &mut Builder,
+    x: &BitVector,
+    y: &BitVector,
+    before: &Bits,
+) -> Result<ResultBits, GateError>
     ensures { IfOk result (λ o. (builder.new, o) ≡ rotated_of builder.old x.now y.now before.now) }
 {
     let Shifted { value, carry } = rotate_by(builder, y, &unshifted(x, before))?;
@@ -167,10 +187,10 @@ fn rotated(builder: &mut Builder, x: &Word, y: &Word, before: &Bits) -> Result<O
 /// A product.
 fn multiplied(
     builder: &mut Builder,
-    x: &Word,
-    y: &Word,
+    x: &BitVector,
+    y: &BitVector,
     before: &Bits,
-) -> Result<Outcome, GateError>
+) -> Result<ResultBits, GateError>
     ensures { IfOk result (λ o. (builder.new, o) ≡ multiplied_of builder.old x.now y.now before.now) }
 {
     let value = product(builder, x, y)?;
@@ -181,10 +201,10 @@ fn multiplied(
 pub fn two(
     builder: &mut Builder,
     operation: Operation,
-    x: &Word,
-    y: &Word,
+    x: &BitVector,
+    y: &BitVector,
     before: &Bits,
-) -> Result<Outcome, GateError>
+) -> Result<ResultBits, GateError>
     ensures { IfOk result (λ o. (builder.new, o) ≡ two_of operation builder.old x.now y.now before.now) }
 {
     match operation {
@@ -201,8 +221,8 @@ pub fn two(
             let zero = filled(&Bit::Constant(false));
             summed(builder, &inverted(y), &zero, &Bit::Constant(true))
         }
-        Operation::Cmp => Ok(flags_alone(x, three(builder, Sum::Sub, x, y)?)),
-        Operation::Cmn => Ok(flags_alone(x, three(builder, Sum::Add, x, y)?)),
+        Operation::Cmp => Ok(flags_alone(x, three(builder, SumOperation::Sub, x, y)?)),
+        Operation::Cmn => Ok(flags_alone(x, three(builder, SumOperation::Add, x, y)?)),
         Operation::Orr => joined(builder, Connective::Or, x, y, before),
         Operation::Mul => multiplied(builder, x, y, before),
         Operation::Bic => joined(builder, Connective::And, x, &inverted(y), before),
@@ -214,16 +234,16 @@ pub fn two(
 pub fn byte(
     builder: &mut Builder,
     operation: ByteOperation,
-    x: &Word,
-    number: &Word,
+    x: &BitVector,
+    number: &BitVector,
     before: &Bits,
-) -> Result<Outcome, GateError>
+) -> Result<ResultBits, GateError>
     ensures { IfOk result (λ o. (builder.new, o) ≡ byte_of operation builder.old x.now number.now before.now) }
 {
     match operation {
         ByteOperation::Mov => result(builder, copied(number), &before.c, &before.v),
-        ByteOperation::Cmp => Ok(flags_alone(x, three(builder, Sum::Sub, x, number)?)),
-        ByteOperation::Add => three(builder, Sum::Add, x, number),
-        ByteOperation::Sub => three(builder, Sum::Sub, x, number),
+        ByteOperation::Cmp => Ok(flags_alone(x, three(builder, SumOperation::Sub, x, number)?)),
+        ByteOperation::Add => three(builder, SumOperation::Add, x, number),
+        ByteOperation::Sub => three(builder, SumOperation::Sub, x, number),
     }
 }

@@ -6,7 +6,7 @@ ghost use Rattle.bit_blast.specs.Circuits.{stage_of, stages_from, shift_by, rota
 ghost use Rattle.bit_blast.specs.Words.{moved, moved_out};
 
 use crate::circuits::{any, choose};
-use crate::words::{Word, copied, fill, filled, moved, moved_out};
+use crate::words::{BitVector, copied, fill, filled, moved, moved_out};
 use cnf_gates::{Bit, Builder, GateError};
 use std::marker::Model;
 use word_bits::Shift;
@@ -14,7 +14,7 @@ use word_bits::Shift;
 /// A word and a carry.
 #[derive(Drop)]
 pub struct Shifted {
-    pub value: Word,
+    pub value: BitVector,
     pub carry: Bit,
 }
 
@@ -40,7 +40,7 @@ fn places(j: usize) -> usize
 fn stage(
     builder: &mut Builder,
     a: &Bit,
-    bits: &Word,
+    bits: &BitVector,
     out: &Bit,
     s: &Shifted,
 ) -> Result<Shifted, GateError>
@@ -55,7 +55,7 @@ fn stage(
 fn stages(
     builder: &mut Builder,
     kind: Shift,
-    amount: &Word,
+    amount: &BitVector,
     start: Shifted,
 ) -> Result<Shifted, GateError>
     ensures { IfOk result (λ r. (builder.new, r) ≡ stages_from kind builder.old 0 (take 6 amount.now) start) }
@@ -74,7 +74,7 @@ fn stages(
 pub fn shift_by(
     builder: &mut Builder,
     kind: Shift,
-    amount: &Word,
+    amount: &BitVector,
     start: Shifted,
 ) -> Result<Shifted, GateError>
     ensures { IfOk result (λ r. (builder.new, r) ≡ shift_by kind builder.old amount.now start) }
@@ -86,7 +86,11 @@ pub fn shift_by(
 }
 
 /// The stages of bits 0 to 4 of the amount as rotations, for the bits alone.
-fn rotations(builder: &mut Builder, amount: &Word, start: &Word) -> Result<Word, GateError>
+fn rotations(
+    builder: &mut Builder,
+    amount: &BitVector,
+    start: &BitVector,
+) -> Result<BitVector, GateError>
     ensures { IfOk result (λ r. (builder.new, r) ≡ rotations_from builder.old 0 (take 5 amount.now) start.now) }
 {
     let mut value = copied(start);
@@ -100,7 +104,7 @@ fn rotations(builder: &mut Builder, amount: &Word, start: &Word) -> Result<Word,
 /// ROR by the low byte of a word.
 pub fn rotate_by(
     builder: &mut Builder,
-    amount: &Word,
+    amount: &BitVector,
     start: &Shifted,
 ) -> Result<Shifted, GateError>
     ensures { IfOk result (λ r. (builder.new, r) ≡ rotate_by builder.old amount.now start.now) }

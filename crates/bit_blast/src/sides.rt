@@ -11,7 +11,7 @@ ghost use Rattle.bit_blast.specs.Exactness.{IsMaskOver, ModelsTell, TellersAreMo
 use crate::bits::{Bits, low_inputs};
 use crate::circuits::{Connective, each};
 use crate::slots::{Slot, Symbol, plain, slots};
-use crate::words::{Word, filled, inverted};
+use crate::words::{BitVector, filled, inverted};
 use cnf_gates::{Bit, Builder, Formula, GateError, Memory};
 use std::alloc::Global;
 use thumb_instr::items::{C, N, V, Z};
@@ -21,8 +21,8 @@ use thumb_instr::{Mask, Seq};
 fn push_word(
     builder: &mut Builder,
     found: &mut Vec<Bit>,
-    x: &Word,
-    y: &Word,
+    x: &BitVector,
+    y: &BitVector,
 ) -> Result<(), GateError>
     ensures { IfOk result (λ _. (builder.new, found.new.items) ≡ before_word found.old.items (each_of Xor builder.old x.now y.now)) }
 {
@@ -96,7 +96,7 @@ fn sides_from(
     alloc: Global,
     builder: &mut Builder,
     start: Bits,
-    symbol: &Word,
+    symbol: &BitVector,
     left: &[Slot],
     right: &[Slot],
     mask: Mask,
@@ -117,7 +117,7 @@ fn formula_from(
     alloc: Global,
     builder: Builder,
     start: Bits,
-    symbol: &Word,
+    symbol: &BitVector,
     left: &[Slot],
     right: &[Slot],
     mask: Mask,
@@ -159,7 +159,7 @@ fn symbol_inputs(
     builder: &mut Builder,
     symbol: Symbol,
     k: u8,
-) -> Result<Word, Memory>
+) -> Result<BitVector, Memory>
     requires { builder.old ≡ start_built k }
     ensures { IfOk result (λ w. (builder.new ≡ range_built k symbol) × (w ≡ low_inputs (32 * k + 4) 8)) }
 {

@@ -7,17 +7,17 @@ use thumb_instr::{Extension, Reversal};
 use word_bits::Shift;
 
 /// 32 bits, the lowest first.
-pub type Word = [Bit; 32];
+pub type BitVector = [Bit; 32];
 
 /// The same bit at each place.
-pub fn filled(bit: &Bit) -> Word
+pub fn filled(bit: &Bit) -> BitVector
     ensures { result ≡ filled bit.now }
 {
     [*bit; 32]
 }
 
 /// The bits of a number.
-pub fn constant(number: u32) -> Word
+pub fn constant(number: u32) -> BitVector
     ensures { result ≡ constant number }
 {
     let mut bits = [Bit::Constant(false); 32];
@@ -30,7 +30,7 @@ pub fn constant(number: u32) -> Word
 }
 
 /// The contrary of each bit.
-pub fn inverted(x: &Word) -> Word
+pub fn inverted(x: &BitVector) -> BitVector
     ensures { result ≡ inverted x.now }
 {
     let mut bits = [Bit::Constant(false); 32];
@@ -41,7 +41,7 @@ pub fn inverted(x: &Word) -> Word
 }
 
 /// The same bits once more.
-pub fn copied(x: &Word) -> Word
+pub fn copied(x: &BitVector) -> BitVector
     ensures { result ≡ x.now }
 {
     let mut bits = [Bit::Constant(false); 32];
@@ -52,7 +52,7 @@ pub fn copied(x: &Word) -> Word
 }
 
 /// A word of lower and upper bits.
-fn joined(low: &[Bit], high: &[Bit]) -> Word
+fn joined(low: &[Bit], high: &[Bit]) -> BitVector
     requires { length low.now + length high.now ≡ 32 }
     ensures { result ≡ low.now ++ high.now }
 {
@@ -68,7 +68,7 @@ fn joined(low: &[Bit], high: &[Bit]) -> Word
 }
 
 /// What a shift to the right fills with: False, or the highest bit.
-pub fn fill(kind: Shift, x: &Word) -> Bit
+pub fn fill(kind: Shift, x: &BitVector) -> Bit
     ensures { result ≡ fill kind x.now }
 {
     match kind {
@@ -78,7 +78,7 @@ pub fn fill(kind: Shift, x: &Word) -> Bit
 }
 
 /// The bits moved by `n` places, at most 32.
-pub fn moved(kind: Shift, n: usize, x: &Word) -> Word
+pub fn moved(kind: Shift, n: usize, x: &BitVector) -> BitVector
     requires { n ≤ 32 }
     ensures { result ≡ moved kind n x.now }
 {
@@ -94,7 +94,7 @@ pub fn moved(kind: Shift, n: usize, x: &Word) -> Word
 }
 
 /// The last bit that a move by `n` places takes out.
-pub fn moved_out(kind: Shift, n: usize, x: &Word) -> Bit
+pub fn moved_out(kind: Shift, n: usize, x: &BitVector) -> Bit
     requires some { 0 < n }
     requires within { n ≤ 32 }
     ensures { result ≡ moved_out kind n x.now }
@@ -106,7 +106,7 @@ pub fn moved_out(kind: Shift, n: usize, x: &Word) -> Bit
 }
 
 /// A byte or a halfword, extended to a word.
-pub fn extended(extension: Extension, x: &Word) -> Word
+pub fn extended(extension: Extension, x: &BitVector) -> BitVector
     ensures { result ≡ extended extension x.now }
 {
     match extension {
@@ -118,7 +118,7 @@ pub fn extended(extension: Extension, x: &Word) -> Word
 }
 
 /// The bytes in another order.
-pub fn turned(reversal: Reversal, x: &Word) -> Word
+pub fn turned(reversal: Reversal, x: &BitVector) -> BitVector
     ensures { result ≡ turned reversal x.now }
 {
     let bits = &x[..];
@@ -133,7 +133,7 @@ pub fn turned(reversal: Reversal, x: &Word) -> Word
 }
 
 /// A word of four bytes, the lowest first.
-fn of_bytes(a: &[Bit], b: &[Bit], c: &[Bit], d: &[Bit]) -> Word
+fn of_bytes(a: &[Bit], b: &[Bit], c: &[Bit], d: &[Bit]) -> BitVector
     requires a { length a.now ≡ 8 }
     requires b { length b.now ≡ 8 }
     requires c { length c.now ≡ 8 }

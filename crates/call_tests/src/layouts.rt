@@ -4,12 +4,12 @@ ghost use Rattle.thumb_model.specs.Listing.{places_of};
 
 use crate::windows::{uxtb, with_one};
 use label_layout::{Layout, layout};
-use listing_parser::{Line, Listing, parse};
+use listing_parser::{Listing, ListingLine, parse};
 use std::alloc::Global;
 use std::test::Fail;
 
 /// Whether two layouts tell the same addresses of a line's labels.
-fn are_one_at(line: &Line, laid: &Layout, other: &Layout) -> bool {
+fn are_one_at(line: &ListingLine, laid: &Layout, other: &Layout) -> bool {
     for name in &line.names {
         if laid.find_label(name) != other.find_label(name) {
             return false;

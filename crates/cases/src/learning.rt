@@ -20,7 +20,7 @@ fn is_learnt(version: u8) -> bool
 }
 
 /// What is learnt from the left side and the mask of a table's last entry, with the settings of its header, which is of a version that is learnt.
-fn lesson(given: &Given, mut table: Table) -> Option<Result<Table, LearnError>>
+fn learnt_table(given: &Given, mut table: Table) -> Option<Result<Table, LearnError>>
     requires { IsTable (table_of table) }
 {
     if !is_learnt(table.version) {
@@ -41,11 +41,11 @@ fn lesson(given: &Given, mut table: Table) -> Option<Result<Table, LearnError>>
 }
 
 pub(crate) fn learnt(given: &mut Given, rest: &str, out: &mut String) -> Option<()> {
-    let lesson = lesson(given, read(given, rest)?)?;
-    if let Ok(table) = &lesson {
+    let learnt_table = learnt_table(given, read(given, rest)?)?;
+    if let Ok(table) = &learnt_table {
         let written = write_table(given.alloc, table).ok()?;
         let text = written.strip_suffix(b"end\n")?;
         given.text = String::from_str(given.alloc, str::from_utf8(text).ok()?).ok()?;
     }
-    tell(out, lesson)
+    tell(out, learnt_table)
 }

@@ -1,7 +1,7 @@
 //! Cases of listings and where they lie: `printed TEXT`, `refused TEXT`, `laid BASE TEXT` and `addresses BASE TEXT`.
 use crate::printing::Answer;
 use crate::reading::Arguments;
-use label_layout::{Kind, Layout, LayoutError, layout};
+use label_layout::{Layout, LayoutError, LayoutFault, layout};
 use listing_parser::{Listing, ListingError, parse, print};
 use std::alloc::Global;
 
@@ -31,13 +31,13 @@ pub(crate) fn refused(alloc: Global, arguments: Arguments<'_>, answer: &mut Answ
 }
 
 /// Adds why a line can't be laid out.
-pub(crate) fn add_kind(kind: Kind, answer: &mut Answer) -> Option<()> {
+pub(crate) fn add_kind(kind: LayoutFault, answer: &mut Answer) -> Option<()> {
     match kind {
-        Kind::Range(distance) => {
+        LayoutFault::Range(distance) => {
             answer.word("range")?;
             answer.number(distance)
         }
-        Kind::Align(address) => {
+        LayoutFault::Align(address) => {
             answer.word("align")?;
             answer.number(i64::try_from(address).ok()?)
         }

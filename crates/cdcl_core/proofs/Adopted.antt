@@ -8,10 +8,10 @@ use Rattle.clause_arena.specs.Contents.{Clause, Content, HasLiteral, IsWhole, Wa
 use Rattle.unit_propagation.specs.Watching.{IsWatched, IsReason, IsAdded, IsLater}
 use Rattle.unit_propagation.proofs.Steps.{reason_later, Contains-part}
 use Rattle.unit_propagation.proofs.Walks.{known_later}
-use Rattle.cdcl_core.specs.Implied.{clauses_of, IsConflict, IsJustified, IsCovered, IsGround, Level, AreSpare}
+use Rattle.cdcl_core.specs.Implied.{clauses_of, IsConflict, IsJustified, IsCovered, BeginsAtRoot, Level, AreSpare}
 use Rattle.cdcl_core.specs.Searched.{IsBase}
 use Rattle.cdcl_core.proofs.Lists.{entry_cases, nothing_in}
-use Rattle.cdcl_core.proofs.Grounds.{covered_later, justified_later, ground_back}
+use Rattle.cdcl_core.proofs.Roots.{covered_later, justified_later, root_back}
 use Rattle.cdcl_core.proofs.Spare.{spare_added, spare_unit, spare_later, any_in as any_grown}
 
 pub any_first : (a clause : List ℕ) (l m : ℕ) → l ≡ get_or clause 0 l → 0 < length clause → m ≡ l → Contains a m → Any (Contains a) clause
@@ -166,14 +166,14 @@ module _ (clauses : List (List ℕ)) (size : ℕ) (content : Content) (refs : Li
   }
 
 -- and again before any decision
-pub base_back : (level : Level) (content : Content) (reasons rb : List (Option ℕ)) (trail tb refs : List ℕ) → IsGround level content reasons trail → refs ≡ level.references → tb ≡ take level.low trail → rb ≡ take level.low reasons → IsBase level.clauses level.size content refs rb tb None
+pub base_back : (level : Level) (content : Content) (reasons rb : List (Option ℕ)) (trail tb refs : List ℕ) → BeginsAtRoot level content reasons trail → refs ≡ level.references → tb ≡ take level.low trail → rb ≡ take level.low reasons → IsBase level.clauses level.size content refs rb tb None
 base_back level content reasons rb trail tb refs g r e f = rw (e, f) record {
   clauses_are = g.clauses;
   size_is = g.size;
   numbered_by = r ∙ sym g.references;
   attached = g.attached;
   known = g.known;
-  literals = (ground_back level content reasons trail g).literals;
+  literals = (root_back level content reasons trail g).literals;
   justified = subst (IsJustified content [] (take level.low reasons)) (sym g.base) g.justified;
   covered = λ _. subst (IsCovered content) (sym g.base) g.covered;
   spare = λ _. subst (AreSpare content (take level.low reasons)) (sym g.base) g.spare;

@@ -13,7 +13,7 @@ use Rattle.unit_propagation.specs.Watching.{IsReason}
 use Rattle.cdcl_core.specs.Implied.{clauses_of}
 use Rattle.cdcl_core.specs.Analysed.{AtConflict, LearnsFrom, Sees}
 use Rattle.cdcl_core.proofs.Lists.{take_cases, place_in, placed, part_has, place_in_part}
-use Rattle.cdcl_core.proofs.Grounds.{open_at}
+use Rattle.cdcl_core.proofs.Roots.{open_at}
 
 -- what a clause makes seen, one literal after the other
 pub sees_none : (trail seen : List ℕ) → All (Contains trail) seen → Sees trail [] seen seen

@@ -11,15 +11,15 @@ use Rattle.clause_model.proofs.LiteralLaws.{negated-negated}
 use Rattle.clause_model.proofs.Sound.{Contains-negated}
 use Rattle.clause_arena.specs.Contents.{Clause, Content, HasLiteral, IsWhole}
 use Rattle.unit_propagation.specs.Watching.{IsLater, Rule}
-use Rattle.cdcl_core.specs.Implied.{clauses_of, Level, level_of, IsConflict, IsGround, IsJustified, IsRefutable}
+use Rattle.cdcl_core.specs.Implied.{clauses_of, Level, level_of, IsConflict, BeginsAtRoot, IsJustified, IsRefutable}
 use Rattle.cdcl_core.specs.Held.{AreNumbered}
 use Rattle.cdcl_core.specs.Assumed.{CanFalsify, IsAssumed}
 use Rattle.cdcl_core.specs.Hinted.{HasReasons}
 use Rattle.cdcl_core.specs.Solved.{RefutesTidily, TidyPropagation}
 use Rattle.cdcl_core.proofs.Lists.{entry_append, entry_replicate, entry_take, grown_from_keeps}
-use Rattle.cdcl_core.proofs.Grounds.{ground_assumed, ground_later, ground_closed, justified_later, justified_assumed}
+use Rattle.cdcl_core.proofs.Roots.{root_assumed, root_later, root_closed, justified_later, justified_assumed}
 use Rattle.cdcl_core.proofs.Assumptions.{assumed_bounded}
-use Rattle.cdcl_core.proofs.Falsified.{back_ground, back_justified, back_falsifiable}
+use Rattle.cdcl_core.proofs.Falsified.{back_root, back_justified, back_falsifiable}
 
 -- the middle one of three lists
 middle : (xs ys zs : List ℕ) → take (length ys) (drop (length xs) ((xs ++ ys) ++ zs)) ≡ ys
@@ -54,13 +54,13 @@ tidy_here live givens literals hints g r =
 pub numbered_there : (live : ℕ → Option (List ℕ)) (content content' : Content) (ids : List ℕ) → content'.clauses ≡ content.clauses → AreNumbered live (clauses_of content) ids → AreNumbered live (clauses_of content') ids
 numbered_there live content content' ids e a = subst (λ (cs : List Clause). AreNumbered live (map (λ (c : Clause). c.literals) cs) ids) (sym e) a
 
-module _ (content : Content) (low : ℕ) (reasons : List (Option ℕ)) (trail : List ℕ) (g : IsGround (level_of content trail low) content reasons trail) (clause : List ℕ) (f : CanFalsify (length content.chains) (take low trail) clause)
+module _ (content : Content) (low : ℕ) (reasons : List (Option ℕ)) (trail : List ℕ) (g : BeginsAtRoot (level_of content trail low) content reasons trail) (clause : List ℕ) (f : CanFalsify (length content.chains) (take low trail) clause)
     (rb : List (Option ℕ)) (tb : List ℕ) (eb : tb ≡ take low trail) (er : rb ≡ take low reasons) (r1 : List (Option ℕ)) (t1 : List ℕ) (h : IsAssumed clause rb tb r1 t1) where
   abbrev level : Level
   level = level_of content trail low
 
-  pub denied_ground : IsGround level content r1 t1
-  denied_ground = ground_assumed level content rb tb (back_ground level content reasons rb trail tb g eb er) clause r1 t1 h (assumed_bounded (length content.chains) tb clause (back_falsifiable (length content.chains) low trail tb clause eb f) rb r1 t1 h)
+  pub denied_root : BeginsAtRoot level content r1 t1
+  denied_root = root_assumed level content rb tb (back_root level content reasons rb trail tb g eb er) clause r1 t1 h (assumed_bounded (length content.chains) tb clause (back_falsifiable (length content.chains) low trail tb clause eb f) rb r1 t1 h)
 
   -- the literals' contraries, said of what was added
   exactly : IsAssumed (map negated h.added) rb tb r1 t1
@@ -76,11 +76,11 @@ module _ (content : Content) (low : ℕ) (reasons : List (Option ℕ)) (trail : 
   low_is = let w : low ≤ length trail = g.within in omega (arith, ap length eb ∙ refl, length-take {A = ℕ})
 
   aligned_back : length rb ≡ length tb
-  aligned_back = (back_ground level content reasons rb trail tb g eb er).aligned
+  aligned_back = (back_root level content reasons rb trail tb g eb er).aligned
 
   module _ (content' : Content) (r' : List (Option ℕ)) (t' : List ℕ) (l : IsLater content t1 r1 content' t' r') where
-    pub derived_ground : IsGround level content' r' t'
-    derived_ground = ground_later level content r1 t1 denied_ground content' r' t' l
+    pub derived_root : BeginsAtRoot level content' r' t'
+    derived_root = root_later level content r1 t1 denied_root content' r' t' l
 
     high_is : length t1 ≡ low + length h.added
     high_is = omega (arith, ap length h.trail, length-append tb h.added, low_is)
@@ -123,11 +123,11 @@ module _ (content : Content) (low : ℕ) (reasons : List (Option ℕ)) (trail : 
     added_in = All-weaker (Contains h.added) (Contains t') (λ t c. All-contains (Contains t') t1 t (grown_from_keeps t1 t' l.prefix) (rw h.trail (Contains-append_right tb h.added t c))) h.added (All-contains_itself h.added)
 
     pub givens_bounded : (size : ℕ) → length content.chains ≤ size → All (λ x. x < size) h.added
-    givens_bounded size b = All-weaker (Contains t') (λ x. x < size) (λ x c. let k : HasLiteral content' x = All-contains (HasLiteral content') t' x (derived_ground.literals) c in omega (arith, k, l.size)) h.added added_in
+    givens_bounded size b = All-weaker (Contains t') (λ x. x < size) (λ x c. let k : HasLiteral content' x = All-contains (HasLiteral content') t' x (derived_root.literals) c in omega (arith, k, l.size)) h.added added_in
 
     pub givens_known : (givens literals : List ℕ) → givens ≡ h.added → literals ≡ map negated givens → All (HasLiteral content) literals
     givens_known givens literals e i = rw (i, e) (All-map (HasLiteral content) negated h.added (All-weaker (Contains t') (λ t. HasLiteral content (negated t)) (λ t c.
-        let k : HasLiteral content' t = All-contains (HasLiteral content') t' t derived_ground.literals c in
+        let k : HasLiteral content' t = All-contains (HasLiteral content') t' t derived_root.literals c in
         let b : HasLiteral content t = omega (arith, k, l.size) in
         g.known.contrary t b) h.added added_in))
 
@@ -159,7 +159,7 @@ module _ (content : Content) (low : ℕ) (reasons : List (Option ℕ)) (trail : 
     }
 
     pub never_settled : IsRefutable (clauses_of content) clause → IsConsistent t' → IsWhole content' → Rule content' t' → ⊥
-    never_settled r p w u = r t' p (ground_closed level content' r' t' derived_ground w u) (AllFalse-grown t1 t' clause (grown_from_keeps t1 t' l.prefix) h.falsified)
+    never_settled r p w u = r t' p (root_closed level content' r' t' derived_root w u) (AllFalse-grown t1 t' clause (grown_from_keeps t1 t' l.prefix) h.falsified)
 
   pub part_of_clause : (givens literals : List ℕ) → givens ≡ h.added → literals ≡ map negated givens → All (Contains clause) literals
   part_of_clause givens literals e i = rw (i, e) (All-map (Contains clause) negated h.added h.within)

@@ -9,24 +9,24 @@ use Rattle.clause_model.proofs.LiteralLaws.{negated-negated}
 use Rattle.clause_arena.specs.Contents.{Clause, Content, HasLiteral}
 use Rattle.unit_propagation.specs.Watching.{IsLater, Rule, RuleUpTo, IsOtherTrue}
 use Rattle.unit_propagation.proofs.Steps.{Contains-part, later_same, part_of_longer}
-use Rattle.cdcl_core.specs.Implied.{clauses_of, Level, IsGround, IsJustified, IsConflict}
+use Rattle.cdcl_core.specs.Implied.{clauses_of, Level, BeginsAtRoot, IsJustified, IsConflict}
 use Rattle.cdcl_core.specs.Assumed.{CanFalsify, IsAssumed, IsDenied}
 use Rattle.cdcl_core.proofs.Lists.{grown_from_keeps}
-use Rattle.cdcl_core.proofs.Grounds.{ground_back, ground_assumed, ground_later, justified_later, justified_assumed, justified_more}
+use Rattle.cdcl_core.proofs.Roots.{root_back, root_assumed, root_later, justified_later, justified_assumed, justified_more}
 use Rattle.cdcl_core.proofs.Minimised.{Within, within_left, within_right, within_trans}
 use Rattle.cdcl_core.proofs.Refuted.{trail_true, conflict_refutes}
 
 -- the rule before any decision, where more literals are true
-pub rule_from : (level : Level) (content : Content) (reasons : List (Option ℕ)) (trail : List ℕ) → IsGround level content reasons trail → RuleUpTo content (take level.low trail) trail
+pub rule_from : (level : Level) (content : Content) (reasons : List (Option ℕ)) (trail : List ℕ) → BeginsAtRoot level content reasons trail → RuleUpTo content (take level.low trail) trail
 rule_from level content reasons trail g at slot l w c =
     let o : IsOtherTrue content level.base at slot = g.rule at slot l w (subst (λ (xs : List ℕ). Contains xs (negated l)) g.base c) in
     (o.0, (o.1.0, Contains-part level.low trail o.0 (subst (λ (xs : List ℕ). Contains xs o.0) (sym g.base) o.1.1)))
 
-pub back_ground : (level : Level) (content : Content) (reasons rb : List (Option ℕ)) (trail tb : List ℕ) → IsGround level content reasons trail → tb ≡ take level.low trail → rb ≡ take level.low reasons → IsGround level content rb tb
-back_ground level content reasons rb trail tb g e f = rw (e, f) (ground_back level content reasons trail g)
+pub back_root : (level : Level) (content : Content) (reasons rb : List (Option ℕ)) (trail tb : List ℕ) → BeginsAtRoot level content reasons trail → tb ≡ take level.low trail → rb ≡ take level.low reasons → BeginsAtRoot level content rb tb
+back_root level content reasons rb trail tb g e f = rw (e, f) (root_back level content reasons trail g)
 
 -- before any decision nothing is denied
-pub back_justified : (level : Level) (content : Content) (reasons rb : List (Option ℕ)) (trail tb denied : List ℕ) → IsGround level content reasons trail → tb ≡ take level.low trail → rb ≡ take level.low reasons → IsJustified content denied rb tb
+pub back_justified : (level : Level) (content : Content) (reasons rb : List (Option ℕ)) (trail tb denied : List ℕ) → BeginsAtRoot level content reasons trail → tb ≡ take level.low trail → rb ≡ take level.low reasons → IsJustified content denied rb tb
 back_justified level content reasons rb trail tb denied g e f = rw (e, f) (justified_more content [] denied (take level.low reasons) (take level.low trail) (All-nil (Contains denied)) (subst (IsJustified content [] (take level.low reasons)) (sym g.base) g.justified))
 
 pub back_falsifiable : (size low : ℕ) (trail tb literals : List ℕ) → tb ≡ take low trail → CanFalsify size (take low trail) literals → CanFalsify size tb literals
@@ -66,8 +66,8 @@ module _ (content : Content) (ra : List (Option ℕ)) (a literals tried : List �
       let o : IsOtherTrue content a at slot = rule at slot l v (subst (λ (xs : List ℕ). Contains xs (negated l)) (ap (λ (n : ℕ). take n t) e ∙ tried_prefix) c) in
       (o.0, (o.1.0, part_of_longer a t tried_prefix o.0 o.1.1))
 
-  pub tried_ground : (level : Level) → IsGround level content ra a → All (HasLiteral content) literals → IsGround level content r t
-  tried_ground level g k = ground_assumed level content ra a g tried r t h (rw h.trail (All-append (HasLiteral content) a h.added g.literals
+  pub tried_root : (level : Level) → BeginsAtRoot level content ra a → All (HasLiteral content) literals → BeginsAtRoot level content r t
+  tried_root level g k = root_assumed level content ra a g tried r t h (rw h.trail (All-append (HasLiteral content) a h.added g.literals
       (All-weaker (λ x. Contains tried (negated x)) (HasLiteral content) (λ x c. subst (HasLiteral content) (negated-negated x)
       (g.known.contrary (negated x) (All-contains (HasLiteral content) literals (negated x) k (All-contains (Contains literals) tried (negated x) w c)))) h.added h.within)))
 
@@ -81,7 +81,7 @@ module _ (content : Content) (ra : List (Option ℕ)) (a literals tried : List �
     prefix = tried_prefix;
     reasons_kept = tried_reasons;
     watches = later_same content a ra al;
-    ground = λ level g. tried_ground level g k;
+    root = λ level g. tried_root level g k;
     justified = tried_justified;
     settled = λ e. absurd cc;
     refuted = λ e denied j b p o f.
@@ -105,7 +105,7 @@ module _ (content : Content) (ra : List (Option ℕ)) (a literals tried : List �
       prefix = later_prefix;
       reasons_kept = later_reasons;
       watches = watches_of content content' a t t' ra r r' al tried_longer tried_prefix l;
-      ground = λ level g. ground_later level content r t (tried_ground level g k) content' r' t' l;
+      root = λ level g. root_later level content r t (tried_root level g k) content' r' t' l;
       justified = later_justified;
       settled = λ e. absurd cc;
       refuted = λ e denied j b p o f. conflict_refutes content' (clauses_of content) (ap (λ (cs : List Clause). map (λ (x : Clause). x.literals) cs) l.clauses) (denied ++ literals) r' t' (later_justified denied j) b p o f at c;
@@ -117,7 +117,7 @@ module _ (content : Content) (ra : List (Option ℕ)) (a literals tried : List �
       prefix = later_prefix;
       reasons_kept = later_reasons;
       watches = watches_of content content' a t t' ra r r' al tried_longer tried_prefix l;
-      ground = λ level g. ground_later level content r t (tried_ground level g k) content' r' t' l;
+      root = λ level g. root_later level content r t (tried_root level g k) content' r' t' l;
       justified = later_justified;
       settled = λ e. (rule, AllFalse-grown t t' literals (grown_from_keeps t t' l.prefix) f);
       refuted = λ e. absurd cc;

@@ -9,11 +9,11 @@ use Rattle.clause_model.proofs.LiteralLaws.{negated-negated}
 use Rattle.clause_arena.specs.Contents.{Clause, Content, HasLiteral, IsWhole}
 use Rattle.unit_propagation.specs.Watching.{IsLater, Rule}
 use Rattle.unit_propagation.proofs.Steps.{later_after}
-use Rattle.cdcl_core.specs.Implied.{clauses_of, Level, level_of, IsGround, IsJustified, IsRefutable}
+use Rattle.cdcl_core.specs.Implied.{clauses_of, Level, level_of, BeginsAtRoot, IsJustified, IsRefutable}
 use Rattle.cdcl_core.specs.Assumed.{CanFalsify, IsDenied}
 use Rattle.cdcl_core.specs.Minimal.{AreNeeded}
 use Rattle.cdcl_core.proofs.Lists.{All-left, All-right, grown_from_keeps}
-use Rattle.cdcl_core.proofs.Grounds.{ground_later, ground_closed, justified_later}
+use Rattle.cdcl_core.proofs.Roots.{root_later, root_closed, justified_later}
 use Rattle.cdcl_core.proofs.Falsified.{back_justified, watches_of}
 use Rattle.cdcl_core.proofs.Minimised.{Within, within_left, within_right, within_trans, single_needed, first_refutable, second_refutable, halves_needed}
 
@@ -46,8 +46,8 @@ within_halves xs m part rest whole v w e =
 
 -- where watches alone have moved
 module _ (content later : Content) (r s : List (Option ℕ)) (t b : List ℕ) (l : IsLater content t r later t r) (et : b ≡ t) (es : s ≡ r) where
-  pub ground_there : (level : Level) → IsGround level content r t → IsGround level later s b
-  ground_there level g = rw (et, es) (ground_later level content r t g later r t l)
+  pub root_there : (level : Level) → BeginsAtRoot level content r t → BeginsAtRoot level later s b
+  root_there level g = rw (et, es) (root_later level content r t g later r t l)
 
   pub justified_there : (denied : List ℕ) → IsJustified content denied r t → IsJustified later denied s b
   justified_there denied j = rw (et, es) (justified_later content later denied r r t t j l)
@@ -67,10 +67,10 @@ module _ (arena : Content) (ra : List (Option ℕ)) (a denied : List ℕ) (arena
   all_false : (others : List ℕ) → AllFalse a others → AllFalse t1 (others ++ denied)
   all_false others f = All-append (IsFalse t1) others denied (AllFalse-grown a t1 others (grown_from_keeps a t1 d.prefix) f) (d.settled e).1
 
-  pub one_needed : (level : Level) → IsGround level arena ra a → IsConsistent t1 → IsWhole arena1 → (literals part : List ℕ) → length literals ≤ 1 → part ≡ literals
+  pub one_needed : (level : Level) → BeginsAtRoot level arena ra a → IsConsistent t1 → IsWhole arena1 → (literals part : List ℕ) → length literals ≤ 1 → part ≡ literals
       → (others : List ℕ) → AllFalse a others → IsRefutable (clauses_of arena) ((others ++ denied) ++ literals) → AreNeeded (clauses_of arena) (others ++ denied) part
   one_needed level g p w literals part b q others f r = single_needed (clauses_of arena) (others ++ denied) literals part t1 b q r
-      record { consistent = p; closed = subst (λ (cs : List (List ℕ)). IsClosed cs t1) (sym g.clauses) (ground_closed level arena1 r1 t1 (d.ground level g) w (d.settled e).0) }
+      record { consistent = p; closed = subst (λ (cs : List (List ℕ)). IsClosed cs t1) (sym g.clauses) (root_closed level arena1 r1 t1 (d.root level g) w (d.settled e).0) }
       (all_false others f)
 
   module _ (arena2 : Content) (r2 : List (Option ℕ)) (t2 : List ℕ) (l : IsLater arena1 t1 r1 arena2 t1 r1) (et : t2 ≡ t1) (er : r2 ≡ r1) where
@@ -97,7 +97,7 @@ module _ (arena : Content) (ra : List (Option ℕ)) (a denied : List ℕ) (arena
           subst (AreNeeded (clauses_of arena) xs) (sym ek) (halves_needed (clauses_of arena) xs first second g part one rest v two)
 
 -- a clause of literals that can be false together
-module _ (content : Content) (reasons rb : List (Option ℕ)) (trail tb : List ℕ) (low : ℕ) (g : IsGround (level_of content trail low) content reasons trail) (et : tb ≡ take low trail) (er : rb ≡ take low reasons)
+module _ (content : Content) (reasons rb : List (Option ℕ)) (trail tb : List ℕ) (low : ℕ) (g : BeginsAtRoot (level_of content trail low) content reasons trail) (et : tb ≡ take low trail) (er : rb ≡ take low reasons)
     (first shown literals : List ℕ) (es : shown ≡ first) (f : CanFalsify (length content.chains) (take low trail) (first ++ literals)) (r : IsRefutable (clauses_of content) (first ++ literals)) where
   known_all : All (HasLiteral content) (first ++ literals)
   known_all k d b = subst (HasLiteral content) (negated-negated (get_or (first ++ literals) k d)) (g.known.contrary (negated (get_or (first ++ literals) k d)) (All-contains (λ l. l < length content.chains) f.under (negated (get_or (first ++ literals) k d)) f.bounded (f.falsifies k d b)))

@@ -16,7 +16,7 @@ use Rattle.cdcl_core.specs.Held.{AreNumbered}
 use Rattle.cdcl_core.specs.Analysed.{Sees}
 use Rattle.cdcl_core.specs.Hinted.{HasReasons}
 use Rattle.cdcl_core.specs.Solved.{IsUsed, RefutesTidily}
-use Rattle.cdcl_core.proofs.Grounds.{found_at}
+use Rattle.cdcl_core.proofs.Roots.{found_at}
 use Rattle.cdcl_core.proofs.Lists.{place_in, nothing_in}
 
 -- the clause at a place is that under the reference there

@@ -6,7 +6,7 @@ use Rattle.std.proofs.lemmas.List.Elements.{All-cons, All-contains, All-weaker, 
 use Rattle.clause_model.specs.Clauses.{negated, IsFalse, IsConsistent, Frees, IsFreed, IsAsserting}
 use Rattle.clause_model.proofs.Scans.{Contains-take}
 use Rattle.clause_arena.specs.Contents.{Content, HasLiteral}
-use Rattle.cdcl_core.specs.Implied.{clauses_of, Level, level_of, IsGround, IsRefutable}
+use Rattle.cdcl_core.specs.Implied.{clauses_of, Level, level_of, BeginsAtRoot, IsRefutable}
 use Rattle.cdcl_core.specs.Assumed.{CanFalsify}
 use Rattle.cdcl_core.specs.Analysed.{AtConflict, LearnsFrom}
 use Rattle.cdcl_core.proofs.Minimised.{Within, CanFalsify-within, Freed-within}
@@ -28,7 +28,7 @@ same_asserting clauses xs ys w v s = (
   ),
 )
 
-module _ (content : Content) (reasons : List (Option ℕ)) (trail : List ℕ) (low start conflict : ℕ) (g : IsGround (level_of content trail low) content reasons trail) (h : AtConflict content reasons trail low start conflict) (consistent : IsConsistent trail)
+module _ (content : Content) (reasons : List (Option ℕ)) (trail : List ℕ) (low start conflict : ℕ) (g : BeginsAtRoot (level_of content trail low) content reasons trail) (h : AtConflict content reasons trail low start conflict) (consistent : IsConsistent trail)
     (u : ℕ) (others : List ℕ) (l : LearnsFrom (clauses_of content) trail low start u others) (first : List ℕ) (e : first ≡ [] ++ u ∷ []) where
   abbrev clauses : List (List ℕ)
   clauses = clauses_of content
@@ -91,5 +91,5 @@ module _ (content : Content) (reasons : List (Option ℕ)) (trail : List ℕ) (l
     )
 
 -- what was shown of the arena as it was when the clause was certified
-pub known_there : (level : Level) (content content' : Content) (reasons : List (Option ℕ)) (trail literals : List ℕ) → IsGround level content' reasons trail → length content.chains ≡ level.size → All (HasLiteral content') literals → All (HasLiteral content) literals
+pub known_there : (level : Level) (content content' : Content) (reasons : List (Option ℕ)) (trail literals : List ℕ) → BeginsAtRoot level content' reasons trail → length content.chains ≡ level.size → All (HasLiteral content') literals → All (HasLiteral content) literals
 known_there level content content' reasons trail literals g e h = All-weaker (HasLiteral content') (HasLiteral content) (λ l b. omega (arith, b, e, g.size)) literals h

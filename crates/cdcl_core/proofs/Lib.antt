@@ -1,5 +1,5 @@
 pub mod Lists
-pub mod Grounds
+pub mod Roots
 pub mod Assumptions
 pub mod Falsified
 pub mod Refuted

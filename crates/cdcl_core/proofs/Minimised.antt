@@ -5,7 +5,7 @@ use Rattle.std.proofs.lemmas.List.{take_at, get_or_default}
 use Rattle.std.proofs.lemmas.List.Elements.{All-nil, All-contains, All-weaker, All-append, All-contains_itself, Contains-append_left, Contains-append_right}
 use Rattle.clause_model.specs.Clauses.{IsFalse, AllFalse, IsFreed}
 use Rattle.clause_arena.specs.Contents.{Content}
-use Rattle.cdcl_core.specs.Implied.{Level, IsGround, IsSettled, IsRefutable}
+use Rattle.cdcl_core.specs.Implied.{Level, BeginsAtRoot, IsSettled, IsRefutable}
 use Rattle.cdcl_core.specs.Assumed.{CanFalsify}
 use Rattle.cdcl_core.specs.Minimal.{AreNeeded}
 use Rattle.cdcl_core.proofs.Lists.{All-left, All-right}
@@ -121,5 +121,5 @@ module _ (clauses : List (List ℕ)) (first literals part kept : List ℕ) (e : 
   kept_begins = rw e (take_at first part (length first) refl)
 
 -- what the next trial requires, said of the arena and the trail as they are
-pub falsifiable_here : (level : Level) (content : Content) (reasons : List (Option ℕ)) (trail literals : List ℕ) → IsGround level content reasons trail → CanFalsify level.size level.base literals → CanFalsify (length content.chains) (take level.low trail) literals
+pub falsifiable_here : (level : Level) (content : Content) (reasons : List (Option ℕ)) (trail literals : List ℕ) → BeginsAtRoot level content reasons trail → CanFalsify level.size level.base literals → CanFalsify (length content.chains) (take level.low trail) literals
 falsifiable_here level content reasons trail literals g h = rw (g.size, g.base) h

@@ -10,8 +10,8 @@ use Rattle.clause_model.proofs.LiteralLaws.{negated-negated}
 use Rattle.clause_model.proofs.Runs.{Consistent-open}
 use Rattle.clause_arena.specs.Contents.{Content, literals_of}
 use Rattle.unit_propagation.specs.Watching.{IsReason}
-use Rattle.cdcl_core.specs.Implied.{clauses_of, IsConflict, IsJustified, IsGround, Level}
-use Rattle.cdcl_core.proofs.Grounds.{open_at}
+use Rattle.cdcl_core.specs.Implied.{clauses_of, IsConflict, IsJustified, BeginsAtRoot, Level}
+use Rattle.cdcl_core.proofs.Roots.{open_at}
 
 module _ (content : Content) (clauses : List (List ℕ)) (is : clauses_of content ≡ clauses) (denied : List ℕ) (reasons : List (Option ℕ)) (trail : List ℕ) (j : IsJustified content denied reasons trail) (a : List ℕ) (h : IsConsistent a) (o : IsClosed clauses a) (f : AllFalse a denied) where
   step : (n : ℕ) → n < length trail → All (Contains a) (take n trail) → (r : Option ℕ) → slice_get reasons n ≡ Some r → Contains a (get_or trail n 0)
@@ -34,5 +34,5 @@ module _ (content : Content) (clauses : List (List ℕ)) (is : clauses_of conten
   conflict_refutes i w = Consistent-open a (literals_of content i) (open_at content clauses a i is w.0 o) (AllFalse-grown trail a (literals_of content i) trail_true w.1) h
 
 -- and each closed assignment contains what is true before any decision
-pub ground_forces : (level : Level) (content : Content) (reasons : List (Option ℕ)) (trail : List ℕ) → IsGround level content reasons trail → (a : List ℕ) → IsConsistent a → IsClosed level.clauses a → All (Contains a) level.base
-ground_forces level content reasons trail g a h o = trail_true content level.clauses g.clauses [] (take level.low reasons) level.base g.justified a h o (All-nil (IsFalse a))
+pub root_forces : (level : Level) (content : Content) (reasons : List (Option ℕ)) (trail : List ℕ) → BeginsAtRoot level content reasons trail → (a : List ℕ) → IsConsistent a → IsClosed level.clauses a → All (Contains a) level.base
+root_forces level content reasons trail g a h o = trail_true content level.clauses g.clauses [] (take level.low reasons) level.base g.justified a h o (All-nil (IsFalse a))

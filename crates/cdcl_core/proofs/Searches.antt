@@ -13,7 +13,7 @@ use Rattle.unit_propagation.specs.Watching.{IsLater, IsOtherTrue, Rule, RuleUpTo
 use Rattle.unit_propagation.proofs.Heads.{length_below}
 use Rattle.cdcl_core.specs.declared.search.Ending.{Ending}
 use Rattle.cdcl_core.specs.declared.search.Ending.TheVariants.{Model, Refuted, Taught}
-use Rattle.cdcl_core.specs.Implied.{clauses_of, IsConflict, IsJustified, IsCovered, IsGround, Level, level_of}
+use Rattle.cdcl_core.specs.Implied.{clauses_of, IsConflict, IsJustified, IsCovered, BeginsAtRoot, Level, level_of}
 use Rattle.cdcl_core.specs.Assumed.{IsAssumed}
 use Rattle.cdcl_core.specs.Analysed.{AtConflict}
 use Rattle.cdcl_core.specs.Hinted.{HasReasons}
@@ -21,8 +21,8 @@ use Rattle.cdcl_core.specs.Solved.{RefutesTidily, TidyPropagation}
 use Rattle.cdcl_core.specs.declared.solver.Solver.{Solver}
 use Rattle.cdcl_core.specs.Searched.{IsBase, HasBase, IsModelOf, IsSearched, EndsOver, GoesOn}
 use Rattle.cdcl_core.proofs.Lists.{nothing_in}
-use Rattle.cdcl_core.proofs.Grounds.{found_at, ground_assumed, ground_later, ground_closed, justified_assumed, justified_later, justified_more}
-use Rattle.cdcl_core.proofs.Refuted.{ground_forces}
+use Rattle.cdcl_core.proofs.Roots.{found_at, root_assumed, root_later, root_closed, justified_assumed, justified_later, justified_more}
+use Rattle.cdcl_core.proofs.Refuted.{root_forces}
 use Rattle.cdcl_core.proofs.Assumptions.{part_in}
 use Rattle.cdcl_core.proofs.Covered.{covers_grown}
 
@@ -65,7 +65,7 @@ unset_with trail v x l e a b u = elim (cases_eq x l) [
 
 -- what holds at each decision
 pub record Deciding (level : Level) (content : Content) (reasons : List (Option ℕ)) (trail : List ℕ) : Type 0 where
-  pub ground : IsGround level content reasons trail
+  pub root : BeginsAtRoot level content reasons trail
   pub rule : Rule content trail
   pub denied : List ℕ
   pub justified : IsJustified content denied reasons trail
@@ -75,7 +75,7 @@ deciding_begun clauses size content refs reasons trail low b rule e =
     let t : take low trail ≡ trail = take_all low trail (omega (arith, e)) in
     let r : take low reasons ≡ reasons = take_all low reasons (omega (arith, e, b.justified.aligned)) in
     record {
-      ground = record {
+      root = record {
         clauses = refl;
         references = refl;
         size = refl;
@@ -99,17 +99,17 @@ deciding_begun clauses size content refs reasons trail low b rule e =
 pub model_of : (level : Level) (content : Content) (reasons : List (Option ℕ)) (trail : List ℕ) → Deciding level content reasons trail → IsWhole content → IsConsistent trail → ((l : ℕ) → l < length content.chains → IsUnset trail l → ⊥) → IsModelOf level.clauses trail
 model_of level content reasons trail d whole consistent none = record {
   consistent = consistent;
-  holds = subst (λ (cs : List (List ℕ)). All (λ clause. Any (Contains trail) clause) cs) d.ground.clauses (All-map (λ clause. Any (Contains trail) clause) (λ (c : Clause). c.literals) content.clauses (λ k e b.
+  holds = subst (λ (cs : List (List ℕ)). All (λ clause. Any (Contains trail) clause) cs) d.root.clauses (All-map (λ clause. Any (Contains trail) clause) (λ (c : Clause). c.literals) content.clauses (λ k e b.
       let c : Clause = get_or content.clauses k e in
       let f : literals_of content c.at ≡ c.literals = ap literals_in (found_at content.clauses k e whole.apart b) in
       let n : k < length (clauses_of content) = omega (arith, b, length-map content.clauses (λ (x : Clause). x.literals)) in
       let m : k < length (references_of content) = omega (arith, b, length-map content.clauses (λ (x : Clause). x.at)) in
       let h : HasClause content c.at = (k, m, get_or-map (λ (x : Clause). x.at) content.clauses k e c.at b) in
-      let all : All (IsOpen trail) (clauses_of content) = subst (λ (cs : List (List ℕ)). All (IsOpen trail) cs) (sym d.ground.clauses) (ground_closed level content reasons trail d.ground whole d.rule) in
+      let all : All (IsOpen trail) (clauses_of content) = subst (λ (cs : List (List ℕ)). All (IsOpen trail) cs) (sym d.root.clauses) (root_closed level content reasons trail d.root whole d.rule) in
       let o : IsOpen trail c.literals = subst (IsOpen trail) (get_or-map (λ (x : Clause). x.literals) content.clauses k e [] b) (all k [] n) in
       elim o [
         | inl t ↦ t
-        | inr w ↦ absurd (none w.0 (d.ground.known.literals c.at w.0 h (subst (λ (ls : List ℕ). Contains ls w.0) (sym f) w.2.first)) w.2.first_unset)
+        | inr w ↦ absurd (none w.0 (d.root.known.literals c.at w.0 h (subst (λ (ls : List ℕ). Contains ls w.0) (sym f) w.2.first)) w.2.first_unset)
       ]));
 }
 
@@ -124,8 +124,8 @@ module _ (level : Level) (content : Content) (reasons : List (Option ℕ)) (trai
     falsified = All-cons (IsFalse trail1) (negated l) [] (subst (Contains trail1) (sym (negated-negated l)) (rw et (Contains-push trail l))) (All-nil (IsFalse trail1));
   }
 
-  pub decided_ground : IsGround level content reasons1 trail1
-  decided_ground = ground_assumed level content reasons trail d.ground (negated l ∷ []) reasons1 trail1 assumed (rw et (All-push (HasLiteral content) trail l d.ground.literals known))
+  pub decided_root : BeginsAtRoot level content reasons1 trail1
+  decided_root = root_assumed level content reasons trail d.root (negated l ∷ []) reasons1 trail1 assumed (rw et (All-push (HasLiteral content) trail l d.root.literals known))
 
   pub decided_rule : (start : ℕ) → start ≡ length trail → RuleUpTo content (take start trail1) trail1
   decided_rule start e at slot m w c =
@@ -143,12 +143,12 @@ module _ (level : Level) (content : Content) (reasons : List (Option ℕ)) (trai
       assumed (All-weaker (Contains (negated l ∷ [])) (Contains denied) (λ x p. Contains-append_right d.denied (negated l ∷ []) x p) (negated l ∷ []) (All-contains_itself (negated l ∷ [])))
 
   module _ (content' : Content) (reasons' : List (Option ℕ)) (trail' : List ℕ) (f : IsLater content trail1 reasons1 content' trail' reasons') where
-    pub later_ground : IsGround level content' reasons' trail'
-    later_ground = ground_later level content reasons1 trail1 decided_ground content' reasons' trail' f
+    pub later_root : BeginsAtRoot level content' reasons' trail'
+    later_root = root_later level content reasons1 trail1 decided_root content' reasons' trail' f
 
     pub deciding_later : Rule content' trail' → Deciding level content' reasons' trail'
     deciding_later r = record {
-      ground = later_ground;
+      root = later_root;
       rule = r;
       denied = denied;
       justified = justified_later content content' denied reasons1 reasons' trail1 trail' decided_justified f;
@@ -169,10 +169,10 @@ module _ (level : Level) (content : Content) (reasons : List (Option ℕ)) (trai
           absurd cc;
       closed =
           let t : take start trail' ≡ trail = sym (take-take start (length trail1) trail' (omega (arith, longer, e))) ∙ (ap (λ (xs : List ℕ). take start xs) (f.prefix ∙ et) ∙ take_at trail (l ∷ []) start (sym e)) in
-          rw t (subst (λ (cs : List (List ℕ)). IsClosed cs trail) (sym later_ground.clauses) (ground_closed level content reasons trail d.ground whole d.rule));
+          rw t (subst (λ (cs : List (List ℕ)). IsClosed cs trail) (sym later_root.clauses) (root_closed level content reasons trail d.root whole d.rule));
       falsified = w;
-      order = omega (arith, d.ground.within, e);
-      forced = λ a p o. rw (later_ground.base) (ground_forces level content' reasons' trail' later_ground a p (subst (λ (cs : List (List ℕ)). IsClosed cs a) later_ground.clauses o));
+      order = omega (arith, d.root.within, e);
+      forced = λ a p o. rw (later_root.base) (root_forces level content' reasons' trail' later_root a p (subst (λ (cs : List (List ℕ)). IsClosed cs a) later_root.clauses o));
     }
 
 -- a false clause before any decision
@@ -204,20 +204,20 @@ module _ (content : Content) (a : List ℕ) (low : ℕ) (e : low ≡ length a) w
   base_is : take low a ≡ a
   base_is = take_all low a (omega (arith, e))
 
-  pub ground_grows : (content' : Content) (reasons : List (Option ℕ)) (trail : List ℕ) → IsGround (level_of content a low) content' reasons trail → All (Contains trail) a
-  ground_grows content' reasons trail g = subst (All (Contains trail)) (g.base ∙ base_is) (part_in low trail)
+  pub root_grows : (content' : Content) (reasons : List (Option ℕ)) (trail : List ℕ) → BeginsAtRoot (level_of content a low) content' reasons trail → All (Contains trail) a
+  root_grows content' reasons trail g = subst (All (Contains trail)) (g.base ∙ base_is) (part_in low trail)
 
-  pub back_grows : (content' : Content) (reasons : List (Option ℕ)) (trail tb : List ℕ) → IsGround (level_of content a low) content' reasons trail → tb ≡ take low trail → All (Contains tb) a
+  pub back_grows : (content' : Content) (reasons : List (Option ℕ)) (trail tb : List ℕ) → BeginsAtRoot (level_of content a low) content' reasons trail → tb ≡ take low trail → All (Contains tb) a
   back_grows content' reasons trail tb g f = subst (λ (xs : List ℕ). All (Contains xs) a) (sym (f ∙ (g.base ∙ base_is))) (All-contains_itself a)
 
-  pub base_forced : (content' : Content) (reasons : List (Option ℕ)) (trail : List ℕ) → IsGround (level_of content a low) content' reasons trail → (b : List ℕ) → IsConsistent b → IsClosed (clauses_of content) b → All (Contains b) a
-  base_forced content' reasons trail g b p o = subst (All (Contains b)) base_is (ground_forces (level_of content a low) content' reasons trail g b p o)
+  pub base_forced : (content' : Content) (reasons : List (Option ℕ)) (trail : List ℕ) → BeginsAtRoot (level_of content a low) content' reasons trail → (b : List ℕ) → IsConsistent b → IsClosed (clauses_of content) b → All (Contains b) a
+  base_forced content' reasons trail g b p o = subst (All (Contains b)) base_is (root_forces (level_of content a low) content' reasons trail g b p o)
 
-pub bounded_by : (level : Level) (content : Content) (reasons : List (Option ℕ)) (trail : List ℕ) (bound : ℕ) → IsGround level content reasons trail → level.size ≡ bound → All (λ l. l < bound) trail
+pub bounded_by : (level : Level) (content : Content) (reasons : List (Option ℕ)) (trail : List ℕ) (bound : ℕ) → BeginsAtRoot level content reasons trail → level.size ≡ bound → All (λ l. l < bound) trail
 bounded_by level content reasons trail bound g e = All-weaker (HasLiteral content) (λ l. l < bound) (λ l b. omega (arith, b, e, g.size)) trail g.literals
 
-pub known_below : (level : Level) (content : Content) (reasons : List (Option ℕ)) (trail : List ℕ) (bound l : ℕ) → IsGround level content reasons trail → level.size ≡ bound → l < bound → HasLiteral content l
+pub known_below : (level : Level) (content : Content) (reasons : List (Option ℕ)) (trail : List ℕ) (bound l : ℕ) → BeginsAtRoot level content reasons trail → level.size ≡ bound → l < bound → HasLiteral content l
 known_below level content reasons trail bound l g e b = omega (arith, b, e, g.size)
 
-pub below_bound : (level : Level) (content : Content) (reasons : List (Option ℕ)) (trail : List ℕ) (bound l : ℕ) → IsGround level content reasons trail → level.size ≡ bound → HasLiteral content l → l < bound
+pub below_bound : (level : Level) (content : Content) (reasons : List (Option ℕ)) (trail : List ℕ) (bound l : ℕ) → BeginsAtRoot level content reasons trail → level.size ≡ bound → HasLiteral content l → l < bound
 below_bound level content reasons trail bound l g e b = omega (arith, b, e, g.size)

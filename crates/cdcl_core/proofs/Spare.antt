@@ -13,7 +13,7 @@ use Rattle.unit_propagation.proofs.Steps.{Contains-part, Contains-cases}
 use Rattle.cdcl_core.specs.Implied.{clauses_of, IsSpare, AreSpare}
 use Rattle.cdcl_core.specs.Searched.{IsBase}
 use Rattle.cdcl_core.proofs.Lists.{entry_cases, entry_take, nothing_in}
-use Rattle.cdcl_core.proofs.Grounds.{found_at, spare_same}
+use Rattle.cdcl_core.proofs.Roots.{found_at, spare_same}
 use Rattle.clause_arena.proofs.Copies.{among_earlier as among_more}
 
 pub any_in : (a b clause : List ℕ) → ((x : ℕ) → Contains a x → Contains b x) → Any (Contains a) clause → Any (Contains b) clause

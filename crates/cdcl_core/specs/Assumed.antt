@@ -3,7 +3,7 @@ use Rattle.std.specs.Prelude.{ℕ, ◌≡◌, ◌<◌, List, ◌++◌, Bool, tru
 use Rattle.clause_model.specs.Clauses.{negated, IsConsistent, AllFalse}
 use Rattle.clause_arena.specs.Contents.{Content}
 use Rattle.unit_propagation.specs.Watching.{IsLater, Rule}
-use Rattle.cdcl_core.specs.Implied.{clauses_of, IsRefutable, IsJustified, Level, IsGround}
+use Rattle.cdcl_core.specs.Implied.{clauses_of, IsRefutable, IsJustified, Level, BeginsAtRoot}
 
 -- some consistent assignment of literals below the size contains a and makes the literals false
 pub record CanFalsify (size : ℕ) (a literals : List ℕ) : Type 0 where
@@ -26,7 +26,7 @@ pub record IsDenied (literals : List ℕ) (earlier : Content) (a : List ℕ) (be
   pub prefix : take (length a) b ≡ a
   pub reasons_kept : take (length a) reasons ≡ before
   pub watches : IsLater earlier a before later a before
-  pub ground : (level : Level) → IsGround level earlier before a → IsGround level later reasons b
+  pub root : (level : Level) → BeginsAtRoot level earlier before a → BeginsAtRoot level later reasons b
   pub justified : (denied : List ℕ) → IsJustified earlier denied before a → IsJustified later (denied ++ literals) reasons b
   pub settled : is_refuted ≡ false → Rule later b × AllFalse b literals
   pub refuted : is_refuted ≡ true → (denied : List ℕ) → IsJustified earlier denied before a → IsRefutable (clauses_of earlier) (denied ++ literals)

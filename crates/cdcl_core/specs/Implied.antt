@@ -55,7 +55,7 @@ abbrev pub level_of : Content → List ℕ → ℕ → Level
 level_of content trail low = record { clauses = clauses_of content; references = references_of content; size = length content.chains; low = low; base = take low trail }
 
 -- the trail begins with what is true before any decision, where nothing is left to propagate
-pub record IsGround (level : Level) (content : Content) (reasons : List (Option ℕ)) (trail : List ℕ) : Type 0 where
+pub record BeginsAtRoot (level : Level) (content : Content) (reasons : List (Option ℕ)) (trail : List ℕ) : Type 0 where
   pub clauses : clauses_of content ≡ level.clauses
   pub references : references_of content ≡ level.references
   pub size : length content.chains ≡ level.size

@@ -3,7 +3,7 @@
 ghost use Rattle.std.specs.Prelude.{◌≡◌, ℕ, OnOk, IfOk, All, Any, Contains, List, take, true, false};
 ghost use Rattle.clause_arena.specs.Contents.{HasLiteral};
 ghost use Rattle.unit_propagation.specs.Watching.{Rule};
-ghost use Rattle.cdcl_core.specs.Implied.{Level, IsGround};
+ghost use Rattle.cdcl_core.specs.Implied.{Level, BeginsAtRoot};
 ghost use Rattle.cdcl_core.specs.Assumed.{IsAssumed, IsDenied};
 
 use clause_arena::{Arena, Memory, Ref};
@@ -50,7 +50,7 @@ pub fn deny(
     reasons: &mut Vec<Option<Ref>>,
     literals: &[Literal],
 ) -> Result<bool, Memory>
-    requires ground { (level : Level) × IsGround level arena.old reasons.old.items trail.old }
+    requires root { (level : Level) × BeginsAtRoot level arena.old reasons.old.items trail.old }
     requires rule { Rule arena.old trail.old }
     requires known { All (HasLiteral arena.old) literals.now }
     ensures { IfOk result (λ is_refuted. IsDenied literals.now arena.old trail.old reasons.old.items arena.new trail.new reasons.new.items is_refuted) }

@@ -3,7 +3,7 @@
 ghost use Rattle.std.specs.Prelude.{◌≡◌, ℕ, ◌≤◌, OnOk, IfOk, All, List, length, map, take, Contains, Option, pos};
 ghost use Rattle.clause_model.specs.Clauses.{IsFalse};
 ghost use Rattle.clause_arena.specs.Contents.{references_of, HasLiteral};
-ghost use Rattle.cdcl_core.specs.Implied.{clauses_of, IsRefutable, IsGround, level_of};
+ghost use Rattle.cdcl_core.specs.Implied.{clauses_of, IsRefutable, BeginsAtRoot, level_of};
 ghost use Rattle.cdcl_core.specs.Assumed.{CanFalsify};
 ghost use Rattle.cdcl_core.specs.Held.{AreNumbered};
 ghost use Rattle.cdcl_core.specs.Searched.{IsPropagated};
@@ -26,7 +26,7 @@ impl Solver {
         clause: &[Literal],
         id: Id,
     ) -> Result<Addition, Memory>
-        requires ground { IsGround (level_of self.old.arena self.old.trail low) self.old.arena self.old.reasons.items self.old.trail }
+        requires root { BeginsAtRoot (level_of self.old.arena self.old.trail low) self.old.arena self.old.reasons.items self.old.trail }
         requires refs { self.old.refs.items ≡ references_of self.old.arena }
         requires ids { length self.old.ids.items ≡ length self.old.refs.items }
         requires size { length self.old.arena.chains ≤ 400000 }
@@ -34,7 +34,7 @@ impl Solver {
         requires refutable { IsRefutable (clauses_of self.old.arena) clause.now }
         requires fresh { All (λ l. IsFalse (take low self.old.trail) l → ⊥) clause.now }
         ensures fields { OnOk result (IsPropagated self.old self.new) }
-        ensures ground { OnOk result (IsGround (level_of self.old.arena self.old.trail low) self.new.arena self.new.reasons.items self.new.trail) }
+        ensures root { OnOk result (BeginsAtRoot (level_of self.old.arena self.old.trail low) self.new.arena self.new.reasons.items self.new.trail) }
         ensures clauses { OnOk result (self.new.arena.clauses ≡ self.old.arena.clauses) }
         ensures id { IfOk result (λ line. line.id ≡ id) }
         ensures part { IfOk result (λ line. All (Contains clause.now) line.literals.items) }

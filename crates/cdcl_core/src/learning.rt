@@ -3,7 +3,7 @@
 ghost use Rattle.std.specs.Prelude.{◌≡◌, ℕ, ◌≤◌, OnOk, IfOk, All, List, length, map, Option, pos};
 ghost use Rattle.clause_model.specs.Clauses.{IsAsserting};
 ghost use Rattle.clause_arena.specs.Contents.{references_of, HasLiteral};
-ghost use Rattle.cdcl_core.specs.Implied.{clauses_of, IsGround, level_of};
+ghost use Rattle.cdcl_core.specs.Implied.{clauses_of, BeginsAtRoot, level_of};
 ghost use Rattle.cdcl_core.specs.Analysed.{AtConflict};
 ghost use Rattle.cdcl_core.specs.Held.{AreNumbered};
 ghost use Rattle.cdcl_core.specs.Searched.{IsPropagated};
@@ -24,13 +24,13 @@ impl Solver {
         conflict: Ref,
         id: Id,
     ) -> Result<Addition, Memory>
-        requires ground { IsGround (level_of self.old.arena self.old.trail low) self.old.arena self.old.reasons.items self.old.trail }
+        requires root { BeginsAtRoot (level_of self.old.arena self.old.trail low) self.old.arena self.old.reasons.items self.old.trail }
         requires conflict { AtConflict self.old.arena self.old.reasons.items self.old.trail low start conflict }
         requires refs { self.old.refs.items ≡ references_of self.old.arena }
         requires ids { length self.old.ids.items ≡ length self.old.refs.items }
         requires size { length self.old.arena.chains ≤ 400000 }
         ensures fields { OnOk result (IsPropagated self.old self.new) }
-        ensures ground { OnOk result (IsGround (level_of self.old.arena self.old.trail low) self.new.arena self.new.reasons.items self.new.trail) }
+        ensures root { OnOk result (BeginsAtRoot (level_of self.old.arena self.old.trail low) self.new.arena self.new.reasons.items self.new.trail) }
         ensures id { IfOk result (λ line. line.id ≡ id) }
         ensures known { IfOk result (λ line. All (HasLiteral self.old.arena) line.literals.items) }
         ensures asserting { IfOk result (λ line. IsAsserting (clauses_of self.old.arena) line.literals.items) }

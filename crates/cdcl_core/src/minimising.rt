@@ -13,7 +13,7 @@ ghost use Rattle.std.specs.Prelude.{◌≡◌, ℕ, ◌⊎◌, ◌++◌, OnOk, I
 ghost use Rattle.clause_model.specs.Clauses.{AllFalse, IsFreed};
 ghost use Rattle.clause_arena.specs.Contents.{HasLiteral};
 ghost use Rattle.unit_propagation.specs.Watching.{Rule, IsLater};
-ghost use Rattle.cdcl_core.specs.Implied.{clauses_of, IsRefutable, IsGround, IsJustified, Level, level_of};
+ghost use Rattle.cdcl_core.specs.Implied.{clauses_of, IsRefutable, BeginsAtRoot, IsJustified, Level, level_of};
 ghost use Rattle.cdcl_core.specs.Assumed.{CanFalsify};
 ghost use Rattle.cdcl_core.specs.Searched.{IsPropagated};
 ghost use Rattle.cdcl_core.specs.Minimal.{AreNeeded};
@@ -26,7 +26,7 @@ use clause_model::Literal;
 impl Solver {
     /// Those of the literals that are needed where `denied` are false as well.
     fn needed(&mut self, denied: &[Literal], literals: &[Literal]) -> Result<Vec<Literal>, Memory>
-        requires ground { (level : Level) × IsGround level self.old.arena self.old.reasons.items self.old.trail }
+        requires root { (level : Level) × BeginsAtRoot level self.old.arena self.old.reasons.items self.old.trail }
         requires rule { Rule self.old.arena self.old.trail }
         requires known_denied { All (HasLiteral self.old.arena) denied.now }
         requires known { All (HasLiteral self.old.arena) literals.now }
@@ -67,11 +67,11 @@ impl Solver {
         kept: &mut Vec<Literal>,
         rest: &[Literal],
     ) -> Result<(), Memory>
-        requires ground { IsGround (level_of self.old.arena self.old.trail low) self.old.arena self.old.reasons.items self.old.trail }
+        requires root { BeginsAtRoot (level_of self.old.arena self.old.trail low) self.old.arena self.old.reasons.items self.old.trail }
         requires falsifiable { CanFalsify (length self.old.arena.chains) (take low self.old.trail) (kept.old.items ++ rest.now) }
         requires refutable { IsRefutable (clauses_of self.old.arena) (kept.old.items ++ rest.now) }
         ensures fields { OnOk result (IsPropagated self.old self.new) }
-        ensures ground { OnOk result (IsGround (level_of self.old.arena self.old.trail low) self.new.arena self.new.reasons.items self.new.trail) }
+        ensures root { OnOk result (BeginsAtRoot (level_of self.old.arena self.old.trail low) self.new.arena self.new.reasons.items self.new.trail) }
         ensures refutable { OnOk result (IsRefutable (clauses_of self.old.arena) kept.new.items) }
         ensures freed { OnOk result (All (λ l. Contains kept.old.items l ⊎ IsFreed (clauses_of self.old.arena) kept.new.items l) kept.new.items) }
         ensures subset { OnOk result (All (Contains (kept.old.items ++ rest.now)) kept.new.items) }

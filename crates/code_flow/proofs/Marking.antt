@@ -2,11 +2,11 @@
 use Rattle.std.proofs.Common.{◌≡◌, ◌≢◌, ℕ, zero, suc, ◌+◌, ◌<◌, ◌==◌, ◌&&◌, ◌||◌, Bool, true, false, List, [], ◌∷◌, ◌++◌, length, drop, drop-cons, map, get_or, replicate, if◌then◌else◌, eq-eqb, ne_eqb, refl, sym, ap, ◌∙◌, inl, inr, arith, add-one, length-append}
 use Rattle.std.specs.Prelude.{slice_get, slice_set}
 use Rattle.std.proofs.lemmas.Bool.{cases_eq}
-use Rattle.listing_parser.specs.declared.line.Line.{Line as Lines}
+use Rattle.listing_parser.specs.declared.line.ListingLine.{ListingLine as Lines}
 use Rattle.listing_parser.specs.Views.{line_view}
 use Rattle.thumb_instr.proofs.Listed.{one_of_append}
 use Rattle.thumb_model.specs.Effect.{one_of}
-use Rattle.thumb_model.specs.Listing.{Name, Value, Place, Word, Statement, Nothing, Runs, Words, Aligns, Sets, Label, Line, Code, is_op_place, is_call_instr, labels_at, labels_from, places_in, places_of, label_places, return_places}
+use Rattle.thumb_model.specs.Listing.{Name, Value, Place, Word, Statement, Nothing, Instruction, Words, Aligns, Sets, Label, ListingLine, Code, is_op_place, is_call_instr, labels_at, labels_from, places_in, places_of, label_places, return_places}
 use Rattle.code_flow.specs.Points.{is_true, marked, some_name, is_call_statement, HasPoints}
 use Rattle.listing_parser.proofs.TwiceLemmas.{or_last as or_false}
 
@@ -61,7 +61,7 @@ labels_here q p places (n ∷ []) rest = one_label q p (is_op_place (slice_get p
 labels_here q p places (n ∷ m ∷ ms) rest = again q p (is_op_place (slice_get places p)) (one_of q (label_places places rest)) (label_places places (labels_at p (m ∷ ms) ++ rest)) (labels_here q p places (m ∷ ms) rest)
 
 -- the labels of one line more are marked
-pub label_next : (old new : Bool) (places : List Place) (q p n : ℕ) (l : Line) (ls : List Line) → n ≡ length (places_in l.statement)
+pub label_next : (old new : Bool) (places : List Place) (q p n : ℕ) (l : ListingLine) (ls : List ListingLine) → n ≡ length (places_in l.statement)
     → new ≡ (old || ((some_name l.names && is_op_place (slice_get places p)) && (q == p)))
     → (new || one_of q (label_places places (labels_from (p + n) ls))) ≡ (old || one_of q (label_places places (labels_from p (l ∷ ls))))
 label_next old new places q p n l ls k e =
@@ -80,13 +80,13 @@ words_return q p (v ∷ vs) rest = ap (λ m. one_of q (return_places m rest)) (l
 -- the return points of a statement and of what follows
 return_statement : (q p : ℕ) (s : Statement) (rest : List Place) → ((is_call_statement s && (q == (p + length (places_in s)))) || one_of q (return_places (p + length (places_in s)) rest)) ≡ one_of q (return_places p (places_in s ++ rest))
 return_statement q p Nothing rest = ap (λ m. one_of q (return_places m rest)) (let f : p + 0 ≡ p = omega arith in f)
-return_statement q p (Runs i mention) rest = sym (one_label q (p + 1) (is_call_instr i) (return_places (p + 1) rest))
+return_statement q p (Instruction i mention) rest = sym (one_label q (p + 1) (is_call_instr i) (return_places (p + 1) rest))
 return_statement q p (Words vs) rest = words_return q p vs rest
 return_statement q p (Aligns size most) rest = ap (λ m. one_of q (return_places m rest)) (let f : p + 0 ≡ p = omega arith in f)
 return_statement q p (Sets name address) rest = ap (λ m. one_of q (return_places m rest)) (let f : p + 0 ≡ p = omega arith in f)
 
 -- the code points of one line more are marked
-pub line_step : (old labelled new : Bool) (places : List Place) (q p n : ℕ) (l : Line) (ls : List Line) → n ≡ length (places_in l.statement)
+pub line_step : (old labelled new : Bool) (places : List Place) (q p n : ℕ) (l : ListingLine) (ls : List ListingLine) → n ≡ length (places_in l.statement)
     → labelled ≡ (old || ((some_name l.names && is_op_place (slice_get places p)) && (q == p)))
     → new ≡ (labelled || (is_call_statement l.statement && (q == (p + n))))
     → (new || one_of q (label_places places (labels_from (p + n) ls)) || one_of q (return_places (p + n) (places_of ls))) ≡ (old || one_of q (label_places places (labels_from p (l ∷ ls))) || one_of q (return_places p (places_of (l ∷ ls))))
@@ -122,5 +122,5 @@ points_marked code marks h q b e =
 pub next_line : (lines : List Lines) (i : ℕ) (line : Lines) → i < length lines → line ≡ get_or lines i line → map line_view (drop i lines) ≡ line_view line ∷ map line_view (drop (i + 1) lines)
 next_line lines i line h e = rw add-one (ap (map line_view) (drop-cons lines i line h) ∙ ap (λ (l : Lines). line_view l ∷ map line_view (drop (suc i) lines)) (sym e))
 
-pub places_next : (p n : ℕ) (l : Line) (ls : List Line) → n ≡ length (places_in l.statement) → p + n + length (places_of ls) ≡ p + length (places_of (l ∷ ls))
+pub places_next : (p n : ℕ) (l : ListingLine) (ls : List ListingLine) → n ≡ length (places_in l.statement) → p + n + length (places_of ls) ≡ p + length (places_of (l ∷ ls))
 places_next p n l ls e = omega (arith, e, length-append (places_in l.statement) (places_of ls))

@@ -1,6 +1,6 @@
 -- Marks of the code points.
 use Rattle.std.specs.Prelude.{◌≡◌, ℕ, Bool, true, false, List, [], ◌∷◌, Option, Some, None, slice_get, ◌↔◌}
-use Rattle.thumb_model.specs.Listing.{Name, Code, Statement, Nothing, Runs, Words, Aligns, Sets, is_call_instr, IsPoint}
+use Rattle.thumb_model.specs.Listing.{Name, Code, Statement, Nothing, Instruction, Words, Aligns, Sets, is_call_instr, IsPoint}
 
 -- whether the place is marked
 abbrev pub is_true : Option Bool → Bool
@@ -18,7 +18,7 @@ some_name (n ∷ ns) = true
 -- whether the statement is a call
 abbrev pub is_call_statement : Statement → Bool
 is_call_statement Nothing = false
-is_call_statement (Runs i mention) = is_call_instr i
+is_call_statement (Instruction i mention) = is_call_instr i
 is_call_statement (Words vs) = false
 is_call_statement (Aligns size most) = false
 is_call_statement (Sets name address) = false

@@ -5,7 +5,7 @@ ghost use Rattle.thumb_model.specs.Listing.{code_of, is_op_place, label_places, 
 ghost use Rattle.listing_parser.specs.Views.{line_view, statement_view};
 ghost use Rattle.code_flow.specs.Points.{HasPoints, is_call_statement, marked, some_name};
 
-use listing_parser::{Line, Listing, Statement, is_call};
+use listing_parser::{Listing, ListingLine, Statement, is_call};
 use std::alloc::{AllocError, Global};
 
 /// Which places are those of code points. The place behind the last one is among them.
@@ -19,7 +19,7 @@ pub fn all_points(alloc: Global, listing: &Listing) -> Result<Vec<bool>, AllocEr
 }
 
 /// Marks the code points of lines, which are the listing's: the places of code labels, and those behind calls.
-fn mark_lines(marks: &mut Vec<bool>, listing: &Listing, lines: &[Line])
+fn mark_lines(marks: &mut Vec<bool>, listing: &Listing, lines: &[ListingLine])
     requires len { length marks.old.items ≡ length (places_of listing.now) + 1 }
     requires lines { map line_view lines.now ≡ listing.now }
     ensures len { length marks.new.items ≡ length marks.old.items }
@@ -47,7 +47,7 @@ fn mark(marks: &mut Vec<bool>, place: usize, is_point: bool)
 }
 
 /// Whether a line, before which so many places stand, has a label and an instruction stands behind it.
-fn labels_code(line: &Line, listing: &Listing, place: u32) -> bool
+fn labels_code(line: &ListingLine, listing: &Listing, place: u32) -> bool
     ensures { result ≡ (some_name (line_view line.now).names && is_op_place (slice_get (places_of listing.now) place)) }
 {
     !line.names.is_empty() && listing.is_op(place)
@@ -58,7 +58,7 @@ fn is_call_line(statement: &Statement) -> bool
     ensures { result ≡ is_call_statement (statement_view statement.now) }
 {
     match statement {
-        Statement::Runs { instr, mention: _ } => is_call(instr),
+        Statement::Instruction { instr, mention: _ } => is_call(instr),
         _ => false,
     }
 }

@@ -9,7 +9,7 @@ use Rattle.thumb_instr.specs.declared.instr.Instr.{Instr}
 use Rattle.thumb_instr.specs.declared.instr.Instr.TheVariants as instr
 use Rattle.thumb_instr.specs.Window.{is_in_window, Low, renamed}
 use Rattle.thumb_instr.proofs.RenamingLemmas.{window_renamed}
-use Rattle.thumb_model.specs.Listing.{Name, Mention, Value, Number, OfName, Statement, Nothing, Runs, Words, Aligns, Sets, Line, Word, Label, places_in, places_of, labels_from, code_of, has_label}
+use Rattle.thumb_model.specs.Listing.{Name, Mention, Value, Number, OfName, Statement, Nothing, Instruction, Words, Aligns, Sets, ListingLine, Word, Label, places_in, places_of, labels_from, code_of, has_label}
 use Rattle.thumb_model.specs.Layout.{instr_size, padding, size_at, end_of, label_address, set_in, set_address, cleared, lies_in}
 use Rattle.rule_model.specs.Rules.{Rule, AreSound}
 use Rattle.thumb_model.specs.Effect.{AreOver}
@@ -111,24 +111,24 @@ grown (suc n) most x y l = elim (cases_Bool (nat_le (gap (suc n) x) most)) [
 
 size_later : (s : Statement) (x y : ℕ) → x ≤ y → x + size_at s x ≤ y + size_at s y
 size_later Nothing x y l = omega arith
-size_later (Runs i mention) x y l = omega arith
+size_later (Instruction i mention) x y l = omega arith
 size_later (Words vs) x y l = omega arith
 size_later (Aligns size most) x y l = grown size most x y l
 size_later (Sets name address) x y l = omega arith
 
-end_later : (ls : List Line) (x y : ℕ) → x ≤ y → end_of x ls ≤ end_of y ls
+end_later : (ls : List ListingLine) (x y : ℕ) → x ≤ y → end_of x ls ≤ end_of y ls
 end_later [] x y l = l
 end_later (k ∷ ks) x y l = end_later ks (x + size_at k.statement x) (y + size_at k.statement y) (size_later k.statement x y l)
 
 -- where n instructions go, none of which an alignment line stands between, the end comes 2 * n bytes earlier at least
-WithoutRec : ℕ → List Line → Type 0
+WithoutRec : ℕ → List ListingLine → Type 0
 WithoutRec n ls = (x y : ℕ) → AreOps n (places_of ls) → are_joined n ls ≡ true → x ≤ y + 2 * n → end_of x (without n ls) ≤ end_of y ls
 
-without_step : (n : ℕ) (l : Line) (s : Statement) (ls : List Line) → l.statement ≡ s → WithoutRec n ls → WithoutRec (suc n) ls → (x y : ℕ) → AreOps (suc n) (places_in s ++ places_of ls)
+without_step : (n : ℕ) (l : ListingLine) (s : Statement) (ls : List ListingLine) → l.statement ≡ s → WithoutRec n ls → WithoutRec (suc n) ls → (x y : ℕ) → AreOps (suc n) (places_in s ++ places_of ls)
     → (if is_op s then are_joined n ls else (if is_align s then false else are_joined (suc n) ls)) ≡ true → x ≤ y + 2 * suc n
     → end_of x (if is_op s then without n ls else l ∷ without (suc n) ls) ≤ end_of (y + size_at s y) ls
 unfolding WithoutRec
-without_step n l (Runs i mention) ls e f g x y ops joined less = f x (y + instr_size i) ops joined (let b = some_bytes i in omega arith)
+without_step n l (Instruction i mention) ls e f g x y ops joined less = f x (y + instr_size i) ops joined (let b = some_bytes i in omega arith)
 without_step n l (Words (w ∷ ws)) ls e f g x y ops joined less = absurd ops
 without_step n l (Words []) ls e f g x y ops joined less =
     subst (λ (z : ℕ). end_of (x + z) (without (suc n) ls) ≤ end_of (y + 0) ls) (sym (ap (λ (s : Statement). size_at s x) e)) (g (x + 0) (y + 0) ops joined (omega arith))
@@ -138,7 +138,7 @@ without_step n l (Aligns size most) ls e f g x y ops joined less = absurd (true�
 without_step n l (Sets name address) ls e f g x y ops joined less =
     subst (λ (z : ℕ). end_of (x + z) (without (suc n) ls) ≤ end_of (y + 0) ls) (sym (ap (λ (s : Statement). size_at s x) e)) (g (x + 0) (y + 0) ops joined (omega arith))
 
-end_without : (n : ℕ) (ls : List Line) (x y : ℕ) → AreOps n (places_of ls) → are_joined n ls ≡ true → x ≤ y + 2 * n → end_of x (without n ls) ≤ end_of y ls
+end_without : (n : ℕ) (ls : List ListingLine) (x y : ℕ) → AreOps n (places_of ls) → are_joined n ls ≡ true → x ≤ y + 2 * n → end_of x (without n ls) ≤ end_of y ls
 unfolding WithoutRec
 end_without zero [] x y ops joined less = omega arith
 end_without (suc n) [] x y ops joined less = absurd ops
@@ -151,21 +151,21 @@ AreTwos : List Instr → Type 0
 AreTwos [] = Unit {0}
 AreTwos (i ∷ is) = (instr_size i ≡ 2) × AreTwos is
 
-new_end : (write : Instr → List ℕ) (is : List Instr) (ls : List Line) (x : ℕ) → AreTwos is → end_of x (map (new_line write) is ++ ls) ≡ end_of (x + 2 * length is) ls
+new_end : (write : Instr → List ℕ) (is : List Instr) (ls : List ListingLine) (x : ℕ) → AreTwos is → end_of x (map (new_line write) is ++ ls) ≡ end_of (x + 2 * length is) ls
 unfolding AreTwos
 new_end write [] ls x twos = ap (λ (y : ℕ). end_of y ls) (let z : x ≡ x + 2 * 0 = omega arith in z)
 new_end write (i ∷ is) ls x twos =
     let size : instr_size i ≡ 2 = twos.0 in
     new_end write is ls (x + instr_size i) twos.1 ∙ ap (λ (y : ℕ). end_of y ls) (let z : x + instr_size i + 2 * length is ≡ x + 2 * length (i ∷ is) = omega (arith, size) in z)
 
-kept_end : (l : Line) (ns : List Name) (ls : List Line) (x : ℕ) → end_of x (labels_kept l ns ++ ls) ≡ end_of x ls
+kept_end : (l : ListingLine) (ns : List Name) (ls : List ListingLine) (x : ℕ) → end_of x (labels_kept l ns ++ ls) ≡ end_of x ls
 kept_end l [] ls x = refl
 kept_end l (n ∷ ns) ls x = ap (λ (y : ℕ). end_of y ls) (let z : x + 0 ≡ x = omega arith in z)
 
-EndsRec : (Instr → List ℕ) → ℕ → List Instr → List Line → Type 0
+EndsRec : (Instr → List ℕ) → ℕ → List Instr → List ListingLine → Type 0
 EndsRec write n is ls = (q x y : ℕ) → x ≤ y → AreOps (suc n) (drop q (places_of ls)) → are_joined_from q (suc n) ls ≡ true → end_of x (replaced_lines write q (suc n) is ls) ≤ end_of y ls
 
-ends_behind : (write : Instr → List ℕ) (n p m : ℕ) (is : List Instr) (l : Line) (s : Statement) (ls : List Line) → l.statement ≡ s → EndsRec write n is ls → (x y : ℕ) → x ≤ y → p ≡ length (places_in s) + m
+ends_behind : (write : Instr → List ℕ) (n p m : ℕ) (is : List Instr) (l : ListingLine) (s : Statement) (ls : List ListingLine) → l.statement ≡ s → EndsRec write n is ls → (x y : ℕ) → x ≤ y → p ≡ length (places_in s) + m
     → AreOps (suc n) (drop p (places_in s ++ places_of ls)) → are_joined_from (p - length (places_in s)) (suc n) ls ≡ true
     → end_of x (l ∷ replaced_lines write (p - length (places_in s)) (suc n) is ls) ≤ end_of (y + size_at s y) ls
 unfolding EndsRec
@@ -177,7 +177,7 @@ ends_behind write n p m is l s ls e rec x y less g ops joined =
     subst (λ (q : ℕ). end_of (x + size_at l.statement x) (replaced_lines write q (suc n) is ls) ≤ end_of (y + size_at s y) ls) (sym same)
     (rec m (x + size_at l.statement x) (y + size_at s y) size there stays)
 
-ends_step : (write : Instr → List ℕ) (n p : ℕ) (is : List Instr) (l : Line) (s : Statement) (ls : List Line) → l.statement ≡ s → length is ≤ suc n → AreTwos is → EndsRec write n is ls → (x y : ℕ) → x ≤ y
+ends_step : (write : Instr → List ℕ) (n p : ℕ) (is : List Instr) (l : ListingLine) (s : Statement) (ls : List ListingLine) → l.statement ≡ s → length is ≤ suc n → AreTwos is → EndsRec write n is ls → (x y : ℕ) → x ≤ y
     → AreOps (suc n) (drop p (places_in s ++ places_of ls))
     → (if is_op s && (p == 0) then are_joined (suc n - 1) ls else are_joined_from (p - length (places_in s)) (suc n) ls) ≡ true
     → end_of x (if is_op s && (p == 0) then labels_kept l l.names ++ (map (new_line write) is ++ without (suc n - 1) ls) else l ∷ replaced_lines write (p - length (places_in s)) (suc n) is ls) ≤ end_of (y + size_at s y) ls
@@ -185,7 +185,7 @@ ends_step write n p is l (Words ws) ls e short twos rec x y less ops joined =
     let w = past_words ws (places_of ls) p n ops in
     let m = length_map Word ws in
     ends_behind write n p (p - length ws) is l (Words ws) ls e rec x y less (omega arith) ops joined
-ends_step write n zero is l (Runs i mention) ls e short twos rec x y less ops joined =
+ends_step write n zero is l (Instruction i mention) ls e short twos rec x y less ops joined =
     let one : suc n - 1 ≡ n = omega arith in
     let j : are_joined n ls ≡ true = subst (λ (k : ℕ). are_joined k ls ≡ true) one joined in
     let b = some_bytes i in
@@ -193,14 +193,14 @@ ends_step write n zero is l (Runs i mention) ls e short twos rec x y less ops jo
     let is_new : end_of x (labels_kept l l.names ++ (map (new_line write) is ++ without (suc n - 1) ls)) ≡ end_of (x + 2 * length is) (without n ls) =
     kept_end l l.names (map (new_line write) is ++ without (suc n - 1) ls) x ∙ (new_end write is (without (suc n - 1) ls) x twos ∙ ap (λ (k : ℕ). end_of (x + 2 * length is) (without k ls)) one) in
     subst (λ (z : ℕ). z ≤ end_of (y + instr_size i) ls) (sym is_new) gone
-ends_step write n (suc p) is l (Runs i mention) ls e short twos rec x y less ops joined =
+ends_step write n (suc p) is l (Instruction i mention) ls e short twos rec x y less ops joined =
     let later : (suc p == 0) ≡ false = ne_eqb (suc p) 0 (λ z. absurd (omega arith)) in
     let j : are_joined_from (suc p - 1) (suc n) ls ≡ true = subst (λ b. (if b then are_joined (suc n - 1) ls else are_joined_from (suc p - 1) (suc n) ls) ≡ true) later joined in
     subst (λ b. end_of x (if b then labels_kept l l.names ++ (map (new_line write) is ++ without (suc n - 1) ls) else l ∷ replaced_lines write (suc p - 1) (suc n) is ls) ≤ end_of (y + instr_size i) ls) (sym later)
-    (ends_behind write n (suc p) p is l (Runs i mention) ls e rec x y less (omega arith) ops j)
+    (ends_behind write n (suc p) p is l (Instruction i mention) ls e rec x y less (omega arith) ops j)
 ends_step write n p is l s ls e short twos rec x y less ops joined = ends_behind write n p p is l s ls e rec x y less (omega arith) ops joined
 
-ends_replaced : (write : Instr → List ℕ) (n : ℕ) (is : List Instr) (ls : List Line) (p x y : ℕ) → length is ≤ suc n → AreTwos is → x ≤ y → AreOps (suc n) (drop p (places_of ls)) → are_joined_from p (suc n) ls ≡ true
+ends_replaced : (write : Instr → List ℕ) (n : ℕ) (is : List Instr) (ls : List ListingLine) (p x y : ℕ) → length is ≤ suc n → AreTwos is → x ≤ y → AreOps (suc n) (drop p (places_of ls)) → are_joined_from p (suc n) ls ≡ true
     → end_of x (replaced_lines write p (suc n) is ls) ≤ end_of y ls
 unfolding EndsRec
 ends_replaced write n is [] p x y short twos less ops joined = less
@@ -218,7 +218,7 @@ unfolding AreTwos
 renamed_twos registers k [] h = tt
 renamed_twos registers k (i ∷ is) h = (two_bytes (renamed registers i) (window_renamed registers i h.0), renamed_twos registers k is h.2)
 
-end_after : (s : Setting) (r : Replacement) (ls : List Line) → AreSound s.table → AppliesIn s r ls → end_of s.base (lines_after s r ls) ≤ end_of s.base ls
+end_after : (s : Setting) (r : Replacement) (ls : List ListingLine) → AreSound s.table → AppliesIn s r ls → end_of s.base (lines_after s r ls) ≤ end_of s.base ls
 end_after s r ls sound a =
     let rule = a.rule in
     let is : List Instr = map (renamed r.registers) rule.right in
@@ -239,12 +239,12 @@ end_after s r ls sound a =
 
 sets_nothing : (name : Name) (s : Statement) (rest : Option ℕ) → is_op s ≡ true → set_in name s rest ≡ rest
 sets_nothing name Nothing rest h = refl
-sets_nothing name (Runs i mention) rest h = refl
+sets_nothing name (Instruction i mention) rest h = refl
 sets_nothing name (Words vs) rest h = refl
 sets_nothing name (Aligns size most) rest h = refl
 sets_nothing name (Sets other address) rest h = absurd (true≢false (sym h))
 
-sets_without : (name : Name) (n : ℕ) (ls : List Line) → set_address name (without n ls) ≡ set_address name ls
+sets_without : (name : Name) (n : ℕ) (ls : List ListingLine) → set_address name (without n ls) ≡ set_address name ls
 sets_without name n [] = refl
 sets_without name zero (l ∷ ls) = refl
 sets_without name (suc n) (l ∷ ls) = elim (cases_Bool (is_op l.statement)) [
@@ -252,15 +252,15 @@ sets_without name (suc n) (l ∷ ls) = elim (cases_Bool (is_op l.statement)) [
   | inr op ↦ rw op (ap (set_in name l.statement) (sets_without name (suc n) ls))
 ]
 
-sets_new : (name : Name) (write : Instr → List ℕ) (is : List Instr) (ls : List Line) → set_address name (map (new_line write) is ++ ls) ≡ set_address name ls
+sets_new : (name : Name) (write : Instr → List ℕ) (is : List Instr) (ls : List ListingLine) → set_address name (map (new_line write) is ++ ls) ≡ set_address name ls
 sets_new name write [] ls = refl
 sets_new name write (i ∷ is) ls = sets_new name write is ls
 
-sets_kept : (name : Name) (l : Line) (ns : List Name) (ls : List Line) → set_address name (labels_kept l ns ++ ls) ≡ set_address name ls
+sets_kept : (name : Name) (l : ListingLine) (ns : List Name) (ls : List ListingLine) → set_address name (labels_kept l ns ++ ls) ≡ set_address name ls
 sets_kept name l [] ls = refl
 sets_kept name l (n ∷ ns) ls = refl
 
-sets_replaced : (name : Name) (write : Instr → List ℕ) (p count : ℕ) (is : List Instr) (ls : List Line) → set_address name (replaced_lines write p count is ls) ≡ set_address name ls
+sets_replaced : (name : Name) (write : Instr → List ℕ) (p count : ℕ) (is : List Instr) (ls : List ListingLine) → set_address name (replaced_lines write p count is ls) ≡ set_address name ls
 sets_replaced name write p count is [] = refl
 sets_replaced name write p count is (l ∷ ls) = elim (cases_Bool (is_op l.statement && (p == 0))) [
   | inl here ↦ rw here (
@@ -274,7 +274,7 @@ sets_replaced name write p count is (l ∷ ls) = elim (cases_Bool (is_op l.state
     op_here true b e = refl
     op_here false b e = absurd (true≢false (sym e))
 
-sets_after : (name : Name) (s : Setting) (o : Option Rule) (r : Replacement) (ls : List Line) → set_address name (lines_after_rule s o r ls) ≡ set_address name ls
+sets_after : (name : Name) (s : Setting) (o : Option Rule) (r : Replacement) (ls : List ListingLine) → set_address name (lines_after_rule s o r ls) ≡ set_address name ls
 sets_after name s None r ls = refl
 sets_after name s (Some rule) r ls = sets_replaced name s.write r.place (length rule.left) (map (renamed r.registers) rule.right) ls
 
@@ -286,13 +286,13 @@ some_cleared : (a : Option ℕ) → is_some (cleared a) ≡ is_some a
 some_cleared None = refl
 some_cleared (Some a) = refl
 
-lies_told : (base : ℕ) (ls : List Line) (name : Name) → is_some (lies_in base ls name) ≡ (has_label name (labels_from 0 ls) || is_some (set_address name ls))
+lies_told : (base : ℕ) (ls : List ListingLine) (name : Name) → is_some (lies_in base ls name) ≡ (has_label name (labels_from 0 ls) || is_some (set_address name ls))
 lies_told base ls name =
     some_else (label_address name base ls) (cleared (set_address name ls))
     ∙ (ap (λ (b : Bool). b || is_some (cleared (set_address name ls))) (sym (labelled name 0 base ls)) ∙ ap (λ (b : Bool). has_label name (labels_from 0 ls) || b) (some_cleared (set_address name ls)))
 
 -- a name lies somewhere as before
-lies_after : (s : Setting) (r : Replacement) (ls : List Line) (base : ℕ) (name : Name) → AreSound s.table → AppliesIn s r ls → lies_nowhere base (lines_after s r ls) name ≡ lies_nowhere base ls name
+lies_after : (s : Setting) (r : Replacement) (ls : List ListingLine) (base : ℕ) (name : Name) → AreSound s.table → AppliesIn s r ls → lies_nowhere base (lines_after s r ls) name ≡ lies_nowhere base ls name
 lies_after s r ls base name sound a =
     let new = lines_after s r ls in
     let labels : has_label name (labels_from 0 new) ≡ has_label name (labels_from 0 ls) =
@@ -303,7 +303,7 @@ lies_after s r ls base name sound a =
 -- ---- flaws ----
 
 -- what a flaw is has no name outside its crate
-abbrev Flawed : {A : Type 0} → (ℕ → List Line → Statement → Option A) → Type 0
+abbrev Flawed : {A : Type 0} → (ℕ → List ListingLine → Statement → Option A) → Type 0
 Flawed {A} told = A
 
 abbrev Flaw : Type 0
@@ -313,7 +313,7 @@ none_as_before : {A : Type 0} (f : A) (new old : Bool) → new ≡ old → (if o
 none_as_before {A} f new old e h = ap (λ (b : Bool). if b then Some f else None) e ∙ h
 
 -- a statement has none in lines by which as many names lie somewhere, and which end no later
-module _ (base : ℕ) (old new : List Line) (lies : (name : Name) → lies_nowhere base new name ≡ lies_nowhere base old name) (ends : end_of base new ≤ end_of base old) where
+module _ (base : ℕ) (old new : List ListingLine) (lies : (name : Name) → lies_nowhere base new name ≡ lies_nowhere base old name) (ends : end_of base new ≤ end_of base old) where
   branch_stays : (i : Instr) (mention : Option Mention) → branch_lost base new i mention ≡ branch_lost base old i mention
   branch_stays i None = refl
   branch_stays i (Some m) = ap (λ (b : Bool). may_leave i && b) (lies m.name)
@@ -339,13 +339,13 @@ module _ (base : ℕ) (old new : List Line) (lies : (name : Name) → lies_nowhe
 
   flaw_stays : (s : Statement) → flaw_of base old s ≡ None → flaw_of base new s ≡ None
   flaw_stays Nothing h = refl
-  flaw_stays (Runs i mention) h = none_as_before _ (branch_lost base new i mention) (branch_lost base old i mention) (branch_stays i mention) h
+  flaw_stays (Instruction i mention) h = none_as_before _ (branch_lost base new i mention) (branch_lost base old i mention) (branch_stays i mention) h
   flaw_stays (Words vs) h = none_as_before _ (values_lost base new vs) (values_lost base old vs) (values_stay vs) h
   flaw_stays (Aligns size most) h = refl
   flaw_stays (Sets name address) h = outside_stays _ address (nat_le base address) refl h
 
 -- each statement of lines has none
-AreFlawless : ℕ → List Line → List Line → Type 0
+AreFlawless : ℕ → List ListingLine → List ListingLine → Type 0
 AreFlawless base all [] = Unit {0}
 AreFlawless base all (l ∷ ls) = (flaw_of base all l.statement ≡ None) × AreFlawless base all ls
 
@@ -353,25 +353,25 @@ no_flaw : (n : ℕ) (o : Option Flaw) (rest : Option (ℕ × Flaw)) → or_first
 no_flaw n None rest e = (refl, e)
 no_flaw n (Some f) rest e = absurd (let bad : Some (n, f) ≡ None = e in cc)
 
-flawless_from : (base : ℕ) (all : List Line) (n : ℕ) (ls : List Line) → flaws_from base all n ls ≡ None → AreFlawless base all ls
+flawless_from : (base : ℕ) (all : List ListingLine) (n : ℕ) (ls : List ListingLine) → flaws_from base all n ls ≡ None → AreFlawless base all ls
 unfolding AreFlawless
 flawless_from base all n [] e = tt
 flawless_from base all n (l ∷ ls) e =
     let parts = no_flaw n (flaw_of base all l.statement) (flaws_from base all (n + 1) ls) e in
     (parts.0, flawless_from base all (n + 1) ls parts.1)
 
-from_flawless : (base : ℕ) (all : List Line) (n : ℕ) (ls : List Line) → AreFlawless base all ls → flaws_from base all n ls ≡ None
+from_flawless : (base : ℕ) (all : List ListingLine) (n : ℕ) (ls : List ListingLine) → AreFlawless base all ls → flaws_from base all n ls ≡ None
 unfolding AreFlawless
 from_flawless base all n [] h = refl
 from_flawless base all n (l ∷ ls) h = ap (λ (o : Option Flaw). or_first n o (flaws_from base all (n + 1) ls)) h.0 ∙ from_flawless base all (n + 1) ls h.1
 
-all_stay : (base : ℕ) (old new : List Line) → ((name : Name) → lies_nowhere base new name ≡ lies_nowhere base old name) → end_of base new ≤ end_of base old → (ls : List Line) → AreFlawless base old ls → AreFlawless base new ls
+all_stay : (base : ℕ) (old new : List ListingLine) → ((name : Name) → lies_nowhere base new name ≡ lies_nowhere base old name) → end_of base new ≤ end_of base old → (ls : List ListingLine) → AreFlawless base old ls → AreFlawless base new ls
 unfolding AreFlawless
 all_stay base old new lies ends [] h = tt
 all_stay base old new lies ends (l ∷ ls) h = (flaw_stays base old new lies ends l.statement h.0, all_stay base old new lies ends ls h.1)
 
-module _ (base : ℕ) (all : List Line) where
-  flawless_without : (n : ℕ) (ls : List Line) → AreFlawless base all ls → AreFlawless base all (without n ls)
+module _ (base : ℕ) (all : List ListingLine) where
+  flawless_without : (n : ℕ) (ls : List ListingLine) → AreFlawless base all ls → AreFlawless base all (without n ls)
   unfolding AreFlawless
   flawless_without n [] h = tt
   flawless_without zero (l ∷ ls) h = h
@@ -380,17 +380,17 @@ module _ (base : ℕ) (all : List Line) where
     | inr op ↦ rw op (h.0, flawless_without (suc n) ls h.1)
   ]
 
-  flawless_new : (write : Instr → List ℕ) (is : List Instr) (ls : List Line) → AreFlawless base all ls → AreFlawless base all (map (new_line write) is ++ ls)
+  flawless_new : (write : Instr → List ℕ) (is : List Instr) (ls : List ListingLine) → AreFlawless base all ls → AreFlawless base all (map (new_line write) is ++ ls)
   unfolding AreFlawless
   flawless_new write [] ls h = h
   flawless_new write (i ∷ is) ls h = (refl, flawless_new write is ls h)
 
-  flawless_labels : (l : Line) (ns : List Name) (ls : List Line) → AreFlawless base all ls → AreFlawless base all (labels_kept l ns ++ ls)
+  flawless_labels : (l : ListingLine) (ns : List Name) (ls : List ListingLine) → AreFlawless base all ls → AreFlawless base all (labels_kept l ns ++ ls)
   unfolding AreFlawless
   flawless_labels l [] ls h = h
   flawless_labels l (n ∷ ns) ls h = (refl, h)
 
-  flawless_replaced : (write : Instr → List ℕ) (p count : ℕ) (is : List Instr) (ls : List Line) → AreFlawless base all ls → AreFlawless base all (replaced_lines write p count is ls)
+  flawless_replaced : (write : Instr → List ℕ) (p count : ℕ) (is : List Instr) (ls : List ListingLine) → AreFlawless base all ls → AreFlawless base all (replaced_lines write p count is ls)
   unfolding AreFlawless
   flawless_replaced write p count is [] h = h
   flawless_replaced write p count is (l ∷ ls) h = elim (cases_Bool (is_op l.statement && (p == 0))) [
@@ -398,13 +398,13 @@ module _ (base : ℕ) (all : List Line) where
     | inr here ↦ rw here (h.0, flawless_replaced write (p - length (places_in l.statement)) count is ls h.1)
   ]
 
-  flawless_after : (s : Setting) (o : Option Rule) (r : Replacement) (ls : List Line) → AreFlawless base all ls → AreFlawless base all (lines_after_rule s o r ls)
+  flawless_after : (s : Setting) (o : Option Rule) (r : Replacement) (ls : List ListingLine) → AreFlawless base all ls → AreFlawless base all (lines_after_rule s o r ls)
   flawless_after s None r ls h = h
   flawless_after s (Some rule) r ls h = flawless_replaced s.write r.place (length rule.left) (map (renamed r.registers) rule.right) ls h
 
 -- lines without a flaw have none when they are rewritten
-pub still_flawless : (s : Setting) (ls : List Line) (rs : List Replacement) (new : List Line) → AreSound s.table → AreRewritten s ls rs new → first_flaw s.base ls ≡ None → first_flaw s.base new ≡ None
-still_flawless s ls [] new sound h none = subst (λ (ms : List Line). first_flaw s.base ms ≡ None) (sym h.1) none
+pub still_flawless : (s : Setting) (ls : List ListingLine) (rs : List Replacement) (new : List ListingLine) → AreSound s.table → AreRewritten s ls rs new → first_flaw s.base ls ≡ None → first_flaw s.base new ≡ None
+still_flawless s ls [] new sound h none = subst (λ (ms : List ListingLine). first_flaw s.base ms ≡ None) (sym h.1) none
 still_flawless s ls (r ∷ rs) new sound h none =
     let next = lines_after s r ls in
     let a = h.0.applies in

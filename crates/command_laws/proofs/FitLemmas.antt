@@ -1,7 +1,7 @@
 -- Fit texts come to no refusal, but that a learnt table's text is too long.
 use Rattle.std.proofs.Common.{◌≡◌, ◌∙◌, ◌≤◌, ◌⊎◌, inl, inr, ℕ, List, [], ◌∷◌, true≢false, refl, sym, subst, arith, Option, Some, None, length}
 use Rattle.std.specs.Prelude.{IsSome}
-use Rattle.thumb_model.specs.Listing.{Line, code_of, place_of}
+use Rattle.thumb_model.specs.Listing.{ListingLine, code_of, place_of}
 use Rattle.thumb_model.specs.Layout.{Layable}
 use Rattle.thumb_model.specs.Effect.{Equal}
 use Rattle.bit_blast.specs.Slots.{instance}
@@ -14,19 +14,19 @@ use Rattle.table_audit.specs.Shorter.{SidesFit}
 use Rattle.table_audit.specs.Soundness.{items_in}
 use Rattle.table_learn.specs.Learnt.{Settings, text_length}
 use Rattle.table_audit.specs.Acceptance.{width_of}
-use Rattle.window_rewrite.specs.Rewriting.{setting}
+use Rattle.window_rewrite.specs.TableRewriting.{setting}
 use Rattle.thumb_assembler.specs.Bytes.{first_flaw}
 use Rattle.command_line.specs.CommandLine.{Request, rewrite, audit, learn, export, trace, demo, upgrade, trim, tidy, generalise}
 use Rattle.command_runs.specs.Plans.{Outcome, Refuses, Does}
 use Rattle.audit_cli.specs.Printed.{refusal_line, entries_line, families_line, IsAudited}
 use Rattle.audit_cli.specs.Rewrite.{Destination, Counts, Leaves, alone, pair, no_image, WantsNone, LinesRewrite, Rewrites, Comes}
 use Rattle.audit_cli.specs.Rewrite as rewriting
-use Rattle.audit_cli.specs.Tables.{Extract}
+use Rattle.audit_cli.specs.Tables.{ExportArguments}
 use Rattle.table_audit.specs.Families.{entry_at, entry_of, family_at, IsRaisable}
 use Rattle.audit_cli.specs.Tables as tables
-use Rattle.audit_cli.specs.Learn.{Lesson}
+use Rattle.audit_cli.specs.Learn.{LearnArguments}
 use Rattle.audit_cli.specs.Learn as learning
-use Rattle.audit_cli.specs.Trace.{Journey}
+use Rattle.audit_cli.specs.Trace.{TraceArguments}
 use Rattle.audit_cli.specs.Trace as tracing
 use Rattle.audit_cli.specs.Demo as showing
 use Rattle.audit_cli.specs.Upgrade as upgrading
@@ -50,13 +50,13 @@ IsRefusing (Does keeps lines) = ⊥
 
 -- ---- `rewrite` ----
 
-leaves_something : (to : Destination) (lines : List Line) (c : Counts) (o : Outcome) → ((WantsNone to → ⊥) → first_flaw to.base lines ≡ None) → Leaves to lines c o → IsRefusing o → ⊥
+leaves_something : (to : Destination) (lines : List ListingLine) (c : Counts) (o : Outcome) → ((WantsNone to → ⊥) → first_flaw to.base lines ≡ None) → Leaves to lines c o → IsRefusing o → ⊥
 unfolding IsRefusing
 leaves_something to lines c _ none (alone n) r = r
 leaves_something to lines c _ none (pair some bytes made) r = r
 leaves_something to lines c _ none (no_image some cause h) r = never_without_image to.base lines cause (none some) h
 
-lines_fit : (to : Destination) (t : Table) (given : List Line) (o : Outcome) → Layable to.base given → ((WantsNone to → ⊥) → first_flaw to.base given ≡ None) → LinesRewrite to t given o → IsRefusing o → ⊥
+lines_fit : (to : Destination) (t : Table) (given : List ListingLine) (o : Outcome) → Layable to.base given → ((WantsNone to → ⊥) → first_flaw to.base given ≡ None) → LinesRewrite to t given o → IsRefusing o → ⊥
 lines_fit to t given _ laid none (rewriting.unlaid cause h) r = never_unlaid to.base given cause laid h
 lines_fit to t given _ laid none (rewriting.rewritten too o h) r =
     leaves_something to h.lines _ o (λ some. still_flawless (setting to.base t) given h.replacements h.lines h.sound.sound h.rewritten (none some)) h.left r
@@ -65,7 +65,7 @@ module _ (to : Destination) (texts : List (List ℕ)) (fit : FitRewriting to.ima
   text_fit : (t : Table) (o : Outcome) → Rewrites to t fit.listing_text o → IsRefusing o → ⊥
   text_fit t _ (rewriting.unread cause h) r = never_unread_listing fit.listing_text fit.given cause fit.is_listing h
   text_fit t _ (rewriting.read lines is o h) r =
-      lines_fit to t fit.given o fit.layable fit.addresses (subst (λ (ls : List Line). LinesRewrite to t ls o) (one_listing fit.listing_text lines fit.given is fit.is_listing) h) r
+      lines_fit to t fit.given o fit.layable fit.addresses (subst (λ (ls : List ListingLine). LinesRewrite to t ls o) (one_listing fit.listing_text lines fit.given is fit.is_listing) h) r
 
   table_fit : (o : Outcome) → Comes to fit.table_text fit.listing_text o → IsRefusing o → ⊥
   table_fit _ (rewriting.unaudited cause h) r = never_unaudited fit.table_text fit.rules cause fit.is_table fit.accepted h
@@ -105,7 +105,7 @@ module _ (out : List ℕ) (texts : List (List ℕ)) (fit : FitUpgrade texts) whe
       let same : t ≡ fit.rules = one_table fit.text t fit.rules is.is fit.is_table in
       kept_fit (entries_line (length t.rules) (tables.opens_of t)) o (subst (λ (u : Table). upgrading.IsKept out (upgrading.upgraded u) (entries_line (length t.rules) (tables.opens_of t)) o) same h) r
 
-module _ (to : Extract) (t : Table) where
+module _ (to : ExportArguments) (t : Table) where
   never_absent : HasFitEntry t to.entry ⊎ HasFitFamily t to.entry → entry_at t.rules to.entry ≡ None → family_at t to.entry ≡ None → ⊥
   never_absent (inl has) h k = none_some (entry_at t.rules to.entry) has.entry h has.is_entry
   never_absent (inr has) h k = none_some (family_at t to.entry) has.family k has.is_family
@@ -131,7 +131,7 @@ module _ (to : Extract) (t : Table) where
   family_exported f (e, at, fits, can) _ (tables.unraisable x there its not) r = not (subst (λ (y : Rule). IsRaisable t.header.pool f y.left) (some_same e x (sym at ∙ there)) can)
   family_exported f (e, at, fits, can) _ (tables.raised x there its so) r = r
 
-module _ (to : Extract) (texts : List (List ℕ)) (fit : FitExport to.entry texts) where
+module _ (to : ExportArguments) (texts : List (List ℕ)) (fit : FitExport to.entry texts) where
   exports_fit : (o : Outcome) → tables.Exports to fit.text o → IsRefusing o → ⊥
   exports_fit _ (tables.refused cause h) r = never_unlisted fit.text fit.rules cause fit.is_table h
   exports_fit _ (tables.absent t is a b) r = never_absent to fit.rules fit.has (entry_moved to fit.text t fit.rules None is fit.is_table a) (family_moved to fit.text t fit.rules None is fit.is_table b)
@@ -140,20 +140,20 @@ module _ (to : Extract) (texts : List (List ℕ)) (fit : FitExport to.entry text
   exports_fit _ (tables.of_family t is f at o h) r =
       family_exported to fit.rules f (its_family to fit.rules fit.has f (family_moved to fit.text t fit.rules (Some f) is fit.is_table at)) o (subst (λ (x : Table). tables.ExportsFamily to x f o) (one_table fit.text t fit.rules is fit.is_table) h) r
 
-module _ (journey : Journey) (texts : List (List ℕ)) (fit : FitTrace journey.label texts) where
+module _ (asked : TraceArguments) (texts : List (List ℕ)) (fit : FitTrace asked.label texts) where
   no_label : (o : Option ℕ) → IsSome o → o ≡ None → ⊥
   no_label None s e = absurd (true≢false (sym s))
   no_label (Some p) s e = absurd (let bad : Some p ≡ None = e in cc)
 
-  traces_lines : (o : Outcome) → tracing.LinesTrace journey fit.lines o → IsRefusing o → ⊥
+  traces_lines : (o : Outcome) → tracing.LinesTrace asked fit.lines o → IsRefusing o → ⊥
   unfolding IsRefusing
   traces_lines _ (tracing.unlaid cause h) r = never_unlaid 0 fit.lines cause fit.layable h
-  traces_lines _ (tracing.unlabelled laid none) r = no_label (place_of (code_of fit.lines) journey.label) fit.labelled none
+  traces_lines _ (tracing.unlabelled laid none) r = no_label (place_of (code_of fit.lines) asked.label) fit.labelled none
   traces_lines _ (tracing.ran laid p at names is n s run) r = r
 
-  traces_fit : (o : Outcome) → tracing.Traces journey fit.text o → IsRefusing o → ⊥
+  traces_fit : (o : Outcome) → tracing.Traces asked fit.text o → IsRefusing o → ⊥
   traces_fit _ (tracing.unread cause h) r = never_unread_listing fit.text fit.lines cause fit.is_listing h
-  traces_fit _ (tracing.read lines is o h) r = traces_lines o (subst (λ (ls : List Line). tracing.LinesTrace journey ls o) (one_listing fit.text lines fit.lines is fit.is_listing) h) r
+  traces_fit _ (tracing.read lines is o h) r = traces_lines o (subst (λ (ls : List ListingLine). tracing.LinesTrace asked ls o) (one_listing fit.text lines fit.lines is fit.is_listing) h) r
 
 module _ (base : ℕ) (out : List ℕ) (texts : List (List ℕ)) (fit : FitTidying base texts) where
   tidies_lines : (o : Outcome) → tidying.LinesTidy base out fit.lines o → IsRefusing o → ⊥
@@ -163,7 +163,7 @@ module _ (base : ℕ) (out : List ℕ) (texts : List (List ℕ)) (fit : FitTidyi
 
   tidies_fit : (o : Outcome) → tidying.Tidies base out fit.text o → IsRefusing o → ⊥
   tidies_fit _ (tidying.unread cause h) r = never_unread_listing fit.text fit.lines cause fit.is_listing h
-  tidies_fit _ (tidying.read lines is o h) r = tidies_lines o (subst (λ (ls : List Line). tidying.LinesTidy base out ls o) (one_listing fit.text lines fit.lines is fit.is_listing) h) r
+  tidies_fit _ (tidying.read lines is o h) r = tidies_lines o (subst (λ (ls : List ListingLine). tidying.LinesTidy base out ls o) (one_listing fit.text lines fit.lines is fit.is_listing) h) r
 
 -- ---- all that learn no table ----
 
@@ -172,11 +172,11 @@ fit_unrefused (rewrite table listing out image base) texts o plain fit h = rewri
 fit_unrefused (audit table) texts o plain fit h = audits_fit fit.text fit.rules o (record { is = fit.is_table; accepted = fit.accepted }) (by_text tables.Audits texts fit.text o fit.is_text h)
 fit_unrefused (learn listing out costs settings) texts o plain fit h = absurd (plain tt)
 fit_unrefused (export table entry cnf lrat) texts o plain fit h =
-    let to : Extract = record { entry = entry; cnf = cnf; lrat = lrat } in
+    let to : ExportArguments = record { entry = entry; cnf = cnf; lrat = lrat } in
     exports_fit to texts fit o (by_text (tables.Exports to) texts fit.text o fit.is_text h)
 fit_unrefused (trace listing label steps) texts o plain fit h =
-    let journey : Journey = record { label = label; most = steps } in
-    traces_fit journey texts fit o (by_text (tracing.Traces journey) texts fit.text o fit.is_text h)
+    let asked : TraceArguments = record { label = label; most = steps } in
+    traces_fit asked texts fit o (by_text (tracing.Traces asked) texts fit.text o fit.is_text h)
 fit_unrefused (demo windows) texts o plain fit h = absurd (plain tt)
 fit_unrefused (generalise table entry number low high out) texts o plain fit h = absurd (plain tt)
 fit_unrefused (trim table out) texts o plain fit h = trims_fit out fit.text fit.rules o (record { is = fit.is_table; accepted = fit.accepted }) (by_text (trimming.Trims out) texts fit.text o fit.is_text h)
@@ -199,11 +199,11 @@ unfolding IsRefusing TellsFullIf
 none_so (Refuses line) h = absurd (h tt)
 none_so (Does keeps lines) h = tt
 
-unlearnt_full : (s : Settings) (lines : List Line) (cause : Cause) → width_of s ≤ 5000000 → learning.IsUnlearnt s lines cause → TellsFull (refusal_line cause)
+unlearnt_full : (s : Settings) (lines : List ListingLine) (cause : Cause) → width_of s ≤ 5000000 → learning.IsUnlearnt s lines cause → TellsFull (refusal_line cause)
 unlearnt_full s lines _ narrow (learning.too_wide wide) = absurd (omega (arith, narrow, wide))
 unlearnt_full s lines _ narrow (learning.too_long windows are t bytes full) = (bytes, refl)
 
-module _ (to : Lesson) (text : List ℕ) (given : List Line) (listing : IsListing text given) (narrow : width_of to.settings ≤ 5000000) where
+module _ (to : LearnArguments) (text : List ℕ) (given : List ListingLine) (listing : IsListing text given) (narrow : width_of to.settings ≤ 5000000) where
   learns_lines : (o : Outcome) → learning.LinesLearn to given o → TellsFullIf o
   unfolding TellsFullIf
   learns_lines _ (learning.unlearnt cause h) = unlearnt_full to.settings given cause narrow h
@@ -211,9 +211,9 @@ module _ (to : Lesson) (text : List ℕ) (given : List Line) (listing : IsListin
 
   learns_fit : (o : Outcome) → learning.Learns to text o → TellsFullIf o
   learns_fit _ (learning.unread cause h) = absurd (never_unread_listing text given cause listing h)
-  learns_fit _ (learning.read lines is o h) = learns_lines o (subst (λ (ls : List Line). learning.LinesLearn to ls o) (one_listing text lines given is listing) h)
+  learns_fit _ (learning.read lines is o h) = learns_lines o (subst (λ (ls : List ListingLine). learning.LinesLearn to ls o) (one_listing text lines given is listing) h)
 
-module _ (to : Lesson) (texts : List (List ℕ)) (fit : FitLearningByCosts to.settings texts) where
+module _ (to : LearnArguments) (texts : List (List ℕ)) (fit : FitLearningByCosts to.settings texts) where
   by_costs_fit : (o : Outcome) → learning.LearnsByCosts to fit.text fit.cost_text o → TellsFullIf o
   by_costs_fit _ (learning.unpriced line h) = absurd (cost.not_both fit.cost_text fit.costs line fit.are_costs h)
   by_costs_fit _ (learning.priced_so cs is o h) =
@@ -260,7 +260,7 @@ tells_full (audit table) texts o fit h = none_so o (fit_unrefused (audit table) 
 tells_full (export table entry cnf lrat) texts o fit h = none_so o (fit_unrefused (export table entry cnf lrat) texts o (λ x. x) fit h)
 tells_full (trace listing label steps) texts o fit h = none_so o (fit_unrefused (trace listing label steps) texts o (λ x. x) fit h)
 tells_full (learn listing out None s) texts o fit h =
-    let to : Lesson = record { out = out; settings = s } in
+    let to : LearnArguments = record { out = out; settings = s } in
     learns_fit to fit.text fit.lines fit.is_listing fit.narrow o (by_text (learning.Learns to) texts fit.text o fit.is_text h)
 tells_full (learn listing out (Some costs) s) texts o fit h = both_fit (record { out = out; settings = s }) texts fit o h
 tells_full (demo windows) texts o fit h = shows_full windows o h

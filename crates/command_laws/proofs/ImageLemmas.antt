@@ -7,7 +7,7 @@ use Rattle.thumb_instr.specs.declared.instr.Instr.TheVariants as instr
 use Rattle.thumb_instr.specs.Items.{bytes_of}
 use Rattle.thumb_instr.proofs.Registers.{same_number, same_distance}
 use Rattle.thumb_table.specs.Table.{width, row_of, code_of}
-use Rattle.thumb_model.specs.Listing.{Name, Mention, Statement, Nothing, Runs, Words, Aligns, Sets, Line}
+use Rattle.thumb_model.specs.Listing.{Name, Mention, Statement, Nothing, Instruction, Words, Aligns, Sets, ListingLine}
 use Rattle.thumb_model.specs.Layout.{instr_size, size_at, set_address}
 use Rattle.thumb_model.specs.Naming.{laid}
 use Rattle.thumb_assembler.specs.Bytes.{Aims, mention_lies, half_bytes, IsInstrBytes, Laid, IsEncoded, IsStatementBytes, AreLineBytes, IsSetBy, AreImage}
@@ -89,19 +89,19 @@ encoded_once laid at i (Some m) bs cs (j, a, p) (k, b, q) =
 
 statement_once : (laid : Laid) (at : ℕ) (s : Statement) (bs cs : List ℕ) → IsStatementBytes laid at s bs → IsStatementBytes laid at s cs → bs ≡ cs
 statement_once laid at Nothing bs cs p q = p ∙ sym q
-statement_once laid at (Runs i mention) bs cs p q = encoded_once laid at i mention bs cs p q
+statement_once laid at (Instruction i mention) bs cs p q = encoded_once laid at i mention bs cs p q
 statement_once laid at (Words vs) bs cs p q = p ∙ sym q
 statement_once laid at (Aligns size most) bs cs p q = p ∙ sym q
 statement_once laid at (Sets name address) bs cs p q = p ∙ sym q
 
-lines_once : (laid : Laid) (at : ℕ) (ls : List Line) (bs cs : List ℕ) → AreLineBytes laid at ls bs → AreLineBytes laid at ls cs → bs ≡ cs
+lines_once : (laid : Laid) (at : ℕ) (ls : List ListingLine) (bs cs : List ℕ) → AreLineBytes laid at ls bs → AreLineBytes laid at ls cs → bs ≡ cs
 lines_once laid at [] bs cs p q = p ∙ sym q
 lines_once laid at (l ∷ ls) bs cs (here, rest, e, p, more) (there, others, f, q, further) =
     let first : here ≡ there = statement_once laid at l.statement here there p q in
     let last : rest ≡ others = lines_once laid (at + size_at l.statement at) ls rest others more further in
     e ∙ ((λ k. first k ++ last k) ∙ sym f)
 
-pub image_once : (base : ℕ) (lines : List Line) (bytes others : List ℕ) → AreImage base lines bytes → AreImage base lines others → bytes ≡ others
+pub image_once : (base : ℕ) (lines : List ListingLine) (bytes others : List ℕ) → AreImage base lines bytes → AreImage base lines others → bytes ≡ others
 image_once base lines bytes others p q =
     let set : Name → ℕ = λ name. unwrap_or (set_address name lines) 0 in
     let is : IsSetBy lines set = λ name address e. ap (λ (o : Option ℕ). unwrap_or o 0) e in

@@ -3,7 +3,7 @@ use Rattle.thumb_model.specs.Listing.{code_of}
 use Rattle.thumb_model.specs.Naming.{Fits, laid}
 use Rattle.rule_model.proofs.Given.{left_namings_fit}
 use Rattle.listing_laws.proofs.Assembled.{assembled_listings_fit}
-use Rattle.window_rewrite.specs.Rewriting.{setting}
+use Rattle.window_rewrite.specs.TableRewriting.{setting}
 use Rattle.command_laws.specs.Images.{KeptImagesFollow}
 
 pub kept_images_follow : KeptImagesFollow

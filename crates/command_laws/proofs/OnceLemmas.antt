@@ -3,7 +3,7 @@ use Rattle.std.proofs.Common.{◌≡◌, ◌∙◌, ◌≤◌, ◌<◌, ◌⊎�
 use Rattle.std.specs.Prelude.{nat_le, nat_lt, false, unwrap_or}
 use Rattle.std.proofs.lemmas.Bool.{cases_Bool, leb-true, leb-false, le-ltb}
 use Rattle.std.proofs.lemmas.Option.{slice_get_within}
-use Rattle.thumb_model.specs.Listing.{Line}
+use Rattle.thumb_model.specs.Listing.{ListingLine}
 use Rattle.thumb_model.specs.Layout.{Fault, Layable}
 use Rattle.rule_model.specs.Rewriting.{Replacement}
 use Rattle.rule_model.proofs.Unique.{is_determined}
@@ -24,18 +24,18 @@ use Rattle.table_audit.specs.Shorter.{SidesFit}
 use Rattle.table_audit.specs.Families.{entry_at, entry_of, family_at, raised_formula, IsRaisable}
 use Rattle.table_audit.proofs.Determined.{table_same}
 use Rattle.table_learn.specs.Learnt.{Settings, Window, Learnt}
-use Rattle.window_rewrite.specs.Rewriting.{setting}
+use Rattle.window_rewrite.specs.TableRewriting.{setting}
 use Rattle.thumb_assembler.specs.Bytes.{first_flaw}
 use Rattle.command_runs.specs.Plans.{Outcome, Refuses, Does}
 use Rattle.audit_cli.specs.Printed.{refusal_line, unlaid_refusal, report_of, image_line, entries_line, IsUnlisted, unlisted, IsUnaudited, no_table, other_state, too_wide, bad_entry, bad_family, IsUnread, unread, IsUnlaid, unlaid, HasNoImage, no_address, inside, IsAudited}
 use Rattle.audit_cli.specs.Rewrite.{Destination, Counts, Leaves, alone, pair, no_image, IsRewriting, instruction_count}
 use Rattle.audit_cli.specs.Rewrite as rewriting
-use Rattle.audit_cli.specs.Tables.{Extract, extracted}
+use Rattle.audit_cli.specs.Tables.{ExportArguments, exported}
 use Rattle.audit_cli.specs.Tables as tables
 use Rattle.audit_cli.specs.Upgrade as upgrading
 use Rattle.audit_cli.specs.Trim as trimming
 use Rattle.command_laws.proofs.TrimLemmas.{trimming_once}
-use Rattle.audit_cli.specs.Learn.{Lesson, IsUnlearnt, LinesLearn, Learns, LearnsByCosts, priced, unpriced_at}
+use Rattle.audit_cli.specs.Learn.{LearnArguments, IsUnlearnt, LinesLearn, Learns, LearnsByCosts, priced, unpriced_at}
 use Rattle.audit_cli.specs.Learn as learning
 use Rattle.command_laws.specs.Once.{IsOne, AreOfOneListing, LearningIsOneButForTables, LearningByCostsIsOneButForTables}
 use Rattle.audit_cli.proofs.DemoLemmas.{never_unaudited, none_some, never_without_image}
@@ -101,13 +101,13 @@ one_audited text t u h k = one_table text u t k.is h.is
 pub unread_once : (text : List ℕ) (r s : Cause) → IsUnread text r → IsUnread text s → r ≡ s
 unread_once text _ _ (unread n k h) (unread m j g) = let both = one_verdict.refused_once text n m k j h g in let line : n ≡ m = both.0 in let kind : k ≡ j = both.1 in cc
 
-pub never_unread_listing : (text : List ℕ) (lines : List Line) (r : Cause) → IsListing text lines → IsUnread text r → ⊥
+pub never_unread_listing : (text : List ℕ) (lines : List ListingLine) (r : Cause) → IsListing text lines → IsUnread text r → ⊥
 never_unread_listing text lines _ is (unread n k h) = one_verdict.not_both text lines n k is h
 
-pub unlaid_once : (base : ℕ) (lines : List Line) (r s : Cause) → IsUnlaid base lines r → IsUnlaid base lines s → r ≡ s
+pub unlaid_once : (base : ℕ) (lines : List ListingLine) (r s : Cause) → IsUnlaid base lines r → IsUnlaid base lines s → r ≡ s
 unlaid_once base lines _ _ (unlaid n f h) (unlaid m g k) = ap (λ (x : ℕ × Fault). unlaid_refusal x.0 x.1) (let both : Some (n, f) ≡ Some (m, g) = sym h ∙ k in some_same (n, f) (m, g) both)
 
-pub never_unlaid : (base : ℕ) (lines : List Line) (r : Cause) → Layable base lines → IsUnlaid base lines r → ⊥
+pub never_unlaid : (base : ℕ) (lines : List ListingLine) (r : Cause) → Layable base lines → IsUnlaid base lines r → ⊥
 never_unlaid base lines _ laid (unlaid n f h) = none_some (first_fault base lines) (n, f) laid h
 
 -- ---- images ----
@@ -118,7 +118,7 @@ numbers_same {A} o n m f g h k = ap (λ (x : ℕ × A). x.0) (some_same (n, f) (
 flaws_same : {A : Type 0} (o : Option (ℕ × A)) (n m : ℕ) (f g : A) → o ≡ Some (n, f) → o ≡ Some (m, g) → f ≡ g
 flaws_same {A} o n m f g h k = ap (λ (x : ℕ × A). x.1) (some_same (n, f) (m, g) (sym h ∙ k))
 
-without_image_once : (base : ℕ) (lines : List Line) (r s : Cause) → HasNoImage base lines r → HasNoImage base lines s → r ≡ s
+without_image_once : (base : ℕ) (lines : List ListingLine) (r s : Cause) → HasNoImage base lines r → HasNoImage base lines s → r ≡ s
 without_image_once base lines _ _ (no_address n h) (no_address m k) = let same : n ≡ m = numbers_same (first_flaw base lines) n m _ _ h k in cc
 without_image_once base lines _ _ (no_address n h) (inside m k) = absurd (let bad = flaws_same (first_flaw base lines) n m _ _ h k in cc)
 without_image_once base lines _ _ (inside n h) (no_address m k) = absurd (let bad = flaws_same (first_flaw base lines) n m _ _ h k in cc)
@@ -126,7 +126,7 @@ without_image_once base lines _ _ (inside n h) (inside m k) = let same : n ≡ m
 
 -- ---- `rewrite` ----
 
-leaves_once : (to : Destination) (lines : List Line) (c : Counts) (o p : Outcome) → Leaves to lines c o → Leaves to lines c p → o ≡ p
+leaves_once : (to : Destination) (lines : List ListingLine) (c : Counts) (o p : Outcome) → Leaves to lines c o → Leaves to lines c p → o ≡ p
 leaves_once to lines c _ _ (alone n) (alone m) = refl
 leaves_once to lines c _ _ (alone n) (pair some bytes made) = absurd (some n)
 leaves_once to lines c _ _ (alone n) (no_image some r h) = absurd (some n)
@@ -138,16 +138,16 @@ leaves_once to lines c _ _ (no_image some r h) (alone n) = absurd (some n)
 leaves_once to lines c _ _ (no_image some r h) (pair other bytes made) = absurd (never_without_image to.base lines r made.sound h)
 leaves_once to lines c _ _ (no_image some r h) (no_image other s k) = refuses_same r s (without_image_once to.base lines r s h k)
 
-rewriting_once : (to : Destination) (t : Table) (given : List Line) (o p : Outcome) → IsRewriting to t given o → IsRewriting to t given p → o ≡ p
+rewriting_once : (to : Destination) (t : Table) (given : List ListingLine) (o p : Outcome) → IsRewriting to t given o → IsRewriting to t given p → o ≡ p
 rewriting_once to t given o p h k =
     let d = is_determined (setting to.base t) given h.sound.sound h.replacements k.replacements h.lines k.lines h.rewritten k.rewritten in
     let replacements : k.replacements ≡ h.replacements = sym d.0 in
     let lines : k.lines ≡ h.lines = sym d.1 in
     let left : Leaves to h.lines (record { replaced = length h.replacements; before = instruction_count given; after = instruction_count h.lines }) p =
-    subst (λ (x : List Replacement × List Line). Leaves to x.1 (record { replaced = length x.0; before = instruction_count given; after = instruction_count x.1 }) p) (λ i. (replacements i, lines i)) k.left in
+    subst (λ (x : List Replacement × List ListingLine). Leaves to x.1 (record { replaced = length x.0; before = instruction_count given; after = instruction_count x.1 }) p) (λ i. (replacements i, lines i)) k.left in
     leaves_once to h.lines _ o p h.left left
 
-lines_rewrite_once : (to : Destination) (t : Table) (given : List Line) (o p : Outcome) → rewriting.LinesRewrite to t given o → rewriting.LinesRewrite to t given p → o ≡ p
+lines_rewrite_once : (to : Destination) (t : Table) (given : List ListingLine) (o p : Outcome) → rewriting.LinesRewrite to t given o → rewriting.LinesRewrite to t given p → o ≡ p
 lines_rewrite_once to t given _ _ (rewriting.unlaid r h) (rewriting.unlaid s k) = refuses_same r s (unlaid_once to.base given r s h k)
 lines_rewrite_once to t given _ p (rewriting.unlaid r h) (rewriting.rewritten layable p' k) = absurd (never_unlaid to.base given r layable h)
 lines_rewrite_once to t given o _ (rewriting.rewritten layable o' h) (rewriting.unlaid s k) = absurd (never_unlaid to.base given s layable k)
@@ -158,7 +158,7 @@ rewrites_once to t text _ _ (rewriting.unread r h) (rewriting.unread s k) = refu
 rewrites_once to t text _ _ (rewriting.unread r h) (rewriting.read lines is p k) = absurd (never_unread_listing text lines r is h)
 rewrites_once to t text _ _ (rewriting.read lines is o h) (rewriting.unread s k) = absurd (never_unread_listing text lines s is k)
 rewrites_once to t text _ _ (rewriting.read lines is o h) (rewriting.read others are p k) =
-    lines_rewrite_once to t lines o p h (subst (λ (ls : List Line). rewriting.LinesRewrite to t ls p) (one_listing text others lines are is) k)
+    lines_rewrite_once to t lines o p h (subst (λ (ls : List ListingLine). rewriting.LinesRewrite to t ls p) (one_listing text others lines are is) k)
 
 comes_once : (to : Destination) (table listing : List ℕ) (o p : Outcome) → rewriting.Comes to table listing o → rewriting.Comes to table listing p → o ≡ p
 comes_once to table listing _ _ (rewriting.unaudited r h) (rewriting.unaudited s k) = refuses_same r s (unaudited_once table r s h k)
@@ -215,7 +215,7 @@ apart t (suc n) e f h k =
     let none : family_at t (suc n) ≡ None = rw within refl in
     none_some (family_at t (suc n)) f none k
 
-entries_once : (to : Extract) (t : Table) (e : Rule) (o p : Outcome) → tables.ExportsEntry to t e o → tables.ExportsEntry to t e p → o ≡ p
+entries_once : (to : ExportArguments) (t : Table) (e : Rule) (o p : Outcome) → tables.ExportsEntry to t e o → tables.ExportsEntry to t e p → o ≡ p
 entries_once to t e _ _ (tables.unfit h) (tables.unfit k) = refl
 entries_once to t e _ _ (tables.unfit h) (tables.found k) = absurd (h k)
 entries_once to t e _ _ (tables.found h) (tables.unfit k) = absurd (k h)
@@ -225,7 +225,7 @@ entries_once to t e _ _ (tables.found h) (tables.found k) = refl
 raised_same : (t : Table) (f : Family) (e x : Rule) → entry_of t f ≡ Some e → entry_of t f ≡ Some x → e ≡ x
 raised_same t f e x h k = some_same e x (sym h ∙ k)
 
-families_once : (to : Extract) (t : Table) (f : Family) (o p : Outcome) → tables.ExportsFamily to t f o → tables.ExportsFamily to t f p → o ≡ p
+families_once : (to : ExportArguments) (t : Table) (f : Family) (o p : Outcome) → tables.ExportsFamily to t f o → tables.ExportsFamily to t f p → o ≡ p
 families_once to t f _ _ (tables.raises_none h) (tables.raises_none k) = refl
 families_once to t f _ _ (tables.raises_none h) (tables.raises_unfit x k m) = absurd (none_some (entry_of t f) x h k)
 families_once to t f _ _ (tables.raises_none h) (tables.unraisable x k s m) = absurd (none_some (entry_of t f) x h k)
@@ -241,16 +241,16 @@ families_once to t f _ _ (tables.unraisable e h r n) (tables.raised x k s m) = a
 families_once to t f _ _ (tables.raised e h r n) (tables.raises_none k) = absurd (none_some (entry_of t f) e k h)
 families_once to t f _ _ (tables.raised e h r n) (tables.raises_unfit x k m) = absurd (m (subst (SidesFit t) (raised_same t f e x h k) r))
 families_once to t f _ _ (tables.raised e h r n) (tables.unraisable x k s m) = absurd (m (subst (λ (y : Rule). IsRaisable t.header.pool f y.left) (raised_same t f e x h k) n))
-families_once to t f _ _ (tables.raised e h r n) (tables.raised x k s m) = ap (λ (y : Rule). extracted to (raised_formula t.header f y) f.proof) (raised_same t f e x h k)
+families_once to t f _ _ (tables.raised e h r n) (tables.raised x k s m) = ap (λ (y : Rule). exported to (raised_formula t.header f y) f.proof) (raised_same t f e x h k)
 
 -- what is said of one table of a text is so of the other
-pub entry_moved : (to : Extract) (text : List ℕ) (t u : Table) (o : Option Rule) → IsText text t → IsText text u → entry_at t.rules to.entry ≡ o → entry_at u.rules to.entry ≡ o
+pub entry_moved : (to : ExportArguments) (text : List ℕ) (t u : Table) (o : Option Rule) → IsText text t → IsText text u → entry_at t.rules to.entry ≡ o → entry_at u.rules to.entry ≡ o
 entry_moved to text t u o is are h = subst (λ (x : Table). entry_at x.rules to.entry ≡ o) (one_table text t u is are) h
 
-pub family_moved : (to : Extract) (text : List ℕ) (t u : Table) (o : Option Family) → IsText text t → IsText text u → family_at t to.entry ≡ o → family_at u to.entry ≡ o
+pub family_moved : (to : ExportArguments) (text : List ℕ) (t u : Table) (o : Option Family) → IsText text t → IsText text u → family_at t to.entry ≡ o → family_at u to.entry ≡ o
 family_moved to text t u o is are h = subst (λ (x : Table). family_at x to.entry ≡ o) (one_table text t u is are) h
 
-exports_once : (to : Extract) (text : List ℕ) (o p : Outcome) → tables.Exports to text o → tables.Exports to text p → o ≡ p
+exports_once : (to : ExportArguments) (text : List ℕ) (o p : Outcome) → tables.Exports to text o → tables.Exports to text p → o ≡ p
 exports_once to text _ _ (tables.refused r h) (tables.refused s k) = refuses_same r s (unlisted_once text r s h k)
 exports_once to text _ _ (tables.refused r h) (tables.absent t is a b) = absurd (never_unlisted text t r is h)
 exports_once to text _ _ (tables.refused r h) (tables.entry t is e k p c) = absurd (never_unlisted text t r is h)
@@ -274,7 +274,7 @@ exports_once to text _ _ (tables.of_family t is f h o c) (tables.of_family u are
     let moved : tables.ExportsFamily to t g p = subst (λ (y : Table). tables.ExportsFamily to y g p) (one_table text u t are is) d in
     families_once to t f o p c (subst (λ (x : Family). tables.ExportsFamily to t x p) same moved)
 
-pub export_once : (to : Extract) → IsOne (tables.ExportComesTo to)
+pub export_once : (to : ExportArguments) → IsOne (tables.ExportComesTo to)
 export_once to = one_text (tables.Exports to) (exports_once to)
 
 -- ---- `upgrade` ----
@@ -320,28 +320,28 @@ narrow_learnt s windows t h =
     subst (λ (x : Settings). width_of x ≤ 5000000) h.header width
 
 -- with many sequences lines are refused for that
-wide_causes : (s : Settings) (lines : List Line) (r q : Cause) → 5000000 < width_of s → IsUnlearnt s lines r → IsUnlearnt s lines q → r ≡ q
+wide_causes : (s : Settings) (lines : List ListingLine) (r q : Cause) → 5000000 < width_of s → IsUnlearnt s lines r → IsUnlearnt s lines q → r ≡ q
 wide_causes s lines _ _ many (learning.too_wide w) (learning.too_wide v) = refl
 wide_causes s lines _ q many (learning.too_long windows are t bytes full) k = absurd (let few = narrow_learnt s _ t full.learnt in omega (arith, few, many))
 wide_causes s lines r _ many h (learning.too_long windows are t bytes full) = absurd (let few = narrow_learnt s _ t full.learnt in omega (arith, few, many))
 
-wide : (to : Lesson) (lines : List Line) (o p : Outcome) → 5000000 < width_of to.settings → LinesLearn to lines o → LinesLearn to lines p → o ≡ p
+wide : (to : LearnArguments) (lines : List ListingLine) (o p : Outcome) → 5000000 < width_of to.settings → LinesLearn to lines o → LinesLearn to lines p → o ≡ p
 wide to lines _ _ many (learning.unlearnt r h) (learning.unlearnt s k) = refuses_same r s (wide_causes to.settings lines r s many h k)
 wide to lines _ p many (learning.learnt t h) k = absurd (let few = narrow_learnt to.settings h.windows t h.learnt in omega (arith, few, many))
 wide to lines o _ many h (learning.learnt t k) = absurd (let few = narrow_learnt to.settings k.windows t k.learnt in omega (arith, few, many))
 
-lines_learn_once : (to : Lesson) (text : List ℕ) (lines : List Line) (o p : Outcome) → IsListing text lines → LinesLearn to lines o → LinesLearn to lines p → (o ≡ p) ⊎ AreOfOneListing to text o p
+lines_learn_once : (to : LearnArguments) (text : List ℕ) (lines : List ListingLine) (o p : Outcome) → IsListing text lines → LinesLearn to lines o → LinesLearn to lines p → (o ≡ p) ⊎ AreOfOneListing to text o p
 lines_learn_once to text lines o p is h k = elim (cases_Bool (nat_le (width_of to.settings) 5000000)) [
   | inl few ↦ inr (record { lines = lines; listing = is; narrow = leb-true (width_of to.settings) 5000000 few; first = h; second = k })
   | inr many ↦ inl (let w = leb-false (width_of to.settings) 5000000 many in wide to lines o p w h k)
 ]
 
-learns_once : (to : Lesson) (text : List ℕ) (o p : Outcome) → Learns to text o → Learns to text p → (o ≡ p) ⊎ AreOfOneListing to text o p
+learns_once : (to : LearnArguments) (text : List ℕ) (o p : Outcome) → Learns to text o → Learns to text p → (o ≡ p) ⊎ AreOfOneListing to text o p
 learns_once to text _ _ (learning.unread r h) (learning.unread s k) = inl (refuses_same r s (unread_once text r s h k))
 learns_once to text _ _ (learning.unread r h) (learning.read lines is p k) = absurd (never_unread_listing text lines r is h)
 learns_once to text _ _ (learning.read lines is o h) (learning.unread s k) = absurd (never_unread_listing text lines s is k)
 learns_once to text _ _ (learning.read lines is o h) (learning.read others js p k) =
-    lines_learn_once to text lines o p is h (subst (λ (ls : List Line). LinesLearn to ls p) (one_listing text others lines js is) k)
+    lines_learn_once to text lines o p is h (subst (λ (ls : List ListingLine). LinesLearn to ls p) (one_listing text others lines js is) k)
 
 pub learning_once : LearningIsOneButForTables
 learning_once to texts o p (text, is, h) (other, are, k) =
@@ -352,7 +352,7 @@ learning_once to texts o p (text, is, h) (other, are, k) =
     ]
 
 -- by costs: a text is one of costs and says what they are, or it is refused at one line
-by_costs_once : (to : Lesson) (texts : List (List ℕ)) (text costs : List ℕ) (o p : Outcome) → texts ≡ text ∷ costs ∷ [] → LearnsByCosts to text costs o → LearnsByCosts to text costs p
+by_costs_once : (to : LearnArguments) (texts : List (List ℕ)) (text costs : List ℕ) (o p : Outcome) → texts ≡ text ∷ costs ∷ [] → LearnsByCosts to text costs o → LearnsByCosts to text costs p
     → (o ≡ p) ⊎ ((t bytes cs : List ℕ) × (texts ≡ t ∷ bytes ∷ []) × IsCostText bytes cs × AreOfOneListing (priced cs to) t o p)
 by_costs_once to texts text costs _ _ are (learning.unpriced n h) (learning.unpriced m k) = inl (ap unpriced_at (cost.refused_once costs n m h k))
 by_costs_once to texts text costs _ _ are (learning.unpriced n h) (learning.priced_so cs is p k) = absurd (cost.not_both costs cs n is h)

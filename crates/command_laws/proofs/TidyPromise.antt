@@ -1,7 +1,7 @@
 -- A done run of `tidy` has done what its theorem says, field by field.
 use Rattle.std.proofs.Common.{◌≡◌, ◌∙◌, ℕ, List, [], ◌∷◌, ◌++◌, length, ap, subst}
 use Rattle.std.specs.Prelude.{Ok}
-use Rattle.thumb_model.specs.Listing.{Line}
+use Rattle.thumb_model.specs.Listing.{ListingLine}
 use Rattle.thumb_model.specs.Layout.{Layable}
 use Rattle.listing_parser.specs.Parsing.{IsListing, text_of_lines}
 use Rattle.flow_tidy.specs.Tidying.{setting}
@@ -25,12 +25,12 @@ IsAct (Does keeps lines) = Unit {0}
 
 -- what a run that isn't refused found: the lines of a listing, which were tidied
 record Found (base : ℕ) (out text : List ℕ) (o : Outcome) : Type 0 where
-  given : List Line
+  given : List ListingLine
   listed : IsListing text given
   layable : Layable base given
   done : IsTidying base out given o
 
-found_lines : (base : ℕ) (out text : List ℕ) (given : List Line) (o : Outcome) → IsListing text given → LinesTidy base out given o → IsAct o → Found base out text o
+found_lines : (base : ℕ) (out text : List ℕ) (given : List ListingLine) (o : Outcome) → IsListing text given → LinesTidy base out given o → IsAct o → Found base out text o
 unfolding IsAct
 found_lines base out text given _ listed (unlaid r h) act = absurd act
 found_lines base out text given _ listed (tidied layable o h) act = record { given = given; listed = listed; layable = layable; done = h }

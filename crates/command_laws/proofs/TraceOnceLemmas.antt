@@ -4,9 +4,9 @@ use Rattle.std.specs.Prelude.{slice_get, nat_lt}
 use Rattle.std.proofs.lemmas.Bool.{cases_Bool, ltb-true, ltb-false}
 use Rattle.thumb_instr.specs.declared.instr.Instr.{Instr}
 use Rattle.thumb_instr.specs.declared.instr.Instr.TheVariants as instr
-use Rattle.thumb_model.specs.Listing.{Mention, Line, Place, Op, Word, Code, code_of, place_of, places_of, is_call, is_call_instr, call_count}
+use Rattle.thumb_model.specs.Listing.{Mention, ListingLine, Place, Op, Word, Code, code_of, place_of, places_of, is_call, is_call_instr, call_count}
 use Rattle.thumb_model.specs.Naming.{Naming, points_of, returns_from, points}
-use Rattle.thumb_model.specs.States.{Around, World, State, Event, At, Here, Ended, Over, Stay}
+use Rattle.thumb_model.specs.States.{Around, World, State, Event, Position, Here, Ended, Over, Stay}
 use Rattle.thumb_model.specs.Acts.{act}
 use Rattle.thumb_model.specs.Steps.{point_among, landing, target_at, aim_of, literal_at, around_of, does, step_on, step_at, step, times}
 use Rattle.thumb_model.specs.Same.{has_ended, begun}
@@ -16,7 +16,7 @@ use Rattle.thumb_machine.specs.Stages.{end_of, next_on, next_at, stage_of}
 use Rattle.thumb_machine.specs.declared.machine.Stage.{Stage}
 use Rattle.listing_parser.proofs.MadeLemmas.{one_listing}
 use Rattle.command_runs.specs.Plans.{Outcome, Does}
-use Rattle.audit_cli.specs.Trace.{Journey, GoesOn, StandsAfter, goes, wants, ended, IsRun, start_world, event_lines, steps_line, LinesTrace, Traces, TraceComesTo}
+use Rattle.audit_cli.specs.Trace.{TraceArguments, GoesOn, StandsAfter, goes, wants, ended, IsRun, start_world, event_lines, steps_line, LinesTrace, Traces, TraceComesTo}
 use Rattle.audit_cli.specs.Trace as tracing
 use Rattle.command_laws.specs.Once.{IsOne}
 use Rattle.audit_cli.proofs.DemoLemmas.{none_some}
@@ -31,7 +31,7 @@ record Agree (calls : ℕ) (a b : Naming) : Type 0 where
   high : a.high ≡ b.high
   returns : (k : ℕ) → k < calls → a.return_word k ≡ b.return_word k
 
-agree_laid : (base : ℕ) (lines : List Line) (a b : Naming) → IsLaid base lines a → IsLaid base lines b → Agree (call_count (places_of lines)) a b
+agree_laid : (base : ℕ) (lines : List ListingLine) (a b : Naming) → IsLaid base lines a → IsLaid base lines b → Agree (call_count (places_of lines)) a b
 agree_laid base lines a b h k = record {
   words = λ i name. (h.word_of name ∙ sym (k.word_of name)) i;
   low = h.low ∙ sym k.low;
@@ -123,7 +123,7 @@ module _ (code : Code) (a b : Naming) (agree : Agree (call_count code.places) a 
   on_same p (Some (Word v)) s e = refl
   on_same p (Some (Op i mention)) s e = ap (λ x. does p (p + 1) x s) (acts_same p i mention s.world e)
 
-  at_same : (at : At) (s : State) → step_at mid code at s ≡ step_at b code at s
+  at_same : (at : Position) (s : State) → step_at mid code at s ≡ step_at b code at s
   at_same Ended s = refl
   at_same (Here p) s = on_same p (slice_get code.places p) s refl
 
@@ -132,7 +132,7 @@ module _ (code : Code) (a b : Naming) (agree : Agree (call_count code.places) a 
   next_on_same p (Some (Word v)) s e = refl
   next_on_same p (Some (Op i mention)) s e = ap (λ x. x.next) (acts_same p i mention s.world e)
 
-  next_mid : (at : At) (s : State) → next_at mid code at s ≡ next_at b code at s
+  next_mid : (at : Position) (s : State) → next_at mid code at s ≡ next_at b code at s
   next_mid Ended s = refl
   next_mid (Here p) s = next_on_same p (slice_get code.places p) s refl
 
@@ -140,7 +140,7 @@ module _ (code : Code) (a b : Naming) (agree : Agree (call_count code.places) a 
   steps_same : step a code ≡ step b code
   steps_same = ap (λ (names : Naming). step names code) (renamed_as (call_count code.places) a b agree) ∙ (λ i s. at_same s.at s i)
 
-  nexts_same : (at : At) (s : State) → next_at a code at s ≡ next_at b code at s
+  nexts_same : (at : Position) (s : State) → next_at a code at s ≡ next_at b code at s
   nexts_same at s = ap (λ (names : Naming). next_at names code at s) (renamed_as (call_count code.places) a b agree) ∙ next_mid at s
 
   times_same : (n : ℕ) (s : State) → times (step a code) n s ≡ times (step b code) n s
@@ -182,7 +182,7 @@ module _ (names : Naming) (code : Code) (most : ℕ) where
 
   never_stays : (s : State) → has_ended s.at ≡ true → next_at names code s.at s ≡ Stay → ⊥
   never_stays s over stay = at s.at over stay where
-    at : (place : At) → has_ended place ≡ true → next_at names code place s ≡ Stay → ⊥
+    at : (place : Position) → has_ended place ≡ true → next_at names code place s ≡ Stay → ⊥
     at Ended over stay = let bad : Over ≡ Stay = stay in absurd (cc)
     at (Here p) over stay = true≢false (sym over)
 
@@ -216,37 +216,37 @@ module _ (names : Naming) (code : Code) (most : ℕ) where
 -- ---- `trace` ----
 
 -- what is told of a run
-abbrev told : Journey → List Line → Naming → ℕ → Stage → Outcome
-told journey lines names n s = Does [] (event_lines (times (step names (code_of lines)) n (begun (code_of lines) journey.label start_world [])).events ++ steps_line n s)
+abbrev told : TraceArguments → List ListingLine → Naming → ℕ → Stage → Outcome
+told asked lines names n s = Does [] (event_lines (times (step names (code_of lines)) n (begun (code_of lines) asked.label start_world [])).events ++ steps_line n s)
 
-told_once : (journey : Journey) (lines : List Line) (a b : Naming) (n m : ℕ) (x y : Stage) → IsLaid 0 lines a → IsLaid 0 lines b
-    → IsRun a (code_of lines) (begun (code_of lines) journey.label start_world []) journey.most n x → IsRun b (code_of lines) (begun (code_of lines) journey.label start_world []) journey.most m y
-    → told journey lines a n x ≡ told journey lines b m y
-told_once journey lines a b n m x y h k run other =
+told_once : (asked : TraceArguments) (lines : List ListingLine) (a b : Naming) (n m : ℕ) (x y : Stage) → IsLaid 0 lines a → IsLaid 0 lines b
+    → IsRun a (code_of lines) (begun (code_of lines) asked.label start_world []) asked.most n x → IsRun b (code_of lines) (begun (code_of lines) asked.label start_world []) asked.most m y
+    → told asked lines a n x ≡ told asked lines b m y
+told_once asked lines a b n m x y h k run other =
     let code = code_of lines in
-    let start = begun code journey.label start_world [] in
+    let start = begun code asked.label start_world [] in
     let agree = agree_laid 0 lines a b h k in
-    let same = one_run b code journey.most start n m x y (run_same code a b agree start journey.most n x run) other in
+    let same = one_run b code asked.most start n m x y (run_same code a b agree start asked.most n x run) other in
     let steps : times (step a code) n start ≡ times (step b code) m start = times_same code a b agree n start ∙ ap (λ (j : ℕ). times (step b code) j start) same.0 in
     λ i. Does [] (event_lines (steps i).events ++ steps_line (same.0 i) (same.1 i))
 
-lines_trace_once : (journey : Journey) (lines : List Line) (o p : Outcome) → LinesTrace journey lines o → LinesTrace journey lines p → o ≡ p
-lines_trace_once journey lines _ _ (tracing.unlaid r h) (tracing.unlaid s k) = refuses_same r s (unlaid_once 0 lines r s h k)
-lines_trace_once journey lines _ _ (tracing.unlaid r h) (tracing.unlabelled laid none) = absurd (never_unlaid 0 lines r laid h)
-lines_trace_once journey lines _ _ (tracing.unlaid r h) (tracing.ran laid p at names is n s run) = absurd (never_unlaid 0 lines r laid h)
-lines_trace_once journey lines _ _ (tracing.unlabelled laid none) (tracing.unlaid s k) = absurd (never_unlaid 0 lines s laid k)
-lines_trace_once journey lines _ _ (tracing.unlabelled laid none) (tracing.unlabelled other too) = refl
-lines_trace_once journey lines _ _ (tracing.unlabelled laid none) (tracing.ran other p at names is n s run) = absurd (none_some (place_of (code_of lines) journey.label) p none at)
-lines_trace_once journey lines _ _ (tracing.ran laid p at names is n s run) (tracing.unlaid r k) = absurd (never_unlaid 0 lines r laid k)
-lines_trace_once journey lines _ _ (tracing.ran laid p at names is n s run) (tracing.unlabelled other none) = absurd (none_some (place_of (code_of lines) journey.label) p none at)
-lines_trace_once journey lines _ _ (tracing.ran laid p at names is n s run) (tracing.ran other q there others are m t too) = told_once journey lines names others n m s t is are run too
+lines_trace_once : (asked : TraceArguments) (lines : List ListingLine) (o p : Outcome) → LinesTrace asked lines o → LinesTrace asked lines p → o ≡ p
+lines_trace_once asked lines _ _ (tracing.unlaid r h) (tracing.unlaid s k) = refuses_same r s (unlaid_once 0 lines r s h k)
+lines_trace_once asked lines _ _ (tracing.unlaid r h) (tracing.unlabelled laid none) = absurd (never_unlaid 0 lines r laid h)
+lines_trace_once asked lines _ _ (tracing.unlaid r h) (tracing.ran laid p at names is n s run) = absurd (never_unlaid 0 lines r laid h)
+lines_trace_once asked lines _ _ (tracing.unlabelled laid none) (tracing.unlaid s k) = absurd (never_unlaid 0 lines s laid k)
+lines_trace_once asked lines _ _ (tracing.unlabelled laid none) (tracing.unlabelled other too) = refl
+lines_trace_once asked lines _ _ (tracing.unlabelled laid none) (tracing.ran other p at names is n s run) = absurd (none_some (place_of (code_of lines) asked.label) p none at)
+lines_trace_once asked lines _ _ (tracing.ran laid p at names is n s run) (tracing.unlaid r k) = absurd (never_unlaid 0 lines r laid k)
+lines_trace_once asked lines _ _ (tracing.ran laid p at names is n s run) (tracing.unlabelled other none) = absurd (none_some (place_of (code_of lines) asked.label) p none at)
+lines_trace_once asked lines _ _ (tracing.ran laid p at names is n s run) (tracing.ran other q there others are m t too) = told_once asked lines names others n m s t is are run too
 
-traces_once : (journey : Journey) (text : List ℕ) (o p : Outcome) → Traces journey text o → Traces journey text p → o ≡ p
-traces_once journey text _ _ (tracing.unread r h) (tracing.unread s k) = refuses_same r s (unread_once text r s h k)
-traces_once journey text _ _ (tracing.unread r h) (tracing.read lines is p k) = absurd (never_unread_listing text lines r is h)
-traces_once journey text _ _ (tracing.read lines is o h) (tracing.unread s k) = absurd (never_unread_listing text lines s is k)
-traces_once journey text _ _ (tracing.read lines is o h) (tracing.read others are p k) =
-    lines_trace_once journey lines o p h (subst (λ (ls : List Line). LinesTrace journey ls p) (one_listing text others lines are is) k)
+traces_once : (asked : TraceArguments) (text : List ℕ) (o p : Outcome) → Traces asked text o → Traces asked text p → o ≡ p
+traces_once asked text _ _ (tracing.unread r h) (tracing.unread s k) = refuses_same r s (unread_once text r s h k)
+traces_once asked text _ _ (tracing.unread r h) (tracing.read lines is p k) = absurd (never_unread_listing text lines r is h)
+traces_once asked text _ _ (tracing.read lines is o h) (tracing.unread s k) = absurd (never_unread_listing text lines s is k)
+traces_once asked text _ _ (tracing.read lines is o h) (tracing.read others are p k) =
+    lines_trace_once asked lines o p h (subst (λ (ls : List ListingLine). LinesTrace asked ls p) (one_listing text others lines are is) k)
 
-pub trace_once : (journey : Journey) → IsOne (TraceComesTo journey)
-trace_once journey = one_text (Traces journey) (traces_once journey)
+pub trace_once : (asked : TraceArguments) → IsOne (TraceComesTo asked)
+trace_once asked = one_text (Traces asked) (traces_once asked)

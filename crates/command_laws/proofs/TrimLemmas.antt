@@ -25,7 +25,7 @@ use Rattle.table_audit.specs.Families.{entry_at, entry_of, raised_formula, IsRai
 use Rattle.table_audit.specs.Soundness.{rewriting_rule, instances_of, numbers_of}
 use Rattle.table_learn.specs.Learnt.{text_length}
 use Rattle.rule_model.specs.Rules as model
-use Rattle.window_rewrite.specs.Rewriting.{setting_by}
+use Rattle.window_rewrite.specs.TableRewriting.{setting_by}
 use Rattle.audit_cli.specs.Trim.{IsTrimmedRule, IsTrimmedFamily, IsTrimmedTable}
 use Rattle.audit_cli.proofs.Refutations.{passed_refutes, refutes_passed}
 use Rattle.audit_cli.proofs.DemoLemmas.{none_some}

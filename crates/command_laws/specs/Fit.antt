@@ -1,7 +1,7 @@
 -- Fit texts are carried out: what a text must be that nothing in it stands in the way of a command.
 use Rattle.std.specs.Prelude.{◌≡◌, ◌≤◌, ◌⊎◌, ℕ, All, List, [], ◌∷◌, ◌++◌, Some, None, IsSome, codes}
 use Rattle.std.specs.Str.{IsUtf8}
-use Rattle.thumb_model.specs.Listing.{Line, code_of, place_of}
+use Rattle.thumb_model.specs.Listing.{ListingLine, code_of, place_of}
 use Rattle.thumb_model.specs.Layout.{Layable}
 use Rattle.listing_parser.specs.Parsing.{IsListing}
 use Rattle.rule_table.specs.Table.{Rule, Family, Table}
@@ -35,7 +35,7 @@ pub record FitRewriting (image : List ℕ) (base : ℕ) (texts : List (List ℕ)
   pub rules : Table
   pub is_table : IsTableText table_text rules
   pub accepted : IsAccepted rules
-  pub given : List Line
+  pub given : List ListingLine
   pub is_listing : IsListing listing_text given
   pub layable : Layable base given
   -- each name that `b`, `bl` or `.word` mentions has a label or an address that a line sets, and no address that is set lies in the image
@@ -85,7 +85,7 @@ pub record FitExport (number : ℕ) (texts : List (List ℕ)) : Type 0 where
 pub record FitTrace (label : List ℕ) (texts : List (List ℕ)) : Type 0 where
   pub text : List ℕ
   pub is_text : texts ≡ text ∷ []
-  pub lines : List Line
+  pub lines : List ListingLine
   pub is_listing : IsListing text lines
   pub layable : Layable 0 lines
   pub labelled : IsSome (place_of (code_of lines) label)
@@ -94,7 +94,7 @@ pub record FitTrace (label : List ℕ) (texts : List (List ℕ)) : Type 0 where
 pub record FitTidying (base : ℕ) (texts : List (List ℕ)) : Type 0 where
   pub text : List ℕ
   pub is_text : texts ≡ text ∷ []
-  pub lines : List Line
+  pub lines : List ListingLine
   pub is_listing : IsListing text lines
   pub layable : Layable base lines
 
@@ -102,7 +102,7 @@ pub record FitTidying (base : ℕ) (texts : List (List ℕ)) : Type 0 where
 pub record FitLearning (s : Settings) (texts : List (List ℕ)) : Type 0 where
   pub text : List ℕ
   pub is_text : texts ≡ text ∷ []
-  pub lines : List Line
+  pub lines : List ListingLine
   pub is_listing : IsListing text lines
   pub narrow : width_of s ≤ 5000000
 
@@ -111,7 +111,7 @@ pub record FitLearningByCosts (s : Settings) (texts : List (List ℕ)) : Type 0 
   pub text : List ℕ
   pub cost_text : List ℕ
   pub are : texts ≡ text ∷ cost_text ∷ []
-  pub lines : List Line
+  pub lines : List ListingLine
   pub is_listing : IsListing text lines
   pub costs : List ℕ
   pub are_costs : IsCostText cost_text costs

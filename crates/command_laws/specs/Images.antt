@@ -1,10 +1,10 @@
 -- The run of the image that `rewrite` keeps, with nothing asked of a naming but what the given listing needs.
 use Rattle.std.specs.Prelude.{ℕ, List}
-use Rattle.thumb_model.specs.Listing.{Name, Line, code_of}
+use Rattle.thumb_model.specs.Listing.{Name, ListingLine, code_of}
 use Rattle.thumb_model.specs.Naming.{laid}
 use Rattle.rule_model.specs.Laws.{TellsApart}
 use Rattle.rule_table.specs.Table.{Table}
-use Rattle.thumb_assembler.specs.Runs.{IsAssembled, Follows}
+use Rattle.thumb_assembler.specs.Runs.{IsAssembled, ImageFollows}
 use Rattle.listing_laws.specs.Assembled.{IsOutside}
 use Rattle.command_runs.specs.Plans.{Outcome}
 use Rattle.audit_cli.specs.Rewrite.{Destination, IsRewriting}
@@ -12,6 +12,6 @@ use Rattle.audit_cli.specs.Rewrite.{Destination, IsRewriting}
 -- an image of the lines that are left meets their run; and the given lines' run, where no two of their code points at different places came to one address
 abbrev pub KeptImagesFollow : Type 0
 KeptImagesFollow =
-    (to : Destination) (t : Table) (given : List Line) (o : Outcome) (h : IsRewriting to t given o) (bytes : List ℕ) → IsAssembled to.base h.lines bytes
+    (to : Destination) (t : Table) (given : List ListingLine) (o : Outcome) (h : IsRewriting to t given o) (bytes : List ℕ) → IsAssembled to.base h.lines bytes
     → (set : Name → ℕ) → IsOutside to.base set h.lines
-    → Follows to.base set h.lines bytes h.lines × (TellsApart (laid to.base set h.lines) (code_of given) → Follows to.base set h.lines bytes given)
+    → ImageFollows to.base set h.lines bytes h.lines × (TellsApart (laid to.base set h.lines) (code_of given) → ImageFollows to.base set h.lines bytes given)

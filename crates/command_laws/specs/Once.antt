@@ -1,13 +1,13 @@
 -- Texts come to one outcome: what a request is to do with them is fixed, but for what the solver's searches give where a table is learnt or a family added.
 use Rattle.std.specs.Prelude.{◌≡◌, ◌≤◌, ◌⊎◌, ℕ, List, [], ◌∷◌}
-use Rattle.thumb_model.specs.Listing.{Line}
+use Rattle.thumb_model.specs.Listing.{ListingLine}
 use Rattle.listing_parser.specs.Parsing.{IsListing}
 use Rattle.rule_table.specs.Table.{Rule, Family, Table}
 use Rattle.seq_enum.specs.Costs.{IsCostText}
 use Rattle.table_audit.specs.Acceptance.{width_of}
 use Rattle.command_line.specs.CommandLine.{Request, rewrite, audit, learn, export, trace, demo, upgrade, trim, tidy, generalise}
 use Rattle.command_runs.specs.Plans.{Outcome}
-use Rattle.audit_cli.specs.Learn.{Lesson, LinesLearn, LearnComesTo, LearnByCostsComesTo, priced}
+use Rattle.audit_cli.specs.Learn.{LearnArguments, LinesLearn, LearnComesTo, LearnByCostsComesTo, priced}
 use Rattle.audit_cli.specs.Demo.{IsDemo}
 use Rattle.audit_cli.specs.Printed.{IsAudited}
 use Rattle.audit_cli.specs.Generalise.{IsRaisableFor, Generalises, GeneraliseComesTo}
@@ -35,8 +35,8 @@ abbrev pub TextsComeToOne : Type 0
 TextsComeToOne = (r : Request) → (AsksSolver r → ⊥) → IsOne (plan_of r).comes
 
 -- a table was learnt from the lines of the one listing, and kept, or its text is too long
-pub record AreOfOneListing (to : Lesson) (text : List ℕ) (o p : Outcome) : Type 0 where
-  pub lines : List Line
+pub record AreOfOneListing (to : LearnArguments) (text : List ℕ) (o p : Outcome) : Type 0 where
+  pub lines : List ListingLine
   pub listing : IsListing text lines
   pub narrow : width_of to.settings ≤ 5000000
   pub first : LinesLearn to lines o
@@ -44,12 +44,12 @@ pub record AreOfOneListing (to : Lesson) (text : List ℕ) (o p : Outcome) : Typ
 
 -- and so with `learn`, but for which table that is
 abbrev pub LearningIsOneButForTables : Type 0
-LearningIsOneButForTables = (to : Lesson) (texts : List (List ℕ)) (o p : Outcome) → LearnComesTo to texts o → LearnComesTo to texts p
+LearningIsOneButForTables = (to : LearnArguments) (texts : List (List ℕ)) (o p : Outcome) → LearnComesTo to texts o → LearnComesTo to texts p
     → (o ≡ p) ⊎ ((text : List ℕ) × (texts ≡ text ∷ []) × AreOfOneListing to text o p)
 
 -- also by the one costs of a text
 abbrev pub LearningByCostsIsOneButForTables : Type 0
-LearningByCostsIsOneButForTables = (to : Lesson) (texts : List (List ℕ)) (o p : Outcome) → LearnByCostsComesTo to texts o → LearnByCostsComesTo to texts p
+LearningByCostsIsOneButForTables = (to : LearnArguments) (texts : List (List ℕ)) (o p : Outcome) → LearnByCostsComesTo to texts o → LearnByCostsComesTo to texts p
     → (o ≡ p) ⊎ ((text costs cs : List ℕ) × (texts ≡ text ∷ costs ∷ []) × IsCostText costs cs × AreOfOneListing (priced cs to) text o p)
 
 -- and with `demo`: by one table so many windows come to one thing

@@ -1,7 +1,7 @@
 -- The theorem on `tidy` in one record, in the order in which a user would say it. It follows from the contract of the top call, and says nothing more.
 use Rattle.std.specs.Prelude.{◌≡◌, ◌+◌, ◌*◌, ◌≤◌, ℕ, All, List, [], ◌∷◌, ◌++◌, Ok, length}
 use Rattle.std.specs.Str.{IsUtf8}
-use Rattle.thumb_model.specs.Listing.{Line, code_of, places_of}
+use Rattle.thumb_model.specs.Listing.{ListingLine, code_of, places_of}
 use Rattle.thumb_model.specs.Layout.{Layable}
 use Rattle.thumb_model.specs.Same.{Same}
 use Rattle.listing_parser.specs.Parsing.{IsListing, text_of_lines}
@@ -20,11 +20,11 @@ pub record HasTidied (listing out : List ℕ) (base : ℕ) (old new : Seen) (bef
   pub text : List ℕ
   pub text_held : Gave old listing text
   -- it is a well-formed listing, which can be laid out
-  pub given : List Line
+  pub given : List ListingLine
   pub is_listing : IsListing text given
   pub given_layable : Layable base given
   -- lines are left: while some change is possible, it is made at the first place where one is, first that which is tried first
-  pub lines : List Line
+  pub lines : List ListingLine
   pub changes : List Change
   pub tidied : AreTidied (setting base) given changes lines
   -- they have the same runs from every state, in no more steps

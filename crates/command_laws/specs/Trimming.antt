@@ -3,7 +3,7 @@ use Rattle.std.specs.Prelude.{◌≡◌, ◌≤◌, ℕ}
 use Rattle.rule_table.specs.Table.{Table, IsTable}
 use Rattle.table_audit.specs.Acceptance.{IsAccepted}
 use Rattle.table_learn.specs.Learnt.{text_length}
-use Rattle.window_rewrite.specs.Rewriting.{setting}
+use Rattle.window_rewrite.specs.TableRewriting.{setting}
 use Rattle.audit_cli.specs.Trim.{IsTrimmedTable}
 
 abbrev pub TrimmedTablesAreAccepted : Type 0

@@ -5,7 +5,7 @@ use Rattle.rule_table.specs.Refused.{IsText}
 use Rattle.rule_table.specs.Text.{text_of}
 use Rattle.table_audit.specs.declared.errors.AuditError.{AuditError}
 use Rattle.table_audit.specs.Acceptance.{TableVerdict}
-use Rattle.window_rewrite.specs.Rewriting.{setting}
+use Rattle.window_rewrite.specs.TableRewriting.{setting}
 use Rattle.audit_cli.specs.Upgrade.{upgraded}
 
 -- the upgrade has a text, and the audit has the same verdict on it

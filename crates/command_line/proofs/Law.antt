@@ -12,7 +12,7 @@ use Rattle.clap.specs.Kinds.{Kinds, or_else}
 use Rattle.clap.specs.declared.error.kind.ErrorKind.TheVariants as kind
 use Rattle.clap.specs.declared.parser.matches.ValueSource.TheVariants.{CommandLine}
 use Rattle.command_line.specs.Words.{Text, Given, is_named}
-use Rattle.command_line.proofs.Reading.{Mode, free, opened, tail, Word, dashes, joined, apart, plain, stray, uses, use_word, word_of, at_end, more, to_positional, once_after}
+use Rattle.command_line.proofs.Reading.{Mode, free, opened, tail, WordKind, dashes, joined, apart, plain, stray, uses, use_word, word_of, at_end, more, to_positional, once_after}
 use Rattle.command_line.proofs.Level.{word_rule, option_rule, leaf, or_else_nil, or_else_assoc, held, between, fresh}
 
 abbrev pub clean : Kinds → Bool
@@ -329,7 +329,7 @@ module _ (name : Text) (c : List Rule) (at : ℕ → Option Text) (is_option is_
   abbrev pub fin : Walk → List Text → List Row
   fin w ws = finished c (fold (walked c []) w ws).held
 
-  uses_at : (x : Text) (xs : List Text) (m : Mode) (i : ℕ) (w : Word) → word_of is_option x ≡ w → uses at is_option (x ∷ xs) m i ≡ use_word w m i x (at i) (uses at is_option xs)
+  uses_at : (x : Text) (xs : List Text) (m : Mode) (i : ℕ) (w : WordKind) → word_of is_option x ≡ w → uses at is_option (x ∷ xs) m i ≡ use_word w m i x (at i) (uses at is_option xs)
   unfolding uses
   uses_at x xs m i w is = rw is refl
 
@@ -470,7 +470,7 @@ module _ (name : Text) (c : List Rule) (at : ℕ → Option Text) (is_option is_
           ∙ ih ∙ sym (verdict_more before (id, v) o ∙ rw new refl)
     ]
 
-    use_step : (x : Text) (xs : List Text) (m : Mode) (i : ℕ) (w : Word) → word_of is_option x ≡ w → uses at is_option (x ∷ xs) m i ≡ use_word w m i x (at i) (uses at is_option xs)
+    use_step : (x : Text) (xs : List Text) (m : Mode) (i : ℕ) (w : WordKind) → word_of is_option x ≡ w → uses at is_option (x ∷ xs) m i ≡ use_word w m i x (at i) (uses at is_option xs)
     unfolding uses
     use_step x xs m i w is = rw is refl
 

@@ -5,23 +5,23 @@ use Rattle.clap.specs.Lexer.{long_of, short_of}
 use Rattle.command_line.specs.Words.{Text, Given, is_named}
 
 -- what a word is: `--`, `--name=value`, `--name`, a word that is no option, or none of these
-pub data Word : Type 0 where
-  dashes : Word
-  joined : Text → Text → Word
-  apart : Text → Word
-  plain : Word
-  stray : Word
+pub data WordKind : Type 0 where
+  dashes : WordKind
+  joined : Text → Text → WordKind
+  apart : Text → WordKind
+  plain : WordKind
+  stray : WordKind
 
-abbrev pub option_word : Text → Option Text → Word
+abbrev pub option_word : Text → Option Text → WordKind
 option_word n (Some v) = joined n v
 option_word n None = apart n
 
-abbrev pub word_by : (Text → Bool) → Option (Text × Option Text) → Option Text → Word
+abbrev pub word_by : (Text → Bool) → Option (Text × Option Text) → Option Text → WordKind
 word_by is_option (Some p) s = if is_option p.0 then option_word p.0 p.1 else stray
 word_by is_option None (Some s) = stray
 word_by is_option None None = plain
 
-abbrev pub word_of : (Text → Bool) → Text → Word
+abbrev pub word_of : (Text → Bool) → Text → WordKind
 word_of is_option x = if bytes_eq x (45 ∷ 45 ∷ []) then dashes else word_by is_option (long_of x) (short_of x)
 
 -- nothing waits; an option waits for its value; only positional words come
@@ -36,7 +36,7 @@ more u us = option_map (λ xs. u ∷ xs) us
 abbrev pub to_positional : Option Text → Text → Option (List Given) → Option (List Given)
 to_positional id x next = option_and_then (λ n. more (n, x) next) id
 
-abbrev pub use_word : Word → Mode → ℕ → Text → Option Text → (Mode → ℕ → Option (List Given)) → Option (List Given)
+abbrev pub use_word : WordKind → Mode → ℕ → Text → Option Text → (Mode → ℕ → Option (List Given)) → Option (List Given)
 use_word w tail i x id next = to_positional id x (next tail (i + 1))
 use_word plain (opened n) i x id next = more (n, x) (next free i)
 use_word w (opened n) i x id next = None

@@ -1,3 +1,3 @@
 pub mod StageLemmas
 pub mod RunLemmas
-pub mod Deeds
+pub mod Keeps

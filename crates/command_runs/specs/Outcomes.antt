@@ -2,7 +2,7 @@
 use Rattle.std.specs.Prelude.{ℕ, string_bytes, map}
 use Rattle.command_runs.specs.declared.status.Status.{Status}
 use Rattle.command_runs.specs.declared.status.Status.TheVariants as status
-use Rattle.command_runs.specs.declared.outcome.Deed.{Deed}
+use Rattle.command_runs.specs.declared.outcome.KeptText.{KeptText}
 use Rattle.command_runs.specs.declared.outcome.Outcome.{Outcome}
 use Rattle.command_runs.specs.declared.outcome.Outcome.TheVariants as outcome
 use Rattle.command_runs.specs.Plans.{Keep, Outcome as Comes, Refuses, Does}
@@ -19,10 +19,10 @@ code_of status.TooBig = 6
 code_of status.Missing = 7
 
 -- a name and its bytes
-abbrev pub deed_view : Deed → Keep
-deed_view d = (string_bytes d.name, d.text.items)
+abbrev pub keep_view : KeptText → Keep
+keep_view d = (string_bytes d.name, d.text.items)
 
 -- the line, or what is kept and printed
 abbrev pub outcome_view : Outcome → Comes
 outcome_view (outcome.Refuses line) = Refuses line.items
-outcome_view (outcome.Does keeps lines) = Does (map deed_view keeps.items) lines.items
+outcome_view (outcome.Does keeps lines) = Does (map keep_view keeps.items) lines.items

@@ -5,6 +5,6 @@ mod outcome;
 mod stages;
 mod status;
 
-pub use outcome::{Deed, Outcome};
-pub use stages::{Command, run};
+pub use outcome::{KeptText, Outcome};
+pub use stages::{TextCommand, run};
 pub use status::Status;

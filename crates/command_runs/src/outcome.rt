@@ -5,26 +5,26 @@ use std::alloc::{AllocError, Global};
 
 /// Bytes to be kept under a name.
 #[derive(Drop)]
-pub struct Deed {
+pub struct KeptText {
     /// The name.
     pub name: String,
     /// What is kept under it.
     pub text: Vec<u8>,
 }
 
-impl Deed {
-    ghost use Rattle.command_runs.specs.Outcomes.{deed_view};
+impl KeptText {
+    ghost use Rattle.command_runs.specs.Outcomes.{keep_view};
 
     /// The text, to be kept under the name.
     ///
     /// # Errors
     ///
     /// Only where memory runs out.
-    pub fn new(alloc: Global, name: &str, text: Vec<u8>) -> Result<Deed, AllocError>
-        ensures { IfOk result (λ d. deed_view d ≡ (name.now, text.items)) }
+    pub fn new(alloc: Global, name: &str, text: Vec<u8>) -> Result<KeptText, AllocError>
+        ensures { IfOk result (λ d. keep_view d ≡ (name.now, text.items)) }
     {
         let name = String::from_str(alloc, name)?;
-        Ok(Deed { name, text })
+        Ok(KeptText { name, text })
     }
 }
 
@@ -34,5 +34,8 @@ pub enum Outcome {
     /// One line, with its newline.
     Refuses(Vec<u8>),
     /// What is kept, in order, and the lines that are then printed, each with its newline.
-    Does { keeps: Vec<Deed>, lines: Vec<u8> },
+    Does {
+        keeps: Vec<KeptText>,
+        lines: Vec<u8>,
+    },
 }

@@ -7,9 +7,9 @@ ghost use Rattle.outer_store.specs.Answers.{Grows, SinkGrows};
 ghost use Rattle.command_runs.specs.Plans.{Outcome as Comes};
 ghost use Rattle.command_runs.specs.Runs.{Runs};
 ghost use Rattle.command_runs.specs.Stages.{Reads, Gathers, StoresOne, Stores, Prints, Finishes};
-ghost use Rattle.command_runs.specs.Outcomes.{deed_view, outcome_view};
+ghost use Rattle.command_runs.specs.Outcomes.{keep_view, outcome_view};
 
-use crate::outcome::{Deed, Outcome};
+use crate::outcome::{KeptText, Outcome};
 use crate::status::Status;
 use outer_store::{Sink, SinkError, Store, StoreError};
 use std::alloc::{AllocError, Global};
@@ -67,12 +67,12 @@ fn keep_one<S: Store>(store: &mut S, name: &str, text: &[u8]) -> Result<(), Stat
 
 /// Keeps each text, in order, up to the first that cannot be.
 #[tactic(auto, using(crate::proofs::StageLemmas::stores_more, crate::proofs::StageLemmas::stores_stop, crate::proofs::StageLemmas::counts_first, crate::proofs::StageLemmas::grows_again, crate::proofs::StageLemmas::grows_first))]
-fn keep_all<S: Store>(store: &mut S, deeds: &[Deed]) -> Result<(), Status>
-    ensures stores { Stores (map deed_view deeds.now) (S.seen store.old) (S.seen store.new) result }
+fn keep_all<S: Store>(store: &mut S, keeps: &[KeptText]) -> Result<(), Status>
+    ensures stores { Stores (map keep_view keeps.now) (S.seen store.old) (S.seen store.new) result }
     ensures grows { Grows (S.seen store.old) (S.seen store.new) }
 {
-    for deed in deeds {
-        match keep_one(store, deed.name.as_str(), &deed.text) {
+    for keep in keeps {
+        match keep_one(store, keep.name.as_str(), &keep.text) {
             Err(status) => return Err(status),
             Ok(()) => continue,
         }
@@ -112,7 +112,7 @@ fn finish<S: Store, O: Sink>(store: &mut S, sink: &mut O, outcome: Outcome) -> S
 }
 
 /// What a command makes of the texts that it fetches.
-pub trait Command {
+pub trait TextCommand {
     ghost takes: { ℕ };
 
     ghost comes: { Self → List (List ℕ) → Comes → Type 0 };
@@ -134,7 +134,7 @@ pub trait Command {
 
 /// A whole run: fetches the texts under the names, of which there are as many as the command takes, computes, keeps and prints.
 #[tactic(auto, using(crate::proofs::RunLemmas::stopped, crate::proofs::RunLemmas::finished, crate::proofs::StageLemmas::grows_again, crate::proofs::StageLemmas::sink_first))]
-pub fn run<C: Command, S: Store, O: Sink, L: Ledger>(
+pub fn run<C: TextCommand, S: Store, O: Sink, L: Ledger>(
     alloc: Global,
     command: &C,
     names: &[&str],

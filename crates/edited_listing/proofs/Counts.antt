@@ -5,7 +5,7 @@ use Rattle.std.proofs.lemmas.Bool.{cases_Bool}
 use Rattle.std.proofs.lemmas.Option.{same_Some}
 use Rattle.thumb_instr.specs.declared.instr.Instr.{Instr}
 use Rattle.kept_places.specs.Marks.{rank}
-use Rattle.thumb_model.specs.Listing.{Name, Statement, Nothing, Runs, Words, Aligns, Sets, Line, Word, places_in, places_of, is_op_place}
+use Rattle.thumb_model.specs.Listing.{Name, Statement, Nothing, Instruction, Words, Aligns, Sets, ListingLine, Word, places_in, places_of, is_op_place}
 use Rattle.thumb_model.specs.Replaced.{is_op, labels_kept, replaced_lines}
 use Rattle.std.proofs.lemmas.List.{length-replicate}
 use Rattle.thumb_model.proofs.Lists.{length_drop, length_map}
@@ -13,7 +13,7 @@ use Rattle.listing_parser.specs.Parsing.{own_line}
 use Rattle.edited_listing.specs.declared.standing.Standing.{Standing}
 use Rattle.edited_listing.specs.declared.standing.Standing.TheVariants as standing
 use Rattle.edited_listing.specs.Items.{Item, AsGiven, New, items_from}
-use Rattle.edited_listing.specs.Printing.{is_given_at, print_at, line_at, lines_from}
+use Rattle.edited_listing.specs.Emitting.{is_given_at, emit_at, line_at, lines_from}
 use Rattle.edited_listing.specs.Changes.{is_none, is_as_given, home_at}
 use Rattle.edited_listing.specs.Counting.{one_if, is_labelled, item_labelled, labels_in, op_labels, some_name}
 use Rattle.edited_listing.specs.Places.{item_of}
@@ -22,38 +22,38 @@ use Rattle.edited_listing.specs.Laws.{IsWindowAt}
 use Rattle.edited_listing.proofs.Kept.{item_at, home_op}
 use Rattle.edited_listing.proofs.Counted.{label_at}
 use Rattle.edited_listing.proofs.Edits.{edits_count, edits_replace}
-use Rattle.edited_listing.proofs.Prints.{and_true, and_false}
+use Rattle.edited_listing.proofs.Emits.{and_true, and_false}
 
 -- ---- no more lines than lines that were given and items ----
 
 module _ (write : Instr → List ℕ) where
-  abbrev IsShort : List Line → (List Item → List Line) → Type 0
+  abbrev IsShort : List ListingLine → (List Item → List ListingLine) → Type 0
   IsShort ls behind = (xs : List Item) → length (behind xs) ≤ length ls + length xs
 
-  print_short : (p : ℕ) (xs : List Item) (ls : List Line) (behind : List Item → List Line) → IsShort ls behind → length (print_at write p xs behind) ≤ length ls + length xs
-  print_short p [] ls behind h = h []
-  print_short p (AsGiven q ∷ xs) ls behind h = h (AsGiven q ∷ xs)
-  print_short p (New i home ∷ xs) ls behind h = elim (cases_Bool (home == p)) [
-    | inl e ↦ rw e (let less = print_short p xs ls behind h in omega arith)
+  emit_short : (p : ℕ) (xs : List Item) (ls : List ListingLine) (behind : List Item → List ListingLine) → IsShort ls behind → length (emit_at write p xs behind) ≤ length ls + length xs
+  emit_short p [] ls behind h = h []
+  emit_short p (AsGiven q ∷ xs) ls behind h = h (AsGiven q ∷ xs)
+  emit_short p (New i home ∷ xs) ls behind h = elim (cases_Bool (home == p)) [
+    | inl e ↦ rw e (let less = emit_short p xs ls behind h in omega arith)
     | inr e ↦ rw e (h (New i home ∷ xs))
   ]
 
-  labels_short : (l : Line) (ns : List Name) → length (labels_kept l ns) ≤ 1
+  labels_short : (l : ListingLine) (ns : List Name) → length (labels_kept l ns) ≤ 1
   labels_short l [] = omega arith
   labels_short l (n ∷ ns) = omega arith
 
-  line_short : (p : ℕ) (l : Line) (xs : List Item) (ls : List Line) (behind : List Item → List Line) → IsShort ls behind → length (line_at write p l xs behind) ≤ suc (length ls) + length xs
+  line_short : (p : ℕ) (l : ListingLine) (xs : List Item) (ls : List ListingLine) (behind : List Item → List ListingLine) → IsShort ls behind → length (line_at write p l xs behind) ≤ suc (length ls) + length xs
   line_short p l xs ls behind h = elim (cases_Bool (is_given_at p xs)) [
     | inl g ↦ rw g (let less = h (drop 1 xs) in let fewer = length_drop 1 xs in omega arith)
     | inr g ↦ rw g (
-        let all = length-append (labels_kept l l.names) (print_at write p xs behind) in
+        let all = length-append (labels_kept l l.names) (emit_at write p xs behind) in
         let one = labels_short l l.names in
-        let less = print_short p xs ls behind h in
+        let less = emit_short p xs ls behind h in
         omega arith
         )
   ]
 
-  lines_short : (ls : List Line) (p : ℕ) (xs : List Item) → length (lines_from write p xs ls) ≤ length ls + length xs
+  lines_short : (ls : List ListingLine) (p : ℕ) (xs : List Item) → length (lines_from write p xs ls) ≤ length ls + length xs
   lines_short [] p xs = omega arith
   lines_short (l ∷ ls) p xs = elim (cases_Bool (is_op l.statement)) [
     | inl o ↦ rw o (line_short p l xs ls (λ rest. lines_from write (suc p) rest ls) (λ rest. lines_short ls (suc p) rest))
@@ -82,7 +82,7 @@ given_op e p n new standing.Given is w g =
 given_op e p n new standing.Gone is w g = absurd (true≢false (sym g))
 given_op e p n new (standing.New i h) is w g = absurd (true≢false (sym g))
 
-label_item : (given : List Line) (p : ℕ) (s : Standing) (b : Bool) → is_none s ≡ false → (is_as_given s ≡ true → is_op_place (slice_get (places_of given) p) ≡ true) → slice_get (op_labels given) p ≡ Some b → (b && is_as_given s) ≡ item_labelled 0 given (item_of p s)
+label_item : (given : List ListingLine) (p : ℕ) (s : Standing) (b : Bool) → is_none s ≡ false → (is_as_given s ≡ true → is_op_place (slice_get (places_of given) p) ≡ true) → slice_get (op_labels given) p ≡ Some b → (b && is_as_given s) ≡ item_labelled 0 given (item_of p s)
 label_item given p standing.Given b k o e = and_true b ∙ same_Some b (is_labelled p given) (sym e ∙ label_at given p (o refl)) ∙ ap (λ j. is_labelled j given) (let z : p ≡ p - 0 = omega arith in z)
 label_item given p standing.Gone b k o e = absurd (true≢false k)
 label_item given p (standing.New i home) b k o e = and_false b
@@ -103,12 +103,12 @@ counted_after e p count new s b is w l =
 
 labels_many : (b : Bool) (s : Statement) → length (labels_in b s) ≡ length (places_in s)
 labels_many b Nothing = refl
-labels_many b (Runs i mention) = refl
+labels_many b (Instruction i mention) = refl
 labels_many b (Words vs) = length-replicate (length vs) false ∙ sym (length_map Word vs)
 labels_many b (Aligns size most) = refl
 labels_many b (Sets name address) = refl
 
-pub op_labels_many : (ls : List Line) → length (op_labels ls) ≡ length (places_of ls)
+pub op_labels_many : (ls : List ListingLine) → length (op_labels ls) ≡ length (places_of ls)
 op_labels_many [] = refl
 op_labels_many (l ∷ ls) =
     let here = labels_many (some_name l.names) l.statement in

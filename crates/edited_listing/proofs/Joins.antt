@@ -4,18 +4,18 @@ use Rattle.std.specs.Prelude.{slice_get}
 use Rattle.std.proofs.lemmas.Bool.{cases_Bool, eqb-true, eqb-false}
 use Rattle.std.proofs.lemmas.Option.{same_Some}
 use Rattle.thumb_instr.specs.declared.instr.Instr.{Instr}
-use Rattle.thumb_model.specs.Listing.{Name, Value, Statement, Nothing, Runs, Words, Aligns, Sets, Line, Word, Place, places_in, places_of, is_op_place}
+use Rattle.thumb_model.specs.Listing.{Name, Value, Statement, Nothing, Instruction, Words, Aligns, Sets, ListingLine, Word, Place, places_in, places_of, is_op_place}
 use Rattle.thumb_model.specs.Replaced.{is_op, labels_kept}
 use Rattle.thumb_model.proofs.Lists.{get_back, get_drop, length_map}
-use Rattle.window_runs.specs.declared.rows.Row.{Row}
+use Rattle.window_runs.specs.declared.rows.WindowPlace.{WindowPlace}
 use Rattle.window_runs.specs.Rows.{is_unlabelled, letter_of, rows_of, stays_joined, rows_from}
 use Rattle.edited_listing.specs.Items.{Item, AsGiven, New, home_of, AreSorted}
-use Rattle.edited_listing.specs.Printing.{is_given_at, print_at, line_at, lines_from}
+use Rattle.edited_listing.specs.Emitting.{is_given_at, emit_at, line_at, lines_from}
 use Rattle.edited_listing.specs.Giving.{WordsStand}
 use Rattle.edited_listing.specs.Edited.{letter_in}
 use Rattle.edited_listing.specs.Known.{row_joined, joined_at, all_from}
 use Rattle.edited_listing.proofs.Sorted.{sorted_less, not_given}
-use Rattle.edited_listing.proofs.Printed.{words_behind, words_past, stand_behind, other_line}
+use Rattle.edited_listing.proofs.Emitted.{words_behind, words_past, stand_behind, other_line}
 use Rattle.thumb_model.proofs.LinesReplaced.{kept_places as labels_places}
 use Rattle.edited_listing.proofs.Counted.{not_word as no_word}
 
@@ -35,41 +35,41 @@ and_none false b c e = refl
 
 -- ---- rows of lines ----
 
-abbrev word_row : Value → Row
+abbrev word_row : Value → WindowPlace
 word_row v = record { letter = None; is_joined = false }
 
 -- a row's letter is that of its place
-abbrev Letters : List Line → Row → Type 0
+abbrev Letters : List ListingLine → WindowPlace → Type 0
 Letters ls r = (a : Bool) (j : ℕ) → slice_get (rows_from a ls) j ≡ Some r → r.letter ≡ letter_in (slice_get (places_of ls) j)
 
-word_letter : (ls : List Line) (r : Row) → Letters ls r → (c : Bool) (vs : List Value) (j : ℕ) → slice_get (map word_row vs ++ rows_from c ls) j ≡ Some r → r.letter ≡ letter_in (slice_get (map Word vs ++ places_of ls) j)
+word_letter : (ls : List ListingLine) (r : WindowPlace) → Letters ls r → (c : Bool) (vs : List Value) (j : ℕ) → slice_get (map word_row vs ++ rows_from c ls) j ≡ Some r → r.letter ≡ letter_in (slice_get (map Word vs ++ places_of ls) j)
 word_letter ls r rec c [] j h = rec c j h
-word_letter ls r rec c (v ∷ vs) zero h = ap (λ (x : Row). x.letter) (sym (same_Some (word_row v) r h))
+word_letter ls r rec c (v ∷ vs) zero h = ap (λ (x : WindowPlace). x.letter) (sym (same_Some (word_row v) r h))
 word_letter ls r rec c (v ∷ vs) (suc j) h = word_letter ls r rec c vs j h
 
-statement_letter : (ls : List Line) (r : Row) → Letters ls r → (c : Bool) (s : Statement) (j : ℕ) → slice_get (rows_of c s ++ rows_from (stays_joined c s) ls) j ≡ Some r → r.letter ≡ letter_in (slice_get (places_in s ++ places_of ls) j)
+statement_letter : (ls : List ListingLine) (r : WindowPlace) → Letters ls r → (c : Bool) (s : Statement) (j : ℕ) → slice_get (rows_of c s ++ rows_from (stays_joined c s) ls) j ≡ Some r → r.letter ≡ letter_in (slice_get (places_in s ++ places_of ls) j)
 statement_letter ls r rec c Nothing j h = rec c j h
-statement_letter ls r rec c (Runs i m) zero h = ap (λ (x : Row). x.letter) (sym (same_Some (record { letter = letter_of i m; is_joined = c }) r h))
-statement_letter ls r rec c (Runs i m) (suc j) h = rec true j h
+statement_letter ls r rec c (Instruction i m) zero h = ap (λ (x : WindowPlace). x.letter) (sym (same_Some (record { letter = letter_of i m; is_joined = c }) r h))
+statement_letter ls r rec c (Instruction i m) (suc j) h = rec true j h
 statement_letter ls r rec c (Words vs) j h = word_letter ls r rec c vs j h
 statement_letter ls r rec c (Aligns size most) j h = rec false j h
 statement_letter ls r rec c (Sets name address) j h = rec c j h
 
-pub row_letter : (ls : List Line) (r : Row) → Letters ls r
+pub row_letter : (ls : List ListingLine) (r : WindowPlace) → Letters ls r
 row_letter [] r b k e = absurd (cc)
 row_letter (l ∷ ls) r b k e = statement_letter ls r (row_letter ls r) (b && is_unlabelled l.names) l.statement k e
 
 -- the row of an instruction, and those behind it
-op_row : (c : Bool) (s : Statement) (rs : List Row) → is_op s ≡ true → joined_at (rows_of c s ++ rs) 0 ≡ c
+op_row : (c : Bool) (s : Statement) (rs : List WindowPlace) → is_op s ≡ true → joined_at (rows_of c s ++ rs) 0 ≡ c
 op_row c Nothing rs e = absurd (true≢false (sym e))
-op_row c (Runs i m) rs e = refl
+op_row c (Instruction i m) rs e = refl
 op_row c (Words vs) rs e = absurd (true≢false (sym e))
 op_row c (Aligns size most) rs e = absurd (true≢false (sym e))
 op_row c (Sets name address) rs e = absurd (true≢false (sym e))
 
-op_rows : (c : Bool) (s : Statement) (ls : List Line) (k : ℕ) → is_op s ≡ true → joined_at (rows_of c s ++ rows_from (stays_joined c s) ls) (suc k) ≡ joined_at (rows_from true ls) k
+op_rows : (c : Bool) (s : Statement) (ls : List ListingLine) (k : ℕ) → is_op s ≡ true → joined_at (rows_of c s ++ rows_from (stays_joined c s) ls) (suc k) ≡ joined_at (rows_from true ls) k
 op_rows c Nothing ls k e = absurd (true≢false (sym e))
-op_rows c (Runs i m) ls k e = refl
+op_rows c (Instruction i m) ls k e = refl
 op_rows c (Words vs) ls k e = absurd (true≢false (sym e))
 op_rows c (Aligns size most) ls k e = absurd (true≢false (sym e))
 op_rows c (Sets name address) ls k e = absurd (true≢false (sym e))
@@ -77,51 +77,51 @@ op_rows c (Sets name address) ls k e = absurd (true≢false (sym e))
 -- the places behind an instruction
 op_places : (s : Statement) (ps : List Place) (k : ℕ) → is_op s ≡ true → slice_get (places_in s ++ ps) (suc k) ≡ slice_get ps k
 op_places Nothing ps k e = absurd (true≢false (sym e))
-op_places (Runs i m) ps k e = refl
+op_places (Instruction i m) ps k e = refl
 op_places (Words vs) ps k e = absurd (true≢false (sym e))
 op_places (Aligns size most) ps k e = absurd (true≢false (sym e))
 op_places (Sets name address) ps k e = absurd (true≢false (sym e))
 
 op_length : (s : Statement) (ps : List Place) → is_op s ≡ true → length (places_in s ++ ps) ≡ suc (length ps)
 op_length Nothing ps e = absurd (true≢false (sym e))
-op_length (Runs i m) ps e = refl
+op_length (Instruction i m) ps e = refl
 op_length (Words vs) ps e = absurd (true≢false (sym e))
 op_length (Aligns size most) ps e = absurd (true≢false (sym e))
 op_length (Sets name address) ps e = absurd (true≢false (sym e))
 
-word_rows : (vs : List Value) (rs : List Row) (k : ℕ) → joined_at (map word_row vs ++ rs) (length vs + k) ≡ joined_at rs k
+word_rows : (vs : List Value) (rs : List WindowPlace) (k : ℕ) → joined_at (map word_row vs ++ rs) (length vs + k) ≡ joined_at rs k
 word_rows vs rs k = ap row_joined (get_back (map word_row vs) rs k (length vs + k) (let z = length_map word_row vs in omega arith))
 
 -- labels that stay
-labels_rows : (l : Line) (ns : List Name) (b : Bool) (ls : List Line) → rows_from b (labels_kept l ns ++ ls) ≡ rows_from (b && is_unlabelled ns) ls
+labels_rows : (l : ListingLine) (ns : List Name) (b : Bool) (ls : List ListingLine) → rows_from b (labels_kept l ns ++ ls) ≡ rows_from (b && is_unlabelled ns) ls
 labels_rows l [] b ls = ap (λ c. rows_from c ls) (and_true b)
 labels_rows l (n ∷ ns) b ls = refl
 
 module _ (write : Instr → List ℕ) (at : ℕ → Bool) where
   -- the rows of lines from place p on tell which places are joined
-  abbrev Agrees : ℕ → Bool → List Line → Type 0
+  abbrev Agrees : ℕ → Bool → List ListingLine → Type 0
   Agrees p b ls = (j : ℕ) → joined_at (rows_from b ls) j ≡ at (p + j)
 
-  agrees_op : (p : ℕ) (b : Bool) (l : Line) (ls : List Line) → is_op l.statement ≡ true → Agrees p b (l ∷ ls) → Agrees (suc p) true ls
+  agrees_op : (p : ℕ) (b : Bool) (l : ListingLine) (ls : List ListingLine) → is_op l.statement ≡ true → Agrees p b (l ∷ ls) → Agrees (suc p) true ls
   agrees_op p b l ls op h = λ j. sym (op_rows (b && is_unlabelled l.names) l.statement ls j op) ∙ h (suc j) ∙ ap at (let z : p + suc j ≡ suc p + j = omega arith in z)
 
-  agrees_here : (p : ℕ) (b : Bool) (l : Line) (ls : List Line) → is_op l.statement ≡ true → Agrees p b (l ∷ ls) → (b && is_unlabelled l.names) ≡ at p
+  agrees_here : (p : ℕ) (b : Bool) (l : ListingLine) (ls : List ListingLine) → is_op l.statement ≡ true → Agrees p b (l ∷ ls) → (b && is_unlabelled l.names) ≡ at p
   agrees_here p b l ls op h = sym (op_row (b && is_unlabelled l.names) l.statement (rows_from (stays_joined (b && is_unlabelled l.names) l.statement) ls) op) ∙ h 0 ∙ ap at (let z : p + 0 ≡ p = omega arith in z)
 
   -- ---- the first row ----
 
   -- it is joined where all places up to its home are, and what stands before is
-  First : ℕ → List Line → (List Item → List Line) → Type 0
+  First : ℕ → List ListingLine → (List Item → List ListingLine) → Type 0
   First p ls behind = (b carried before : Bool) (y : Item) (xs : List Item) → b ≡ (before && carried) → Agrees p carried ls → AreSorted p p (y ∷ xs) → WordsStand p (y ∷ xs) ls → home_of y < p + length (places_of ls) →
       joined_at (rows_from b (behind (y ∷ xs))) 0 ≡ (before && all_from at p (suc (home_of y - p)))
 
-  print_first : (p : ℕ) (b : Bool) (y : Item) (xs : List Item) (ls : List Line) (behind : List Item → List Line) → First (suc p) ls behind → Agrees (suc p) true ls → AreSorted p (suc p) (y ∷ xs) → WordsStand (suc p) (y ∷ xs) ls → home_of y < suc p + length (places_of ls) →
-      joined_at (rows_from b (print_at write p (y ∷ xs) behind)) 0 ≡ (b && all_from at (suc p) (home_of y - p))
+  emit_first : (p : ℕ) (b : Bool) (y : Item) (xs : List Item) (ls : List ListingLine) (behind : List Item → List ListingLine) → First (suc p) ls behind → Agrees (suc p) true ls → AreSorted p (suc p) (y ∷ xs) → WordsStand (suc p) (y ∷ xs) ls → home_of y < suc p + length (places_of ls) →
+      joined_at (rows_from b (emit_at write p (y ∷ xs) behind)) 0 ≡ (b && all_from at (suc p) (home_of y - p))
   unfolding First
-  print_first p b (AsGiven q) xs ls behind rec a s v h =
+  emit_first p b (AsGiven q) xs ls behind rec a s v h =
       let far : suc p ≤ q = s.0 in
       rec b true b (AsGiven q) xs (and_true b) a s v h ∙ ap (λ n. b && all_from at (suc p) n) (let z : suc (q - suc p) ≡ q - p = omega arith in z)
-  print_first p b (New i q) xs ls behind rec a s v h = elim (cases_Bool (q == p)) [
+  emit_first p b (New i q) xs ls behind rec a s v h = elim (cases_Bool (q == p)) [
     | inl e ↦ let here = eqb-true q p e in rw e (ap (λ n. b && all_from at (suc p) n) (let z : 0 ≡ q - p = omega arith in z))
     | inr e ↦
         let near = s.0 in
@@ -130,25 +130,25 @@ module _ (write : Instr → List ℕ) (at : ℕ → Bool) where
         rw e (rec b true b (New i q) xs (and_true b) a (far, s.1) v h ∙ ap (λ n. b && all_from at (suc p) n) (let z : suc (q - suc p) ≡ q - p = omega arith in z))
   ]
 
-  other_first : (p : ℕ) (b carried before : Bool) (l : Line) (y : Item) (xs : List Item) (ls : List Line) (behind : List Item → List Line) → First (suc p) ls behind → b ≡ (before && carried) → Agrees p carried (l ∷ ls) → is_op l.statement ≡ true →
+  other_first : (p : ℕ) (b carried before : Bool) (l : ListingLine) (y : Item) (xs : List Item) (ls : List ListingLine) (behind : List Item → List ListingLine) → First (suc p) ls behind → b ≡ (before && carried) → Agrees p carried (l ∷ ls) → is_op l.statement ≡ true →
       AreSorted p (suc p) (y ∷ xs) → WordsStand (suc p) (y ∷ xs) ls → home_of y < suc p + length (places_of ls) → is_given_at p (y ∷ xs) ≡ false →
       joined_at (rows_from b (line_at write p l (y ∷ xs) behind)) 0 ≡ (before && all_from at p (suc (home_of y - p)))
   other_first p b carried before l y xs ls behind rec e a op s v h g =
       let now : (b && is_unlabelled l.names) ≡ (before && at p) = ap (λ c. c && is_unlabelled l.names) e ∙ and_three before carried (is_unlabelled l.names) ∙ ap (λ c. before && c) (agrees_here p carried l ls op a) in
       ap (λ zs. joined_at (rows_from b zs) 0) (other_line write p l (y ∷ xs) behind g)
-      ∙ ap (λ rs. joined_at rs 0) (labels_rows l l.names b (print_at write p (y ∷ xs) behind))
-      ∙ print_first p (b && is_unlabelled l.names) y xs ls behind rec (agrees_op p carried l ls op a) s v h
+      ∙ ap (λ rs. joined_at rs 0) (labels_rows l l.names b (emit_at write p (y ∷ xs) behind))
+      ∙ emit_first p (b && is_unlabelled l.names) y xs ls behind rec (agrees_op p carried l ls op a) s v h
       ∙ ap (λ c. c && all_from at (suc p) (home_of y - p)) now
       ∙ and_three before (at p) (all_from at (suc p) (home_of y - p))
 
-  given_first : (p q : ℕ) (b carried before : Bool) (l : Line) (ls zs : List Line) → b ≡ (before && carried) → Agrees p carried (l ∷ ls) → is_op l.statement ≡ true → q ≡ p → joined_at (rows_from b (l ∷ zs)) 0 ≡ (before && all_from at p (suc (q - p)))
+  given_first : (p q : ℕ) (b carried before : Bool) (l : ListingLine) (ls zs : List ListingLine) → b ≡ (before && carried) → Agrees p carried (l ∷ ls) → is_op l.statement ≡ true → q ≡ p → joined_at (rows_from b (l ∷ zs)) 0 ≡ (before && all_from at p (suc (q - p)))
   given_first p q b carried before l ls zs e a op h =
       op_row (b && is_unlabelled l.names) l.statement (rows_from (stays_joined (b && is_unlabelled l.names) l.statement) zs) op
       ∙ ap (λ c. c && is_unlabelled l.names) e
       ∙ and_three before carried (is_unlabelled l.names)
       ∙ ap (λ c. before && c) (agrees_here p carried l ls op a ∙ and_true (at p) ∙ ap (λ n. at p && all_from at (suc p) n) (let z : 0 ≡ q - p = omega arith in z))
 
-  line_first : (p : ℕ) (b carried before : Bool) (l : Line) (y : Item) (xs : List Item) (ls : List Line) (behind : List Item → List Line) → First (suc p) ls behind → b ≡ (before && carried) → Agrees p carried (l ∷ ls) → is_op l.statement ≡ true →
+  line_first : (p : ℕ) (b carried before : Bool) (l : ListingLine) (y : Item) (xs : List Item) (ls : List ListingLine) (behind : List Item → List ListingLine) → First (suc p) ls behind → b ≡ (before && carried) → Agrees p carried (l ∷ ls) → is_op l.statement ≡ true →
       AreSorted p p (y ∷ xs) → WordsStand (suc p) (y ∷ xs) ls → home_of y < suc p + length (places_of ls) →
       joined_at (rows_from b (line_at write p l (y ∷ xs) behind)) 0 ≡ (before && all_from at p (suc (home_of y - p)))
   line_first p b carried before l (New i q) xs ls behind rec e a op s v h = other_first p b carried before l (New i q) xs ls behind rec e a op s v h refl
@@ -160,14 +160,14 @@ module _ (write : Instr → List ℕ) (at : ℕ → Bool) where
   -- ---- lines without an instruction ----
 
   -- what holds of the places of a statement and those behind it
-  AgreesAt : ℕ → Bool → Statement → List Line → Type 0
+  AgreesAt : ℕ → Bool → Statement → List ListingLine → Type 0
   AgreesAt p c s ls = (j : ℕ) → joined_at (rows_of c s ++ rows_from (stays_joined c s) ls) j ≡ at (p + j)
 
   -- no place before the rest
-  agrees_zero : (p : ℕ) (c : Bool) (ls : List Line) → ((j : ℕ) → joined_at (rows_from c ls) j ≡ at (p + j)) → Agrees (p + 0) c ls
+  agrees_zero : (p : ℕ) (c : Bool) (ls : List ListingLine) → ((j : ℕ) → joined_at (rows_from c ls) j ≡ at (p + j)) → Agrees (p + 0) c ls
   agrees_zero p c ls h = λ j. h j ∙ ap at (let z : p + j ≡ p + 0 + j = omega arith in z)
 
-  agrees_words : (p : ℕ) (c : Bool) (vs : List Value) (ls : List Line) → AgreesAt p c (Words vs) ls → Agrees (p + length (map Word vs)) c ls
+  agrees_words : (p : ℕ) (c : Bool) (vs : List Value) (ls : List ListingLine) → AgreesAt p c (Words vs) ls → Agrees (p + length (map Word vs)) c ls
   unfolding AgreesAt
   agrees_words p c vs ls h = λ j. sym (word_rows vs (rows_from c ls) j) ∙ h (length vs + j) ∙ ap at (let m = length_map Word vs in let z : p + (length vs + j) ≡ p + length (map Word vs) + j = omega arith in z)
 
@@ -175,27 +175,27 @@ module _ (write : Instr → List ℕ) (at : ℕ → Bool) where
   and_off true = refl
   and_off false = refl
 
-  past_first : (p : ℕ) (before : Bool) (y : Item) (xs : List Item) (ls : List Line) (behind : List Item → List Line) → AreSorted (p + 0) (p + 0) (y ∷ xs) → WordsStand (p + 0) (y ∷ xs) ls → First (p + 0) ls behind →
+  past_first : (p : ℕ) (before : Bool) (y : Item) (xs : List Item) (ls : List ListingLine) (behind : List Item → List ListingLine) → AreSorted (p + 0) (p + 0) (y ∷ xs) → WordsStand (p + 0) (y ∷ xs) ls → First (p + 0) ls behind →
       (b now : Bool) → b ≡ (before && now) → ((j : ℕ) → joined_at (rows_from now ls) j ≡ at (p + j)) → home_of y < p + length (places_of ls) → joined_at (rows_from b (behind (y ∷ xs))) 0 ≡ (before && all_from at p (suc (home_of y - p)))
   unfolding First
   past_first p before y xs ls behind s v rec b now e a h =
       let same : p + 0 ≡ p = omega arith in
       rec b now before y xs e (agrees_zero p now ls a) s v (omega arith) ∙ ap (λ n. before && all_from at n (suc (home_of y - n))) same
 
-  step_first : (s : Statement) (p : ℕ) (before : Bool) (y : Item) (xs : List Item) (ls : List Line) (behind : List Item → List Line) → is_op s ≡ false →
+  step_first : (s : Statement) (p : ℕ) (before : Bool) (y : Item) (xs : List Item) (ls : List ListingLine) (behind : List Item → List ListingLine) → is_op s ≡ false →
       AreSorted (p + length (places_in s)) (p + length (places_in s)) (drop (length (places_in s)) (y ∷ xs)) → WordsStand (p + length (places_in s)) (drop (length (places_in s)) (y ∷ xs)) ls → First (p + length (places_in s)) ls behind →
       (b now : Bool) → b ≡ (before && now) → AgreesAt p now s ls → home_of y < p + length (places_in s ++ places_of ls) →
       joined_at (rows_of b s ++ rows_from (stays_joined b s) (behind (drop (length (places_in s)) (y ∷ xs)))) 0 ≡ (before && all_from at p (suc (home_of y - p)))
   unfolding AgreesAt
   step_first Nothing p before y xs ls behind o s v rec b now e a h = past_first p before y xs ls behind s v rec b now e a h
-  step_first (Runs i m) p before y xs ls behind o s v rec b now e a h = absurd (true≢false o)
+  step_first (Instruction i m) p before y xs ls behind o s v rec b now e a h = absurd (true≢false o)
   step_first (Words []) p before y xs ls behind o s v rec b now e a h = past_first p before y xs ls behind s v rec b now e a h
   step_first (Words (w ∷ ws)) p before y xs ls behind o s v rec b now e a h =
       let none : at p ≡ false = ap at (let z : p ≡ p + 0 = omega arith in z) ∙ sym (a 0) in and_none before (at p) (all_from at (suc p) (home_of y - p)) none
   step_first (Aligns size most) p before y xs ls behind o s v rec b now e a h = past_first p before y xs ls behind s v rec false false (and_off before) a h
   step_first (Sets name address) p before y xs ls behind o s v rec b now e a h = past_first p before y xs ls behind s v rec b now e a h
 
-  first_now : (ls : List Line) (p : ℕ) → First p ls (λ ys. lines_from write p ys ls)
+  first_now : (ls : List ListingLine) (p : ℕ) → First p ls (λ ys. lines_from write p ys ls)
   unfolding First AgreesAt
   first_now [] p b carried before y xs e a s v h = absurd (let near = home_least p y xs s in omega arith)
     where
@@ -216,24 +216,24 @@ module _ (write : Instr → List ℕ) (at : ℕ → Bool) where
   -- ---- the row behind an instruction's ----
 
   -- it is joined where all places from the one's home to the other's are
-  Next : ℕ → List Line → (List Item → List Line) → Type 0
+  Next : ℕ → List ListingLine → (List Item → List ListingLine) → Type 0
   Next p ls behind = (b carried : Bool) (k : ℕ) (x y : Item) (xs : List Item) → Agrees p carried ls → AreSorted p p xs → WordsStand p xs ls → slice_get xs k ≡ Some x → slice_get xs (suc k) ≡ Some y →
       is_op_place (slice_get (places_of (behind xs)) k) ≡ true → home_of y < p + length (places_of ls) → joined_at (rows_from b (behind xs)) (suc k) ≡ all_from at (suc (home_of x)) (home_of y - home_of x)
 
-  print_next : (p : ℕ) (b : Bool) (k : ℕ) (x y : Item) (xs : List Item) (ls : List Line) (behind : List Item → List Line) → Next (suc p) ls behind → First (suc p) ls behind → Agrees (suc p) true ls → AreSorted p (suc p) xs → WordsStand (suc p) xs ls →
-      slice_get xs k ≡ Some x → slice_get xs (suc k) ≡ Some y → is_op_place (slice_get (places_of (print_at write p xs behind)) k) ≡ true → home_of y < suc p + length (places_of ls) →
-      joined_at (rows_from b (print_at write p xs behind)) (suc k) ≡ all_from at (suc (home_of x)) (home_of y - home_of x)
+  emit_next : (p : ℕ) (b : Bool) (k : ℕ) (x y : Item) (xs : List Item) (ls : List ListingLine) (behind : List Item → List ListingLine) → Next (suc p) ls behind → First (suc p) ls behind → Agrees (suc p) true ls → AreSorted p (suc p) xs → WordsStand (suc p) xs ls →
+      slice_get xs k ≡ Some x → slice_get xs (suc k) ≡ Some y → is_op_place (slice_get (places_of (emit_at write p xs behind)) k) ≡ true → home_of y < suc p + length (places_of ls) →
+      joined_at (rows_from b (emit_at write p xs behind)) (suc k) ≡ all_from at (suc (home_of x)) (home_of y - home_of x)
   unfolding Next
-  print_next p b k x y [] ls behind rec first a s v e f o h = absurd (cc)
-  print_next p b k x y (AsGiven q ∷ xs) ls behind rec first a s v e f o h = rec b true k x y (AsGiven q ∷ xs) a s v e f o h
-  print_next p b zero x y (New i q ∷ []) ls behind rec first a s v e f o h = absurd (cc)
-  print_next p b zero x y (New i q ∷ z ∷ zs) ls behind rec first a s v e f o h = elim (cases_Bool (q == p)) [
+  emit_next p b k x y [] ls behind rec first a s v e f o h = absurd (cc)
+  emit_next p b k x y (AsGiven q ∷ xs) ls behind rec first a s v e f o h = rec b true k x y (AsGiven q ∷ xs) a s v e f o h
+  emit_next p b zero x y (New i q ∷ []) ls behind rec first a s v e f o h = absurd (cc)
+  emit_next p b zero x y (New i q ∷ z ∷ zs) ls behind rec first a s v e f o h = elim (cases_Bool (q == p)) [
     | inl g ↦
         let here = eqb-true q p g in
         let at_p : p ≡ home_of x = sym here ∙ ap home_of (same_Some (New i q) x e) in
         let t : AreSorted p (suc p) (z ∷ zs) = sorted_less q (suc q) p (suc p) (z ∷ zs) (omega arith) (omega arith) s.1 in
         let h' : home_of z < suc p + length (places_of ls) = subst (λ w. home_of w < suc p + length (places_of ls)) (sym (same_Some z y f)) h in
-        rw g (print_first p true z zs ls behind first a t v h' ∙ ap (λ w. all_from at (suc p) (home_of w - p)) (same_Some z y f) ∙ ap (λ n. all_from at (suc n) (home_of y - n)) at_p)
+        rw g (emit_first p true z zs ls behind first a t v h' ∙ ap (λ w. all_from at (suc p) (home_of w - p)) (same_Some z y f) ∙ ap (λ n. all_from at (suc n) (home_of y - n)) at_p)
     | inr g ↦
         let near = s.0 in
         let other : q ≢ p = eqb-false q p g in
@@ -241,12 +241,12 @@ module _ (write : Instr → List ℕ) (at : ℕ → Bool) where
         let o' : is_op_place (slice_get (places_of (behind (New i q ∷ z ∷ zs))) 0) ≡ true = rw g at o in
         rw g (rec b true 0 x y (New i q ∷ z ∷ zs) a (far, s.1) v e f o' h)
   ]
-  print_next p b (suc k) x y (New i q ∷ xs) ls behind rec first a s v e f o h = elim (cases_Bool (q == p)) [
+  emit_next p b (suc k) x y (New i q ∷ xs) ls behind rec first a s v e f o h = elim (cases_Bool (q == p)) [
     | inl g ↦
         let here = eqb-true q p g in
         let t : AreSorted p (suc p) xs = sorted_less q (suc q) p (suc p) xs (omega arith) (omega arith) s.1 in
-        let o' : is_op_place (slice_get (places_of (print_at write p xs behind)) k) ≡ true = rw g at o in
-        rw g (print_next p true k x y xs ls behind rec first a t v e f o' h)
+        let o' : is_op_place (slice_get (places_of (emit_at write p xs behind)) k) ≡ true = rw g at o in
+        rw g (emit_next p true k x y xs ls behind rec first a t v e f o' h)
     | inr g ↦
         let near = s.0 in
         let other : q ≢ p = eqb-false q p g in
@@ -255,17 +255,17 @@ module _ (write : Instr → List ℕ) (at : ℕ → Bool) where
         rw g (rec b true (suc k) x y (New i q ∷ xs) a (far, s.1) v e f o' h)
   ]
 
-  other_next : (p : ℕ) (b carried : Bool) (k : ℕ) (l : Line) (x y : Item) (xs : List Item) (ls : List Line) (behind : List Item → List Line) → Next (suc p) ls behind → First (suc p) ls behind → Agrees (suc p) true ls →
+  other_next : (p : ℕ) (b carried : Bool) (k : ℕ) (l : ListingLine) (x y : Item) (xs : List Item) (ls : List ListingLine) (behind : List Item → List ListingLine) → Next (suc p) ls behind → First (suc p) ls behind → Agrees (suc p) true ls →
       AreSorted p (suc p) xs → WordsStand (suc p) xs ls → slice_get xs k ≡ Some x → slice_get xs (suc k) ≡ Some y → is_op_place (slice_get (places_of (line_at write p l xs behind)) k) ≡ true → home_of y < suc p + length (places_of ls) → is_given_at p xs ≡ false →
       joined_at (rows_from b (line_at write p l xs behind)) (suc k) ≡ all_from at (suc (home_of x)) (home_of y - home_of x)
   other_next p b carried k l x y xs ls behind rec first a s v e f o h g =
-      let o' : is_op_place (slice_get (places_of (print_at write p xs behind)) k) ≡ true =
-      ap (λ ps. is_op_place (slice_get ps k)) (sym (labels_places l l.names (print_at write p xs behind))) ∙ ap (λ zs. is_op_place (slice_get (places_of zs) k)) (sym (other_line write p l xs behind g)) ∙ o in
+      let o' : is_op_place (slice_get (places_of (emit_at write p xs behind)) k) ≡ true =
+      ap (λ ps. is_op_place (slice_get ps k)) (sym (labels_places l l.names (emit_at write p xs behind))) ∙ ap (λ zs. is_op_place (slice_get (places_of zs) k)) (sym (other_line write p l xs behind g)) ∙ o in
       ap (λ zs. joined_at (rows_from b zs) (suc k)) (other_line write p l xs behind g)
-      ∙ ap (λ rs. joined_at rs (suc k)) (labels_rows l l.names b (print_at write p xs behind))
-      ∙ print_next p (b && is_unlabelled l.names) k x y xs ls behind rec first a s v e f o' h
+      ∙ ap (λ rs. joined_at rs (suc k)) (labels_rows l l.names b (emit_at write p xs behind))
+      ∙ emit_next p (b && is_unlabelled l.names) k x y xs ls behind rec first a s v e f o' h
 
-  given_next : (p q : ℕ) (b : Bool) (k : ℕ) (l : Line) (x y : Item) (xs : List Item) (ls : List Line) (behind : List Item → List Line) → Next (suc p) ls behind → First (suc p) ls behind → Agrees (suc p) true ls → is_op l.statement ≡ true → q ≡ p →
+  given_next : (p q : ℕ) (b : Bool) (k : ℕ) (l : ListingLine) (x y : Item) (xs : List Item) (ls : List ListingLine) (behind : List Item → List ListingLine) → Next (suc p) ls behind → First (suc p) ls behind → Agrees (suc p) true ls → is_op l.statement ≡ true → q ≡ p →
       AreSorted (suc q) (suc q) xs → WordsStand (suc p) xs ls → slice_get (AsGiven q ∷ xs) k ≡ Some x → slice_get xs k ≡ Some y → is_op_place (slice_get (places_of (l ∷ behind xs)) k) ≡ true → home_of y < suc p + length (places_of ls) →
       joined_at (rows_from b (l ∷ behind xs)) (suc k) ≡ all_from at (suc (home_of x)) (home_of y - home_of x)
   unfolding Next First
@@ -285,7 +285,7 @@ module _ (write : Instr → List ℕ) (at : ℕ → Bool) where
       let o' : is_op_place (slice_get (places_of (behind xs)) k) ≡ true = ap is_op_place (sym (op_places l.statement (places_of (behind xs)) k op)) ∙ o in
       op_rows (b && is_unlabelled l.names) l.statement (behind xs) (suc k) op ∙ rec true true k x y xs a t v e f o' h
 
-  line_next : (p : ℕ) (b carried : Bool) (k : ℕ) (l : Line) (x y : Item) (xs : List Item) (ls : List Line) (behind : List Item → List Line) → Next (suc p) ls behind → First (suc p) ls behind → Agrees (suc p) true ls → is_op l.statement ≡ true →
+  line_next : (p : ℕ) (b carried : Bool) (k : ℕ) (l : ListingLine) (x y : Item) (xs : List Item) (ls : List ListingLine) (behind : List Item → List ListingLine) → Next (suc p) ls behind → First (suc p) ls behind → Agrees (suc p) true ls → is_op l.statement ≡ true →
       AreSorted p p xs → WordsStand (suc p) xs ls → slice_get xs k ≡ Some x → slice_get xs (suc k) ≡ Some y → is_op_place (slice_get (places_of (line_at write p l xs behind)) k) ≡ true → home_of y < suc p + length (places_of ls) →
       joined_at (rows_from b (line_at write p l xs behind)) (suc k) ≡ all_from at (suc (home_of x)) (home_of y - home_of x)
   line_next p b carried k l x y [] ls behind rec first a op s v e f o h = absurd (cc)
@@ -298,20 +298,20 @@ module _ (write : Instr → List ℕ) (at : ℕ → Bool) where
     | inr g ↦ other_next p b carried k l x y (AsGiven q ∷ xs) ls behind rec first a (not_given p (AsGiven q ∷ xs) g s) v e f o h g
   ]
 
-  past_next : (p : ℕ) (k : ℕ) (x y : Item) (xs : List Item) (ls : List Line) (behind : List Item → List Line) → AreSorted (p + 0) (p + 0) xs → WordsStand (p + 0) xs ls → Next (p + 0) ls behind →
+  past_next : (p : ℕ) (k : ℕ) (x y : Item) (xs : List Item) (ls : List ListingLine) (behind : List Item → List ListingLine) → AreSorted (p + 0) (p + 0) xs → WordsStand (p + 0) xs ls → Next (p + 0) ls behind →
       (b now : Bool) → ((j : ℕ) → joined_at (rows_from now ls) j ≡ at (p + j)) → slice_get xs k ≡ Some x → slice_get xs (suc k) ≡ Some y → is_op_place (slice_get (places_of (behind xs)) k) ≡ true → home_of y < p + length (places_of ls) →
       joined_at (rows_from b (behind xs)) (suc k) ≡ all_from at (suc (home_of x)) (home_of y - home_of x)
   unfolding Next
   past_next p k x y xs ls behind s v rec b now a e f o h = rec b now k x y xs (agrees_zero p now ls a) s v e f o (omega arith)
 
-  step_next : (s : Statement) (p : ℕ) (k : ℕ) (x y : Item) (xs : List Item) (ls : List Line) (behind : List Item → List Line) → is_op s ≡ false →
+  step_next : (s : Statement) (p : ℕ) (k : ℕ) (x y : Item) (xs : List Item) (ls : List ListingLine) (behind : List Item → List ListingLine) → is_op s ≡ false →
       AreSorted (p + length (places_in s)) (p + length (places_in s)) (drop (length (places_in s)) xs) → WordsStand (p + length (places_in s)) (drop (length (places_in s)) xs) ls → Next (p + length (places_in s)) ls behind →
       (b now : Bool) → AgreesAt p now s ls → slice_get xs k ≡ Some x → slice_get xs (suc k) ≡ Some y → is_op_place (slice_get (places_in s ++ places_of (behind (drop (length (places_in s)) xs))) k) ≡ true →
       home_of y < p + length (places_in s ++ places_of ls) →
       joined_at (rows_of b s ++ rows_from (stays_joined b s) (behind (drop (length (places_in s)) xs))) (suc k) ≡ all_from at (suc (home_of x)) (home_of y - home_of x)
   unfolding AgreesAt Next
   step_next Nothing p k x y xs ls behind o s v rec b now a e f g h = past_next p k x y xs ls behind s v rec b now a e f g h
-  step_next (Runs i m) p k x y xs ls behind o s v rec b now a e f g h = absurd (true≢false o)
+  step_next (Instruction i m) p k x y xs ls behind o s v rec b now a e f g h = absurd (true≢false o)
   step_next (Words vs) p k x y xs ls behind o s v rec b now a e f g h =
       let n : ℕ = length (map Word vs) in
       let same : n ≡ length vs = length_map Word vs in
@@ -324,7 +324,7 @@ module _ (write : Instr → List ℕ) (at : ℕ → Bool) where
   step_next (Aligns size most) p k x y xs ls behind o s v rec b now a e f g h = past_next p k x y xs ls behind s v rec false false a e f g h
   step_next (Sets name address) p k x y xs ls behind o s v rec b now a e f g h = past_next p k x y xs ls behind s v rec b now a e f g h
 
-  next_now : (ls : List Line) (p : ℕ) → Next p ls (λ ys. lines_from write p ys ls)
+  next_now : (ls : List ListingLine) (p : ℕ) → Next p ls (λ ys. lines_from write p ys ls)
   unfolding Next AgreesAt
   next_now [] p b carried k x y xs a s v e f o h = absurd (true≢false (sym o))
   next_now (l ∷ ls) p b carried k x y xs a s v e f o h = elim (cases_Bool (is_op l.statement)) [
@@ -340,7 +340,7 @@ module _ (write : Instr → List ℕ) (at : ℕ → Bool) where
   ]
 
   -- the row of an item is joined to that of the instruction before where all places from the one's home to the other's are
-  pub joined_now : (ls : List Line) (k : ℕ) (x y : Item) (xs : List Item) → ((j : ℕ) → joined_at (rows_from false ls) j ≡ at j) → AreSorted 0 0 xs → WordsStand 0 xs ls → slice_get xs k ≡ Some x → slice_get xs (suc k) ≡ Some y →
+  pub joined_now : (ls : List ListingLine) (k : ℕ) (x y : Item) (xs : List Item) → ((j : ℕ) → joined_at (rows_from false ls) j ≡ at j) → AreSorted 0 0 xs → WordsStand 0 xs ls → slice_get xs k ≡ Some x → slice_get xs (suc k) ≡ Some y →
       is_op_place (slice_get (places_of (lines_from write 0 xs ls)) k) ≡ true → home_of y < length (places_of ls) → joined_at (rows_from false (lines_from write 0 xs ls)) (suc k) ≡ all_from at (suc (home_of x)) (home_of y - home_of x)
   unfolding Next
   joined_now ls k x y xs a s v e f o h = next_now ls 0 false false k x y xs (λ j. a j ∙ ap at (let z : j ≡ 0 + j = omega arith in z)) s v e f o (omega arith)

@@ -6,19 +6,19 @@ use Rattle.std.proofs.lemmas.Option.{same_Some}
 use Rattle.thumb_instr.specs.declared.instr.Instr.{Instr}
 use Rattle.kept_places.specs.Marks.{rank}
 use Rattle.kept_places.proofs.Ranks.{rank_zero, ranks_grow}
-use Rattle.thumb_model.specs.Listing.{Place, Op, Word, Line, Label, places_of, labels_from, is_op_place}
+use Rattle.thumb_model.specs.Listing.{Place, Op, Word, ListingLine, Label, places_of, labels_from, is_op_place}
 use Rattle.thumb_model.specs.Replaced.{replaced_lines}
 use Rattle.thumb_model.proofs.Lists.{length_map}
 use Rattle.edited_listing.specs.declared.standing.Standing.{Standing}
 use Rattle.edited_listing.specs.declared.standing.Standing.TheVariants as standing
 use Rattle.edited_listing.specs.Items.{Item, AsGiven, New, home_of, items_from, has_given, AreSorted, spliced}
-use Rattle.edited_listing.specs.Printing.{lines_from}
+use Rattle.edited_listing.specs.Emitting.{lines_from}
 use Rattle.edited_listing.specs.Giving.{is_word, WordsStand}
 use Rattle.edited_listing.specs.Places.{item_place, has_home, AreHome, item_of}
 use Rattle.edited_listing.specs.Changes.{is_none, marks_of, home_at, giving, giving_from}
 use Rattle.edited_listing.specs.Edited.{Edited, IsEdited}
 use Rattle.edited_listing.proofs.Sorted.{sorted_spliced}
-use Rattle.edited_listing.proofs.Printed.{lines_give_way}
+use Rattle.edited_listing.proofs.Emitted.{lines_give_way}
 use Rattle.edited_listing.proofs.Changes.{items_behind, items_change}
 use Rattle.edited_listing.proofs.Places.{home_drop, places_now, some_places}
 use Rattle.edited_listing.proofs.Free.{window_free}
@@ -73,7 +73,7 @@ flat_items at [] r x e = absurd (cc)
 flat_items at (y ∷ xs) zero x e = ap (item_place at) (same_Some y x e)
 flat_items at (y ∷ xs) (suc r) x e = flat_items at xs r x e
 
-pub place_of_item : (at : ℕ → Option Place) (xs : List Item) (ls : List Line) (r : ℕ) (x : Item) → some_places ls ≡ map (item_place at) xs → slice_get xs r ≡ Some x → slice_get (places_of ls) r ≡ item_place at x
+pub place_of_item : (at : ℕ → Option Place) (xs : List Item) (ls : List ListingLine) (r : ℕ) (x : Item) → some_places ls ≡ map (item_place at) xs → slice_get xs r ≡ Some x → slice_get (places_of ls) r ≡ item_place at x
 place_of_item at xs ls r x e f = sym (flat_some (places_of ls) r) ∙ ap (λ ps. flat (slice_get ps r)) e ∙ flat_items at xs r x f
 
 -- ---- a window gives way ----

@@ -1,5 +1,5 @@
 pub mod Sorted
-pub mod Printed
+pub mod Emitted
 pub mod Changes
 pub mod Places
 pub mod Free
@@ -12,7 +12,7 @@ pub mod Unchanged
 pub mod Edits
 pub mod Held
 pub mod Letters
-pub mod Prints
+pub mod Emits
 pub mod Counts
 pub mod Ops
 pub mod Joins

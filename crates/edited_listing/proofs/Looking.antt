@@ -5,10 +5,10 @@ use Rattle.std.proofs.lemmas.Option.{same_Some}
 use Rattle.thumb_instr.specs.declared.instr.Instr.{Instr}
 use Rattle.kept_places.specs.Marks.{is_gone, rank, IsStart}
 use Rattle.kept_places.proofs.Ranks.{rank_zero, rank_gone, rank_kept}
-use Rattle.thumb_model.specs.Listing.{Line, Place, Op, Word, is_op_place, labels_from, places_of}
+use Rattle.thumb_model.specs.Listing.{ListingLine, Place, Op, Word, is_op_place, labels_from, places_of}
 use Rattle.thumb_model.proofs.Lists.{present_at}
 use Rattle.listing_parser.specs.Parsing.{own_line}
-use Rattle.window_runs.specs.declared.rows.Row.{Row}
+use Rattle.window_runs.specs.declared.rows.WindowPlace.{WindowPlace}
 use Rattle.window_runs.specs.Rows.{rows_from}
 use Rattle.window_runs.specs.Runs.{letter_at}
 use Rattle.window_runs.proofs.Lengths.{rows_length}
@@ -20,7 +20,7 @@ use Rattle.edited_listing.specs.Changes.{home_at}
 use Rattle.edited_listing.specs.Places.{has_home, item_of}
 use Rattle.edited_listing.specs.Edited.{Edited, IsEdited, letter_in, lines_now, marks, padded, standing_places}
 use Rattle.edited_listing.specs.Known.{row_joined, joined_at, all_from, HasLabelAt, HasLabelIn}
-use Rattle.edited_listing.specs.Looks.{home_in, home_of_place, Follows}
+use Rattle.edited_listing.specs.Looks.{home_in, home_of_place, IsNextKept}
 use Rattle.edited_listing.proofs.Joins.{row_letter, joined_now}
 use Rattle.edited_listing.proofs.Moved.{labels_between}
 use Rattle.edited_listing.proofs.Kept.{home_get, item_at, words_stand}
@@ -75,7 +75,7 @@ homes_grow c g zero (z ∷ w ∷ xs) x y s e f = subst (λ v. home_of v ≤ home
 homes_grow c g (suc k) (AsGiven p ∷ xs) x y s e f = homes_grow (suc p) (suc p) k xs x y s.1 e f
 homes_grow c g (suc k) (New i p ∷ xs) x y s e f = homes_grow p (suc p) k xs x y s.1 e f
 
-pub homes_follow : (e : Edited) (p q : ℕ) → IsEdited e → Follows e p q → home_of_place e.stands p ≤ home_of_place e.stands q
+pub homes_follow : (e : Edited) (p q : ℕ) → IsEdited e → IsNextKept e p q → home_of_place e.stands p ≤ home_of_place e.stands q
 homes_follow e p q is h =
     let x = item_here e p h.p_within h.p_kept in
     let y = item_here e q h.q_within h.q_kept in
@@ -84,7 +84,7 @@ homes_follow e p q is h =
 
 -- ---- what is joined ----
 
-pub joined_follows : (e : Edited) (p q : ℕ) → IsEdited e → Follows e p q →
+pub joined_follows : (e : Edited) (p q : ℕ) → IsEdited e → IsNextKept e p q →
     all_from (joined_at (rows_from false e.given)) (suc (home_of_place e.stands p)) (home_of_place e.stands q - home_of_place e.stands p) ≡ joined_at (rows_from false (lines_now e)) (rank (marks e) q)
 joined_follows e p q is h =
     let x = item_here e p h.p_within h.p_kept in
@@ -136,11 +136,11 @@ kept_before gone q s p h e =
 
 -- ---- letters ----
 
-abbrev letter_row : Bool → Option Row → Option Instr
+abbrev letter_row : Bool → Option WindowPlace → Option Instr
 letter_row begins None = None
 letter_row begins (Some r) = if begins || r.is_joined then r.letter else None
 
-letter_drop : (begins : Bool) (rows : List Row) (k : ℕ) → letter_at begins (drop k rows) ≡ letter_row begins (slice_get rows k)
+letter_drop : (begins : Bool) (rows : List WindowPlace) (k : ℕ) → letter_at begins (drop k rows) ≡ letter_row begins (slice_get rows k)
 letter_drop begins [] zero = refl
 letter_drop begins [] (suc k) = refl
 letter_drop begins (r ∷ rows) zero = refl
@@ -167,7 +167,7 @@ standing_many (s ∷ ss) (x ∷ xs) h = ap suc (standing_many ss xs (omega arith
 
 pub letter_end : (e : Edited) (begins : Bool) (p : ℕ) → IsEdited e → length e.stands ≤ p → is_gone (marks e) p ≡ false → None ≡ letter_at begins (drop (rank (marks e) p) (rows_from false (lines_now e)))
 letter_end e begins p is h k =
-    let rows : List Row = rows_from false (lines_now e) in
+    let rows : List WindowPlace = rows_from false (lines_now e) in
     let short = standing_many e.stands (places_of e.given) is.as_many in
     let none : slice_get (places_of (lines_now e)) (rank (marks e) p) ≡ None = place_now e p is k ∙ none_past (standing_places e.stands (places_of e.given)) p (omega arith) in
     let past = past_none (places_of (lines_now e)) (rank (marks e) p) none in
@@ -175,7 +175,7 @@ letter_end e begins p is h k =
     ap (letter_row begins) (sym (none_past rows (rank (marks e) p) (omega arith))) ∙ sym (letter_drop begins rows (rank (marks e) p))
 
 -- the row of a kept place
-row_here : (e : Edited) (p : ℕ) → IsEdited e → p < length e.stands → is_gone (marks e) p ≡ false → (r : Row) × (slice_get (rows_from false (lines_now e)) (rank (marks e) p) ≡ Some r) × (r.letter ≡ letter_in (slice_get (padded e).places p))
+row_here : (e : Edited) (p : ℕ) → IsEdited e → p < length e.stands → is_gone (marks e) p ≡ false → (r : WindowPlace) × (slice_get (rows_from false (lines_now e)) (rank (marks e) p) ≡ Some r) × (r.letter ≡ letter_in (slice_get (padded e).places p))
 row_here e p is h k =
     let many = standing_many e.stands (places_of e.given) is.as_many in
     let x = present_at (standing_places e.stands (places_of e.given)) p (omega arith) in
@@ -187,7 +187,7 @@ row_here e p is h k =
 letter_is : (e : Edited) (begins : Bool) (p : ℕ) → IsEdited e → p < length e.stands → is_gone (marks e) p ≡ false →
     letter_at begins (drop (rank (marks e) p) (rows_from false (lines_now e))) ≡ (if begins || joined_at (rows_from false (lines_now e)) (rank (marks e) p) then letter_in (slice_get (padded e).places p) else None)
 letter_is e begins p is h k =
-    let rows : List Row = rows_from false (lines_now e) in
+    let rows : List WindowPlace = rows_from false (lines_now e) in
     let r = row_here e p is h k in
     letter_drop begins rows (rank (marks e) p)
     ∙ ap (letter_row begins) r.1
@@ -221,14 +221,14 @@ letter_op None i e = absurd (cc)
 letter_op (Some (Op j m)) i e = refl
 letter_op (Some (Word v)) i e = absurd (cc)
 
-pub letter_found : (begins : Bool) (ls : List Line) (k : ℕ) (i : Instr) → letter_at begins (drop k (rows_from false ls)) ≡ Some i → is_op_place (slice_get (places_of ls) k) ≡ true
+pub letter_found : (begins : Bool) (ls : List ListingLine) (k : ℕ) (i : Instr) → letter_at begins (drop k (rows_from false ls)) ≡ Some i → is_op_place (slice_get (places_of ls) k) ≡ true
 letter_found begins ls k i e = by (slice_get (rows_from false ls) k) refl (sym (letter_drop begins (rows_from false ls) k) ∙ e)
   where
     if_some : (t : Bool) (o : Option Instr) → (if t then o else None) ≡ Some i → o ≡ Some i
     if_some true o f = f
     if_some false o f = absurd (cc)
 
-    by : (o : Option Row) → slice_get (rows_from false ls) k ≡ o → letter_row begins o ≡ Some i → is_op_place (slice_get (places_of ls) k) ≡ true
+    by : (o : Option WindowPlace) → slice_get (rows_from false ls) k ≡ o → letter_row begins o ≡ Some i → is_op_place (slice_get (places_of ls) k) ≡ true
     by None f g = absurd (cc)
     by (Some r) f g = letter_op (slice_get (places_of ls) k) i (sym (row_letter ls r false k f) ∙ if_some (begins || r.is_joined) r.letter g)
 

@@ -5,14 +5,14 @@ use Rattle.std.proofs.lemmas.Bool.{cases_Bool, cases_lt, eqb-true, eqb-false, lt
 use Rattle.std.proofs.lemmas.List.{map-append}
 use Rattle.std.proofs.lemmas.Option.{same_Some}
 use Rattle.thumb_instr.specs.declared.instr.Instr.{Instr}
-use Rattle.thumb_model.specs.Listing.{Name, Line, Label, places_in, labels_at, labels_from}
+use Rattle.thumb_model.specs.Listing.{Name, ListingLine, Label, places_in, labels_at, labels_from}
 use Rattle.thumb_model.specs.Replaced.{is_op}
 use Rattle.edited_listing.specs.Items.{Item, AsGiven, New, home_of, has_given, AreSorted}
-use Rattle.edited_listing.specs.Printing.{is_given_at, print_at, line_at, lines_from}
+use Rattle.edited_listing.specs.Emitting.{is_given_at, emit_at, line_at, lines_from}
 use Rattle.edited_listing.specs.Giving.{WordsStand}
 use Rattle.edited_listing.specs.Known.{HasLabelAt, HasLabelIn}
 use Rattle.edited_listing.proofs.Sorted.{sorted_less, not_given, is_first}
-use Rattle.edited_listing.proofs.Printed.{words_behind, words_past, all_words, op_takes, stand_behind, has_behind, other_line}
+use Rattle.edited_listing.proofs.Emitted.{words_behind, words_past, all_words, op_takes, stand_behind, has_behind, other_line}
 use Rattle.thumb_model.proofs.LinesReplaced.{kept_labels as names_kept}
 
 -- how many items have their home before a place
@@ -99,18 +99,18 @@ least_home p xs s = before_none p p p xs (omega arith) (omega arith) s
 
 module _ (write : Instr → List ℕ) (f : ℕ → ℕ) where
   -- each label stands behind as many places as items have their home before it
-  Stands : ℕ → List Line → (List Item → List Line) → Type 0
+  Stands : ℕ → List ListingLine → (List Item → List ListingLine) → Type 0
   Stands p ls behind = (c : ℕ) (xs : List Item) → AreSorted p p xs → WordsStand p xs ls → ((m : ℕ) → p ≤ m → f m ≡ c + before m xs) → labels_from c (behind xs) ≡ map (at f) (labels_from p ls)
 
-  print_stands : (p c : ℕ) (xs : List Item) (ls : List Line) (behind : List Item → List Line) → Stands (suc p) ls behind → AreSorted p (suc p) xs → WordsStand (suc p) xs ls → ((m : ℕ) → suc p ≤ m → f m ≡ c + before m xs) →
-      labels_from c (print_at write p xs behind) ≡ map (at f) (labels_from (suc p) ls)
+  emit_stands : (p c : ℕ) (xs : List Item) (ls : List ListingLine) (behind : List Item → List ListingLine) → Stands (suc p) ls behind → AreSorted p (suc p) xs → WordsStand (suc p) xs ls → ((m : ℕ) → suc p ≤ m → f m ≡ c + before m xs) →
+      labels_from c (emit_at write p xs behind) ≡ map (at f) (labels_from (suc p) ls)
   unfolding Stands
-  print_stands p c [] ls behind rec s v h = rec c [] tt v h
-  print_stands p c (AsGiven q ∷ xs) ls behind rec s v h = rec c (AsGiven q ∷ xs) s v h
-  print_stands p c (New i q ∷ xs) ls behind rec s v h = elim (cases_Bool (q == p)) [
+  emit_stands p c [] ls behind rec s v h = rec c [] tt v h
+  emit_stands p c (AsGiven q ∷ xs) ls behind rec s v h = rec c (AsGiven q ∷ xs) s v h
+  emit_stands p c (New i q ∷ xs) ls behind rec s v h = elim (cases_Bool (q == p)) [
     | inl e ↦
         let here = eqb-true q p e in
-        rw e (print_stands p (c + 1) xs ls behind rec (sorted_less q (suc q) p (suc p) xs (omega arith) (omega arith) s.1) v
+        rw e (emit_stands p (c + 1) xs ls behind rec (sorted_less q (suc q) p (suc p) xs (omega arith) (omega arith) s.1) v
         (λ m l. h m l ∙ ap (λ k. c + k) (before_more m (New i q) xs (omega arith)) ∙ (let z : c + suc (before m xs) ≡ c + 1 + before m xs = omega arith in z)))
     | inr e ↦
         let near = s.0 in
@@ -119,18 +119,18 @@ module _ (write : Instr → List ℕ) (f : ℕ → ℕ) where
         rw e (rec c (New i q ∷ xs) (far, s.1) v h)
   ]
 
-  other_stands : (p c : ℕ) (l : Line) (xs : List Item) (ls : List Line) (behind : List Item → List Line) → Stands (suc p) ls behind → AreSorted p (suc p) xs → WordsStand (suc p) xs ls → ((m : ℕ) → p ≤ m → f m ≡ c + before m xs) → is_op l.statement ≡ true → is_given_at p xs ≡ false →
+  other_stands : (p c : ℕ) (l : ListingLine) (xs : List Item) (ls : List ListingLine) (behind : List Item → List ListingLine) → Stands (suc p) ls behind → AreSorted p (suc p) xs → WordsStand (suc p) xs ls → ((m : ℕ) → p ≤ m → f m ≡ c + before m xs) → is_op l.statement ≡ true → is_given_at p xs ≡ false →
       labels_from c (line_at write p l xs behind) ≡ map (at f) (labels_from p (l ∷ ls))
   other_stands p c l xs ls behind rec s v h op g =
       let here : f p ≡ c = h p (omega arith) ∙ ap (λ k. c + k) (before_none p p (suc p) xs (omega arith) (omega arith) s) ∙ (let z : c + 0 ≡ c = omega arith in z) in
       let one = op_takes l.statement op in
       ap (labels_from c) (other_line write p l xs behind g)
-      ∙ names_kept l l.names c (print_at write p xs behind)
-      ∙ ap (λ ms. ms ++ labels_from c (print_at write p xs behind)) (labels_here f c p l.names here)
-      ∙ ap (λ ms. map (at f) (labels_at p l.names) ++ ms) (print_stands p c xs ls behind rec s v (λ m k. h m (omega arith)) ∙ ap (λ k. map (at f) (labels_from k ls)) (let z : suc p ≡ p + length (places_in l.statement) = omega arith in z))
+      ∙ names_kept l l.names c (emit_at write p xs behind)
+      ∙ ap (λ ms. ms ++ labels_from c (emit_at write p xs behind)) (labels_here f c p l.names here)
+      ∙ ap (λ ms. map (at f) (labels_at p l.names) ++ ms) (emit_stands p c xs ls behind rec s v (λ m k. h m (omega arith)) ∙ ap (λ k. map (at f) (labels_from k ls)) (let z : suc p ≡ p + length (places_in l.statement) = omega arith in z))
       ∙ sym (map-append (at f) (labels_at p l.names) (labels_from (p + length (places_in l.statement)) ls))
 
-  given_stands : (p q c : ℕ) (l : Line) (xs : List Item) (ls : List Line) (behind : List Item → List Line) → Stands (suc p) ls behind → q ≡ p → AreSorted q q (AsGiven q ∷ xs) → WordsStand (suc p) xs ls → ((m : ℕ) → p ≤ m → f m ≡ c + before m (AsGiven q ∷ xs)) → is_op l.statement ≡ true →
+  given_stands : (p q c : ℕ) (l : ListingLine) (xs : List Item) (ls : List ListingLine) (behind : List Item → List ListingLine) → Stands (suc p) ls behind → q ≡ p → AreSorted q q (AsGiven q ∷ xs) → WordsStand (suc p) xs ls → ((m : ℕ) → p ≤ m → f m ≡ c + before m (AsGiven q ∷ xs)) → is_op l.statement ≡ true →
       labels_from c (l ∷ behind xs) ≡ map (at f) (labels_from p (l ∷ ls))
   unfolding Stands
   given_stands p q c l xs ls behind rec e s v h op =
@@ -142,7 +142,7 @@ module _ (write : Instr → List ℕ) (f : ℕ → ℕ) where
       ∙ ap (λ ms. map (at f) (labels_at p l.names) ++ ms) (ap (λ k. labels_from k (behind xs)) (let z : c + length (places_in l.statement) ≡ c + 1 = omega arith in z) ∙ rest ∙ ap (λ k. map (at f) (labels_from k ls)) (let z : suc p ≡ p + length (places_in l.statement) = omega arith in z))
       ∙ sym (map-append (at f) (labels_at p l.names) (labels_from (p + length (places_in l.statement)) ls))
 
-  line_stands : (p c : ℕ) (l : Line) (xs : List Item) (ls : List Line) (behind : List Item → List Line) → Stands (suc p) ls behind → AreSorted p p xs → WordsStand (suc p) xs ls → ((m : ℕ) → p ≤ m → f m ≡ c + before m xs) → is_op l.statement ≡ true →
+  line_stands : (p c : ℕ) (l : ListingLine) (xs : List Item) (ls : List ListingLine) (behind : List Item → List ListingLine) → Stands (suc p) ls behind → AreSorted p p xs → WordsStand (suc p) xs ls → ((m : ℕ) → p ≤ m → f m ≡ c + before m xs) → is_op l.statement ≡ true →
       labels_from c (line_at write p l xs behind) ≡ map (at f) (labels_from p (l ∷ ls))
   line_stands p c l [] ls behind rec s v h op = other_stands p c l [] ls behind rec tt v h op refl
   line_stands p c l (New i q ∷ xs) ls behind rec s v h op = other_stands p c l (New i q ∷ xs) ls behind rec s v h op refl
@@ -153,7 +153,7 @@ module _ (write : Instr → List ℕ) (f : ℕ → ℕ) where
     | inr g ↦ other_stands p c l (AsGiven q ∷ xs) ls behind rec (not_given p (AsGiven q ∷ xs) g s) v h op g
   ]
 
-  stands_now : (ls : List Line) (p : ℕ) → Stands p ls (λ ys. lines_from write p ys ls)
+  stands_now : (ls : List ListingLine) (p : ℕ) → Stands p ls (λ ys. lines_from write p ys ls)
   unfolding Stands
   stands_now [] p c xs s v h = refl
   stands_now (l ∷ ls) p c xs s v h = elim (cases_Bool (is_op l.statement)) [
@@ -169,7 +169,7 @@ module _ (write : Instr → List ℕ) (f : ℕ → ℕ) where
         ∙ sym (map-append (at f) (labels_at p l.names) (labels_from (p + k) ls)))
   ]
 
-labels_stand : (write : Instr → List ℕ) (ls : List Line) (xs : List Item) → AreSorted 0 0 xs → WordsStand 0 xs ls → labels_from 0 (lines_from write 0 xs ls) ≡ map (at (λ m. before m xs)) (labels_from 0 ls)
+labels_stand : (write : Instr → List ℕ) (ls : List ListingLine) (xs : List Item) → AreSorted 0 0 xs → WordsStand 0 xs ls → labels_from 0 (lines_from write 0 xs ls) ≡ map (at (λ m. before m xs)) (labels_from 0 ls)
 unfolding Stands
 labels_stand write ls xs s v = stands_now write (λ m. before m xs) ls 0 0 xs s v (λ m h. let z : before m xs ≡ 0 + before m xs = omega arith in z)
 
@@ -211,7 +211,7 @@ map_found g (x ∷ xs) zero y e = (x, refl, sym (same_Some (g x) y e))
 map_found g (x ∷ xs) (suc k) y e = map_found g xs k y e
 
 -- a label stands right before the item in the lines now where one does between in the given lines
-pub labels_between : (write : Instr → List ℕ) (ls : List Line) (xs : List Item) (r from : ℕ) (y : Item) → AreSorted 0 0 xs → WordsStand 0 xs ls → slice_get xs r ≡ Some y → IsFrom from r xs →
+pub labels_between : (write : Instr → List ℕ) (ls : List ListingLine) (xs : List Item) (r from : ℕ) (y : Item) → AreSorted 0 0 xs → WordsStand 0 xs ls → slice_get xs r ≡ Some y → IsFrom from r xs →
     HasLabelIn (labels_from 0 ls) from (home_of y) ↔ HasLabelAt (labels_from 0 (lines_from write 0 xs ls)) r
 labels_between write ls xs r from y s v e i = (forth, back)
   where

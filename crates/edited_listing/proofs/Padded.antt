@@ -6,7 +6,7 @@ use Rattle.std.proofs.lemmas.List.{length-set}
 use Rattle.thumb_instr.specs.declared.instr.Instr.{Instr}
 use Rattle.kept_places.specs.Marks.{is_gone, rank}
 use Rattle.kept_places.proofs.Ranks.{marked_other, rank_kept, rank_set_behind, ranks_ascend, ranks_grow}
-use Rattle.thumb_model.specs.Listing.{Place, plain, Line, places_of}
+use Rattle.thumb_model.specs.Listing.{Place, plain, ListingLine, places_of}
 use Rattle.thumb_model.proofs.Lists.{length_map}
 use Rattle.padded_code.specs.Padding.{nop, kept}
 use Rattle.padded_code.specs.Exchange.{marks_after, places_after}
@@ -14,7 +14,7 @@ use Rattle.padded_code.specs.Windows.{AreRanked}
 use Rattle.edited_listing.specs.declared.standing.Standing.{Standing}
 use Rattle.edited_listing.specs.declared.standing.Standing.TheVariants as standing
 use Rattle.edited_listing.specs.Items.{items_from}
-use Rattle.edited_listing.specs.Printing.{lines_from}
+use Rattle.edited_listing.specs.Emitting.{lines_from}
 use Rattle.edited_listing.specs.Places.{item_place}
 use Rattle.edited_listing.specs.Changes.{is_none, marks_of, giving_from}
 use Rattle.edited_listing.specs.Edited.{Edited, standing_place, standing_places, IsEdited}
@@ -50,7 +50,7 @@ some_values (x ∷ xs) = ap (λ ys. x ∷ ys) (some_values xs)
 
 pub places_kept : (write : Instr → List ℕ) (e : Edited) → IsEdited e → places_of (lines_from write 0 (items_from 0 e.stands) e.given) ≡ kept (marks_of e.stands) (standing_places e.stands (places_of e.given))
 places_kept write e is =
-    let now : List Line = lines_from write 0 (items_from 0 e.stands) e.given in
+    let now : List ListingLine = lines_from write 0 (items_from 0 e.stands) e.given in
     let at : ℕ → Option Place = slice_get (places_of e.given) in
     let offset : (k : ℕ) → at (0 + k) ≡ slice_get (places_of e.given) k = λ k. ap at (let z : 0 + k ≡ k = omega arith in z) in
     sym (some_values (places_of now))

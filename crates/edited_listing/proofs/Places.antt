@@ -4,23 +4,23 @@ use Rattle.std.specs.Prelude.{slice_get, Option, None, is_some}
 use Rattle.std.proofs.lemmas.Bool.{cases_Bool, eqb-true, eqb-false}
 use Rattle.std.proofs.lemmas.List.{map-append}
 use Rattle.thumb_instr.specs.declared.instr.Instr.{Instr}
-use Rattle.thumb_model.specs.Listing.{Statement, Nothing, Runs, Words, Aligns, Sets, Line, Place, Op, plain, places_in, places_of, is_op_place}
+use Rattle.thumb_model.specs.Listing.{Statement, Nothing, Instruction, Words, Aligns, Sets, ListingLine, Place, Op, plain, places_in, places_of, is_op_place}
 use Rattle.thumb_model.specs.Replaced.{is_op}
 use Rattle.thumb_model.proofs.Lists.{get_front, get_back}
 use Rattle.edited_listing.specs.Items.{Item, AsGiven, New, has_given, AreSorted}
-use Rattle.edited_listing.specs.Printing.{is_given_at, print_at, line_at, lines_from}
+use Rattle.edited_listing.specs.Emitting.{is_given_at, emit_at, line_at, lines_from}
 use Rattle.edited_listing.specs.Giving.{WordsStand}
 use Rattle.edited_listing.specs.Places.{item_place, AreHome}
 use Rattle.edited_listing.proofs.Sorted.{sorted_less, not_given, is_first}
-use Rattle.edited_listing.proofs.Printed.{words_behind, words_past, all_words, stand_behind, has_behind, other_line}
+use Rattle.edited_listing.proofs.Emitted.{words_behind, words_past, all_words, stand_behind, has_behind, other_line}
 use Rattle.thumb_model.proofs.LinesReplaced.{kept_places as labels_place}
 
-abbrev pub some_places : List Line → List (Option Place)
+abbrev pub some_places : List ListingLine → List (Option Place)
 some_places ls = map (λ x. Some x) (places_of ls)
 
 op_one : (s : Statement) → is_op s ≡ true → (x : Place) × (places_in s ≡ x ∷ [])
 op_one Nothing e = absurd (true≢false (sym e))
-op_one (Runs i mention) e = (Op i mention, refl)
+op_one (Instruction i mention) e = (Op i mention, refl)
 op_one (Words vs) e = absurd (true≢false (sym e))
 op_one (Aligns size most) e = absurd (true≢false (sym e))
 op_one (Sets name address) e = absurd (true≢false (sym e))
@@ -31,27 +31,27 @@ module _ (write : Instr → List ℕ) (at : ℕ → Option Place) where
   home_drop (suc n) [] h = tt
   home_drop (suc n) (x ∷ xs) h = home_drop n xs h.1
 
-  -- items that are printed as places
-  Prints : ℕ → List Line → (List Item → List Line) → Type 0
-  Prints p ls behind = (xs : List Item) → AreSorted p p xs → WordsStand p xs ls → AreHome at xs → some_places (behind xs) ≡ map (item_place at) xs
+  -- items that are emitted as places
+  Emits : ℕ → List ListingLine → (List Item → List ListingLine) → Type 0
+  Emits p ls behind = (xs : List Item) → AreSorted p p xs → WordsStand p xs ls → AreHome at xs → some_places (behind xs) ≡ map (item_place at) xs
 
-  print_places : (p : ℕ) (xs : List Item) (ls : List Line) (behind : List Item → List Line) → Prints (suc p) ls behind → AreSorted p (suc p) xs → WordsStand (suc p) xs ls → AreHome at xs → some_places (print_at write p xs behind) ≡ map (item_place at) xs
-  unfolding Prints
-  print_places p [] ls behind rec s v h = rec [] tt v tt
-  print_places p (AsGiven q ∷ xs) ls behind rec s v h = rec (AsGiven q ∷ xs) s v h
-  print_places p (New i q ∷ xs) ls behind rec s v h = elim (cases_Bool (q == p)) [
+  emit_places : (p : ℕ) (xs : List Item) (ls : List ListingLine) (behind : List Item → List ListingLine) → Emits (suc p) ls behind → AreSorted p (suc p) xs → WordsStand (suc p) xs ls → AreHome at xs → some_places (emit_at write p xs behind) ≡ map (item_place at) xs
+  unfolding Emits
+  emit_places p [] ls behind rec s v h = rec [] tt v tt
+  emit_places p (AsGiven q ∷ xs) ls behind rec s v h = rec (AsGiven q ∷ xs) s v h
+  emit_places p (New i q ∷ xs) ls behind rec s v h = elim (cases_Bool (q == p)) [
     | inl e ↦
         let f = eqb-true q p e in
-        rw e (ap (λ ys. Some (plain i) ∷ ys) (print_places p xs ls behind rec (sorted_less q (suc q) p (suc p) xs (omega arith) (omega arith) s.1) v h.1))
+        rw e (ap (λ ys. Some (plain i) ∷ ys) (emit_places p xs ls behind rec (sorted_less q (suc q) p (suc p) xs (omega arith) (omega arith) s.1) v h.1))
     | inr e ↦
         let a = s.0 in
         let other : q ≢ p = eqb-false q p e in
         rw e (rec (New i q ∷ xs) (let b : suc p ≤ q = omega arith in b, s.1) v h)
   ]
 
-  given_places : (p q : ℕ) (l : Line) (xs : List Item) (ls : List Line) (behind : List Item → List Line) → Prints (suc p) ls behind → q ≡ p → AreSorted (suc q) (suc q) xs → WordsStand (suc p) xs ls → AreHome at xs → is_op l.statement ≡ true →
+  given_places : (p q : ℕ) (l : ListingLine) (xs : List Item) (ls : List ListingLine) (behind : List Item → List ListingLine) → Emits (suc p) ls behind → q ≡ p → AreSorted (suc q) (suc q) xs → WordsStand (suc p) xs ls → AreHome at xs → is_op l.statement ≡ true →
       at p ≡ slice_get (places_of (l ∷ ls)) 0 → some_places (l ∷ behind xs) ≡ map (item_place at) (AsGiven q ∷ xs)
-  unfolding Prints
+  unfolding Emits
   given_places p q l xs ls behind rec e s v h op here =
       let one = op_one l.statement op in
       let x = one.0 in
@@ -60,12 +60,12 @@ module _ (write : Instr → List ℕ) (at : ℕ → Option Place) where
       ∙ ap (λ ys. Some x ∷ ys) (rec xs (sorted_less (suc q) (suc q) (suc p) (suc p) xs (omega arith) (omega arith) s) v h)
       ∙ ap (λ y. y ∷ map (item_place at) xs) (sym now)
 
-  other_places : (p : ℕ) (l : Line) (xs : List Item) (ls : List Line) (behind : List Item → List Line) → Prints (suc p) ls behind → AreSorted p (suc p) xs → WordsStand (suc p) xs ls → AreHome at xs → is_given_at p xs ≡ false →
+  other_places : (p : ℕ) (l : ListingLine) (xs : List Item) (ls : List ListingLine) (behind : List Item → List ListingLine) → Emits (suc p) ls behind → AreSorted p (suc p) xs → WordsStand (suc p) xs ls → AreHome at xs → is_given_at p xs ≡ false →
       some_places (line_at write p l xs behind) ≡ map (item_place at) xs
   other_places p l xs ls behind rec s v h e =
-      ap some_places (other_line write p l xs behind e) ∙ ap (λ ps. map (λ y. Some y) ps) (labels_place l l.names (print_at write p xs behind)) ∙ print_places p xs ls behind rec s v h
+      ap some_places (other_line write p l xs behind e) ∙ ap (λ ps. map (λ y. Some y) ps) (labels_place l l.names (emit_at write p xs behind)) ∙ emit_places p xs ls behind rec s v h
 
-  line_places : (p : ℕ) (l : Line) (xs : List Item) (ls : List Line) (behind : List Item → List Line) → Prints (suc p) ls behind → AreSorted p p xs → WordsStand (suc p) xs ls → AreHome at xs → is_op l.statement ≡ true →
+  line_places : (p : ℕ) (l : ListingLine) (xs : List Item) (ls : List ListingLine) (behind : List Item → List ListingLine) → Emits (suc p) ls behind → AreSorted p p xs → WordsStand (suc p) xs ls → AreHome at xs → is_op l.statement ≡ true →
       at p ≡ slice_get (places_of (l ∷ ls)) 0 → some_places (line_at write p l xs behind) ≡ map (item_place at) xs
   line_places p l [] ls behind rec s v h op here = other_places p l [] ls behind rec tt v h refl
   line_places p l (New i q ∷ xs) ls behind rec s v h op here = other_places p l (New i q ∷ xs) ls behind rec s v h refl
@@ -88,8 +88,8 @@ module _ (write : Instr → List ℕ) (at : ℕ → Option Place) where
       (λ j h. ap at (let z : suc p + j ≡ p + suc j = omega arith in z) ∙ a (suc j) (omega arith)))
       ∙ ap (λ y. y ∷ map (item_place at) xs) here
 
-  pub places_now : (ls : List Line) (p : ℕ) (xs : List Item) → AreSorted p p xs → WordsStand p xs ls → AreHome at xs → ((k : ℕ) → at (p + k) ≡ slice_get (places_of ls) k) → some_places (lines_from write p xs ls) ≡ map (item_place at) xs
-  unfolding Prints
+  pub places_now : (ls : List ListingLine) (p : ℕ) (xs : List Item) → AreSorted p p xs → WordsStand p xs ls → AreHome at xs → ((k : ℕ) → at (p + k) ≡ slice_get (places_of ls) k) → some_places (lines_from write p xs ls) ≡ map (item_place at) xs
+  unfolding Emits
   places_now [] p [] s v h a = refl
   places_now [] p (AsGiven q ∷ xs) s v h a =
       absurd (let b = s.0 in let none : at q ≡ None = ap at (let z : q ≡ p + (q - p) = omega arith in z) ∙ a (q - p) in true≢false (sym h.0 ∙ ap is_some none))

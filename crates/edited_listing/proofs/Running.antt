@@ -12,7 +12,7 @@ use Rattle.window_runs.proofs.Joined.{run_ends, run_more}
 use Rattle.padded_code.specs.Windows.{AreRanked}
 use Rattle.edited_listing.specs.Changes.{is_none}
 use Rattle.edited_listing.specs.Edited.{Edited, lines_now, marks}
-use Rattle.edited_listing.specs.Looks.{Follows}
+use Rattle.edited_listing.specs.Looks.{IsNextKept}
 use Rattle.edited_listing.proofs.Looking.{letter_found, rank_between}
 
 -- the letters and places so far, the place of the last of them and the one behind it
@@ -23,7 +23,7 @@ pub record IsRun (e : Edited) (r most : ℕ) (start now : List Bool) (letters : 
   pub within : at ≤ length e.stands
   pub kept : is_gone (marks e) at ≡ false
   pub ranked_at : rank (marks e) at ≡ r + length letters
-  pub follows : nat_eq (length letters) 0 ≡ false → at < length e.stands → Follows e before at
+  pub follows : nat_eq (length letters) 0 ≡ false → at < length e.stands → IsNextKept e before at
   pub ranked : AreRanked (marks e) r places
   pub run : letters ++ run (nat_eq (length letters) 0) (most - length letters) (drop (r + length letters) (rows_from false (lines_now e))) ≡ run true most (drop r (rows_from false (lines_now e)))
 

@@ -3,7 +3,7 @@ use Rattle.std.proofs.Common.{◌≡◌, ◌≢◌, ℕ, zero, suc, ◌≤◌, �
 use Rattle.std.proofs.lemmas.Bool.{cases_Bool, eqb-true, eqb-false}
 use Rattle.thumb_instr.specs.declared.instr.Instr.{Instr}
 use Rattle.edited_listing.specs.Items.{Item, AsGiven, New, has_given, AreSorted, spliced}
-use Rattle.edited_listing.specs.Printing.{is_given_at}
+use Rattle.edited_listing.specs.Emitting.{is_given_at}
 
 -- lesser bounds hold too
 pub sorted_less : (c g c' g' : ℕ) (xs : List Item) → c' ≤ c → g' ≤ g → AreSorted c g xs → AreSorted c' g' xs

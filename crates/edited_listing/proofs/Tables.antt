@@ -4,9 +4,9 @@ use Rattle.std.specs.Prelude.{slice_get, nat_le, nat_lt}
 use Rattle.std.proofs.lemmas.Bool.{cases_lt, lt-ltb, le-ltb, le-leb, lt-leb, leb-true}
 use Rattle.std.proofs.lemmas.Option.{same_Some}
 use Rattle.std.proofs.lemmas.List.{length-replicate}
-use Rattle.thumb_model.specs.Listing.{Name, Line, Label, places_in, places_of, labels_at, labels_from}
+use Rattle.thumb_model.specs.Listing.{Name, ListingLine, Label, places_in, places_of, labels_at, labels_from}
 use Rattle.thumb_model.proofs.Lists.{get_back, get_front}
-use Rattle.window_runs.specs.declared.rows.Row.{Row}
+use Rattle.window_runs.specs.declared.rows.WindowPlace.{WindowPlace}
 use Rattle.edited_listing.specs.Counting.{some_name}
 use Rattle.edited_listing.specs.Known.{joined_at, all_from, HasLabelIn, last_breaks, last_labels}
 
@@ -31,7 +31,7 @@ break_behind true at all p last c h t = ap (λ u. nat_le last c && (u && all)) t
 break_behind false at all p last c h t = ap (λ u. u && all) (lt-leb (suc p) c (omega arith)) ∙ off_here (nat_le last c) all ∙ ap (λ u. nat_le last c && (u && all)) t
 
 -- the last break up to the place behind j others, where all that is asked for is behind
-breaks_in : (rs : List Row) (j p last b c : ℕ) (at : ℕ → Bool) → c ≤ p → slice_get (last_breaks p last rs) j ≡ Some b → ((k : ℕ) → joined_at rs k ≡ at (p + k)) → nat_le b c ≡ (nat_le last c && all_from at p (suc j))
+breaks_in : (rs : List WindowPlace) (j p last b c : ℕ) (at : ℕ → Bool) → c ≤ p → slice_get (last_breaks p last rs) j ≡ Some b → ((k : ℕ) → joined_at rs k ≡ at (p + k)) → nat_le b c ≡ (nat_le last c && all_from at p (suc j))
 breaks_in [] j p last b c at h e a = absurd (cc)
 breaks_in (r ∷ rs) zero p last b c at h e a = break_here r.is_joined (at p) p last b c h (a 0 ∙ ap at (let z : p + 0 ≡ p = omega arith in z)) (same_Some _ b e)
 breaks_in (r ∷ rs) (suc j) p last b c at h e a =
@@ -39,7 +39,7 @@ breaks_in (r ∷ rs) (suc j) p last b c at h e a =
     ∙ break_behind r.is_joined (at p) (all_from at (suc p) (suc j)) p last c h (a 0 ∙ ap at (let z : p + 0 ≡ p = omega arith in z))
 
 -- and where some places are before what is asked for
-breaks_past : (rs : List Row) (j d p last b : ℕ) (at : ℕ → Bool) → last ≤ p → d ≤ suc j → slice_get (last_breaks p last rs) j ≡ Some b → ((k : ℕ) → joined_at rs k ≡ at (p + k)) → nat_le b (p + d) ≡ all_from at (p + d) (suc j - d)
+breaks_past : (rs : List WindowPlace) (j d p last b : ℕ) (at : ℕ → Bool) → last ≤ p → d ≤ suc j → slice_get (last_breaks p last rs) j ≡ Some b → ((k : ℕ) → joined_at rs k ≡ at (p + k)) → nat_le b (p + d) ≡ all_from at (p + d) (suc j - d)
 breaks_past rs j zero p last b at h k e a =
     breaks_in rs j p last b (p + 0) at (omega arith) e a
     ∙ ap (λ u. u && all_from at p (suc j)) (le-leb last (p + 0) (omega arith))
@@ -63,14 +63,14 @@ breaks_past (r ∷ rs) (suc j) (suc d) p last b at h k e a =
     small true = omega arith
     small false = omega arith
 
-pub joined_between : (rs : List Row) (from to b : ℕ) → from ≤ to → slice_get (last_breaks 0 0 rs) to ≡ Some b → nat_le b (from + 1) ≡ all_from (joined_at rs) (suc from) (to - from)
+pub joined_between : (rs : List WindowPlace) (from to b : ℕ) → from ≤ to → slice_get (last_breaks 0 0 rs) to ≡ Some b → nat_le b (from + 1) ≡ all_from (joined_at rs) (suc from) (to - from)
 joined_between rs from to b h e =
     ap (nat_le b) (let z : from + 1 ≡ 0 + suc from = omega arith in z)
     ∙ breaks_past rs to (suc from) 0 0 b (joined_at rs) (omega arith) (omega arith) e (λ k. ap (joined_at rs) (let z : k ≡ 0 + k = omega arith in z))
     ∙ ap (λ n. all_from (joined_at rs) n (suc to - suc from)) (let z : 0 + suc from ≡ suc from = omega arith in z)
     ∙ ap (all_from (joined_at rs) (suc from)) (let z : suc to - suc from ≡ to - from = omega arith in z)
 
-pub breaks_many : (rs : List Row) (p last : ℕ) → length (last_breaks p last rs) ≡ length rs
+pub breaks_many : (rs : List WindowPlace) (p last : ℕ) → length (last_breaks p last rs) ≡ length rs
 breaks_many [] p last = refl
 breaks_many (r ∷ rs) p last = ap suc (breaks_many rs (suc p) (if r.is_joined then last else suc p))
 
@@ -109,7 +109,7 @@ none_here p (n ∷ ns) from to h = ap (λ u. (nat_le from p && u) || some_in (la
     none true = refl
     none false = refl
 
-none_behind : (ls : List Line) (p from to : ℕ) → to < p → some_in (labels_from p ls) from to ≡ false
+none_behind : (ls : List ListingLine) (p from to : ℕ) → to < p → some_in (labels_from p ls) from to ≡ false
 none_behind [] p from to h = refl
 none_behind (l ∷ ls) p from to h =
     some_append (labels_at p l.names) (labels_from (p + length (places_in l.statement)) ls) from to
@@ -148,7 +148,7 @@ or_none : (a : Bool) → a ≡ (a || false)
 or_none true = refl
 or_none false = refl
 
-labels_upto : (ls : List Line) (j p last b from : ℕ) → last ≤ suc p → slice_get (last_labels p last ls) j ≡ Some b → nat_lt from b ≡ (nat_lt from last || some_in (labels_from p ls) from (p + j))
+labels_upto : (ls : List ListingLine) (j p last b from : ℕ) → last ≤ suc p → slice_get (last_labels p last ls) j ≡ Some b → nat_lt from b ≡ (nat_lt from last || some_in (labels_from p ls) from (p + j))
 labels_upto [] j p last b from h e = absurd (cc)
 labels_upto (l ∷ ls) j p last b from h e =
     let k : ℕ = length (places_in l.statement) in
@@ -169,7 +169,7 @@ labels_upto (l ∷ ls) j p last b from h e =
           ∙ all
     ]
 
-pub labels_many : (ls : List Line) (p last : ℕ) → length (last_labels p last ls) ≡ length (places_of ls)
+pub labels_many : (ls : List ListingLine) (p last : ℕ) → length (last_labels p last ls) ≡ length (places_of ls)
 labels_many [] p last = refl
 labels_many (l ∷ ls) p last =
     let k : ℕ = length (places_in l.statement) in
@@ -202,7 +202,7 @@ in_found (m ∷ ls) from to (suc k) l e f g = ap (λ u. (nat_le from m.place && 
     all true = refl
     all false = refl
 
-pub label_between : (ls : List Line) (from to b : ℕ) → slice_get (last_labels 0 0 ls) to ≡ Some b → (nat_lt from b ≡ true) ↔ HasLabelIn (labels_from 0 ls) from to
+pub label_between : (ls : List ListingLine) (from to b : ℕ) → slice_get (last_labels 0 0 ls) to ≡ Some b → (nat_lt from b ≡ true) ↔ HasLabelIn (labels_from 0 ls) from to
 label_between ls from to b e = (
   λ h. found_in (labels_from 0 ls) from to (sym same ∙ h),
   λ h. same ∙ in_found (labels_from 0 ls) from to h.number h.label h.is h.from h.to,

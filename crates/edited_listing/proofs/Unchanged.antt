@@ -3,16 +3,16 @@ use Rattle.std.proofs.Common.{◌≡◌, ℕ, zero, suc, ◌+◌, ◌<◌, ◌�
 use Rattle.std.specs.Prelude.{slice_get, Option, is_some}
 use Rattle.std.proofs.lemmas.Bool.{cases_Bool, eq-eqb}
 use Rattle.thumb_instr.specs.declared.instr.Instr.{Instr}
-use Rattle.thumb_model.specs.Listing.{Line, Place, places_in, places_of}
+use Rattle.thumb_model.specs.Listing.{ListingLine, Place, places_in, places_of}
 use Rattle.thumb_model.specs.Replaced.{is_op}
 use Rattle.thumb_model.proofs.Lists.{present_at}
 use Rattle.edited_listing.specs.declared.standing.Standing.TheVariants as standing
 use Rattle.edited_listing.specs.Items.{Item, items_from, AreSorted}
-use Rattle.edited_listing.specs.Printing.{line_at, lines_from}
+use Rattle.edited_listing.specs.Emitting.{line_at, lines_from}
 use Rattle.edited_listing.specs.Giving.{is_word}
 use Rattle.edited_listing.specs.Places.{AreHome}
 use Rattle.edited_listing.specs.Edited.{IsEdited, unchanged}
-use Rattle.edited_listing.proofs.Printed.{op_takes}
+use Rattle.edited_listing.proofs.Emitted.{op_takes}
 
 given_items : ℕ → ℕ → List Item
 given_items p n = items_from p (replicate n standing.Given)
@@ -22,11 +22,11 @@ drop_given zero p n m e = ap (λ j. items_from p (replicate j standing.Given)) (
 drop_given (suc k) p zero m e = absurd (omega arith)
 drop_given (suc k) p (suc n) m e = drop_given k (suc p) n m (omega arith) ∙ ap (λ j. items_from j (replicate m standing.Given)) (let z : suc p + k ≡ p + suc k = omega arith in z)
 
-given_line : (write : Instr → List ℕ) (p n m : ℕ) (l : Line) (behind : List Item → List Line) → n ≡ suc m → line_at write p l (items_from p (replicate n standing.Given)) behind ≡ l ∷ behind (items_from (suc p) (replicate m standing.Given))
+given_line : (write : Instr → List ℕ) (p n m : ℕ) (l : ListingLine) (behind : List Item → List ListingLine) → n ≡ suc m → line_at write p l (items_from p (replicate n standing.Given)) behind ≡ l ∷ behind (items_from (suc p) (replicate m standing.Given))
 given_line write p zero m l behind e = absurd (omega arith)
 given_line write p (suc n) m l behind e = let here : (p == p) ≡ true = eq-eqb p p refl in rw here (ap (λ j. l ∷ behind (items_from (suc p) (replicate j standing.Given))) (let z : n ≡ m = omega arith in z))
 
-pub lines_unchanged : (write : Instr → List ℕ) (ls : List Line) (p : ℕ) → lines_from write p (items_from p (replicate (length (places_of ls)) standing.Given)) ls ≡ ls
+pub lines_unchanged : (write : Instr → List ℕ) (ls : List ListingLine) (p : ℕ) → lines_from write p (items_from p (replicate (length (places_of ls)) standing.Given)) ls ≡ ls
 lines_unchanged write [] p = refl
 lines_unchanged write (l ∷ ls) p =
     let all = length-append (places_in l.statement) (places_of ls) in
@@ -61,7 +61,7 @@ pub length_given : (n : ℕ) → length (replicate n standing.Given) ≡ n
 length_given zero = refl
 length_given (suc n) = ap suc (length_given n)
 
-pub unchanged_edited : (ls : List Line) → IsEdited (unchanged ls)
+pub unchanged_edited : (ls : List ListingLine) → IsEdited (unchanged ls)
 unchanged_edited ls = record {
   as_many = length_given (length (places_of ls));
   sorted = sorted_given (length (places_of ls)) 0 0 (omega arith);

@@ -15,7 +15,7 @@ is_none (standing.New i home) = false
 abbrev pub marks_of : List Standing → List Bool
 marks_of ss = map is_none ss
 
--- where what stands at place p is printed
+-- where what stands at place p is emitted
 abbrev pub home_at : ℕ → Standing → ℕ
 home_at p standing.Given = p
 home_at p standing.Gone = p

@@ -1,7 +1,7 @@
 -- A listing that is being changed, and the code whose places stay.
 use Rattle.std.specs.Prelude.{◌≡◌, ℕ, Bool, true, List, [], ◌∷◌, length, replicate, Option, Some, None, slice_get}
 use Rattle.thumb_instr.specs.declared.instr.Instr.{Instr}
-use Rattle.thumb_model.specs.Listing.{Place, Op, Word, plain, Line, Code, places_of, labels_from}
+use Rattle.thumb_model.specs.Listing.{Place, Op, Word, plain, ListingLine, Code, places_of, labels_from}
 use Rattle.listing_parser.specs.Parsing.{own_line}
 use Rattle.window_runs.specs.Rows.{letter_of}
 use Rattle.padded_code.specs.Padding.{nop}
@@ -9,13 +9,13 @@ use Rattle.edited_listing.specs.declared.standing.Standing.{Standing}
 use Rattle.edited_listing.specs.declared.standing.Standing.TheVariants as standing
 use Rattle.edited_listing.specs.Items.{items_from, AreSorted}
 use Rattle.edited_listing.specs.Changes.{marks_of}
-use Rattle.edited_listing.specs.Printing.{lines_from}
+use Rattle.edited_listing.specs.Emitting.{lines_from}
 use Rattle.edited_listing.specs.Giving.{is_word}
 use Rattle.edited_listing.specs.Places.{AreHome}
 
 -- the lines that were given, and what stands at each of their places now
 pub record Edited : Type 0 where
-  pub given : List Line
+  pub given : List ListingLine
   pub stands : List Standing
 
 -- the place as it stands
@@ -34,7 +34,7 @@ abbrev pub padded : Edited → Code
 padded e = record { places = standing_places e.stands (places_of e.given); labels = labels_from 0 e.given }
 
 -- a listing of which nothing is changed
-abbrev pub unchanged : List Line → Edited
+abbrev pub unchanged : List ListingLine → Edited
 unchanged ls = record { given = ls; stands = replicate (length (places_of ls)) standing.Given }
 
 -- which places are gone
@@ -42,7 +42,7 @@ abbrev pub marks : Edited → List Bool
 marks e = marks_of e.stands
 
 -- the lines now
-abbrev pub lines_now : Edited → List Line
+abbrev pub lines_now : Edited → List ListingLine
 lines_now e = lines_from own_line 0 (items_from 0 e.stands) e.given
 
 -- the instruction at a place, where it may stand in a window

@@ -6,7 +6,7 @@ use Rattle.edited_listing.specs.declared.in_place.InPlace.TheInside.{Inside}
 
 abbrev pub progress : Inside → Progress
 progress s = record {
-  printed = take s.done (map line_view s.lines.items) ++ map line_view s.waiting.items;
+  emitted = take s.done (map line_view s.lines.items) ++ map line_view s.waiting.items;
   left = drop s.next (map line_view s.lines.items);
 }
 

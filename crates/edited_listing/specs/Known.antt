@@ -1,17 +1,17 @@
 -- What is known of each place of the lines that were given.
 use Rattle.std.specs.Prelude.{◌≡◌, ℕ, zero, suc, ◌+◌, ◌≤◌, ◌&&◌, Bool, true, false, List, [], ◌∷◌, ◌++◌, length, replicate, Option, Some, None, slice_get, if◌then◌else◌}
-use Rattle.thumb_model.specs.Listing.{Line, Label, places_in}
-use Rattle.window_runs.specs.declared.rows.Row.{Row}
+use Rattle.thumb_model.specs.Listing.{ListingLine, Label, places_in}
+use Rattle.window_runs.specs.declared.rows.WindowPlace.{WindowPlace}
 use Rattle.window_runs.specs.Rows.{rows_from}
 use Rattle.edited_listing.specs.declared.given.GivenListing.TheInside.{Inside}
 use Rattle.edited_listing.specs.Counting.{some_name}
 
 -- whether a place is joined to the one before
-abbrev pub row_joined : Option Row → Bool
+abbrev pub row_joined : Option WindowPlace → Bool
 row_joined None = false
 row_joined (Some r) = r.is_joined
 
-abbrev pub joined_at : List Row → ℕ → Bool
+abbrev pub joined_at : List WindowPlace → ℕ → Bool
 joined_at rows p = row_joined (slice_get rows p)
 
 -- whether all of n numbers from p on are so
@@ -35,12 +35,12 @@ pub record HasLabelIn (labels : List Label) (low high : ℕ) : Type 0 where
   pub to : label.place ≤ high
 
 -- of the rows from place p on, one more than the last place up to each that isn't joined to the place before
-abbrev pub last_breaks : ℕ → ℕ → List Row → List ℕ
+abbrev pub last_breaks : ℕ → ℕ → List WindowPlace → List ℕ
 last_breaks p last [] = []
 last_breaks p last (r ∷ rs) = (if r.is_joined then last else suc p) ∷ last_breaks (suc p) (if r.is_joined then last else suc p) rs
 
 -- of the places of the lines from place p on, one more than the place of the last label up to each
-abbrev pub last_labels : ℕ → ℕ → List Line → List ℕ
+abbrev pub last_labels : ℕ → ℕ → List ListingLine → List ℕ
 last_labels p last [] = []
 last_labels p last (l ∷ ls) = replicate (length (places_in l.statement)) (if some_name l.names then suc p else last) ++ last_labels (p + length (places_in l.statement)) (if some_name l.names then suc p else last) ls
 

@@ -2,7 +2,7 @@
 use Rattle.std.specs.Prelude.{◌≡◌, ℕ, ◌+◌, ◌<◌, ◌≤◌, true, false, List, length, Some, slice_get, ◌⊎◌}
 use Rattle.thumb_instr.specs.declared.instr.Instr.{Instr}
 use Rattle.kept_places.specs.Marks.{rank}
-use Rattle.thumb_model.specs.Listing.{Line, Label, places_of, labels_from, is_op_place}
+use Rattle.thumb_model.specs.Listing.{ListingLine, Label, places_of, labels_from, is_op_place}
 use Rattle.thumb_model.specs.Replaced.{replaced_lines}
 use Rattle.std.specs.List.{list_all}
 use Rattle.listing_parser.specs.Grammar.{most_lines}
@@ -20,7 +20,7 @@ use Rattle.edited_listing.specs.Edited.{Edited, IsEdited, lines_now, marks, padd
 
 -- a listing of which nothing is changed has its own lines
 abbrev pub UnchangedIsEdited : Type 0
-UnchangedIsEdited = (lines : List Line) → IsEdited (unchanged lines) × (lines_now (unchanged lines) ≡ lines)
+UnchangedIsEdited = (lines : List ListingLine) → IsEdited (unchanged lines) × (lines_now (unchanged lines) ≡ lines)
 
 -- the listing when `count` of its kept places from place p on, where s stands, give way
 abbrev pub after_giving : Edited → ℕ → ℕ → List Instr → Standing → Edited

@@ -1,5 +1,5 @@
 pub mod Items
-pub mod Printing
+pub mod Emitting
 pub mod Giving
 pub mod Changes
 pub mod Edited
@@ -8,6 +8,6 @@ pub mod Counting
 pub mod Laws
 pub mod Known
 pub mod Looks
-pub mod Held
+pub mod Invariant
 pub mod Progress
 pub mod InPlace

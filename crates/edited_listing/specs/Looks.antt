@@ -6,7 +6,7 @@ use Rattle.edited_listing.specs.declared.standing.Standing.{Standing}
 use Rattle.edited_listing.specs.Changes.{home_at}
 use Rattle.edited_listing.specs.Edited.{Edited, lines_now, marks}
 
--- the place at whose line is printed what stands at place p
+-- the place at whose line is emitted what stands at place p
 abbrev pub home_in : ℕ → Option Standing → ℕ
 home_in p None = p
 home_in p (Some s) = home_at p s
@@ -15,7 +15,7 @@ abbrev pub home_of_place : List Standing → ℕ → ℕ
 home_of_place stands p = home_in p (slice_get stands p)
 
 -- the kept place q is the next one behind p, where an instruction stands
-pub record Follows (e : Edited) (p q : ℕ) : Type 0 where
+pub record IsNextKept (e : Edited) (p q : ℕ) : Type 0 where
   pub p_within : p < length e.stands
   pub p_kept : is_gone (marks e) p ≡ false
   pub q_within : q < length e.stands

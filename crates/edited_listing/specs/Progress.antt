@@ -1,8 +1,8 @@
 -- Lines that are gone through.
 use Rattle.std.specs.Prelude.{List}
-use Rattle.thumb_model.specs.Listing.{Line}
+use Rattle.thumb_model.specs.Listing.{ListingLine}
 
--- those that are printed, and those that are left
+-- those that are emitted, and those that are left
 pub record Progress : Type 0 where
-  pub printed : List Line
-  pub left : List Line
+  pub emitted : List ListingLine
+  pub left : List ListingLine

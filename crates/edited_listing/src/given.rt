@@ -6,7 +6,7 @@ use listing_parser::Listing;
 use std::alloc::{AllocError, Global};
 use std::marker::Model;
 use thumb_instr::Instr;
-use window_runs::rows::{Row, rows};
+use window_runs::rows::{WindowPlace, rows};
 
 /// A listing as it was given. Contracts see its lines.
 ///
@@ -15,16 +15,16 @@ use window_runs::rows::{Row, rows};
 #[derive(Drop)]
 pub(crate) struct GivenListing {
     listing: Listing,
-    rows: Vec<Row>,
+    rows: Vec<WindowPlace>,
     breaks: Vec<usize>,
     labels: Vec<usize>,
 }
 
 impl Model for GivenListing {
     ghost use Rattle.std.specs.Prelude.{List};
-    ghost use Rattle.thumb_model.specs.Listing.{Line};
+    ghost use Rattle.thumb_model.specs.Listing.{ListingLine};
 
-    ghost Value = { List Line };
+    ghost Value = { List ListingLine };
 
     ghost use Rattle.edited_listing.specs.Known.{IsKnown};
 
@@ -34,7 +34,7 @@ impl Model for GivenListing {
 }
 
 /// Of each place of rows, one more than the last place up to it that isn't joined to the place before; 0 where there is none.
-fn last_breaks(alloc: Global, rows: &[Row]) -> Result<Vec<usize>, AllocError>
+fn last_breaks(alloc: Global, rows: &[WindowPlace]) -> Result<Vec<usize>, AllocError>
     ensures { IfOk result (λ breaks. breaks.items ≡ last_breaks 0 0 rows.now) }
 {
     let mut breaks = Vec::with_capacity(alloc, rows.len())?;

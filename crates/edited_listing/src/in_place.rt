@@ -2,21 +2,21 @@
 ghost use Rattle.std.specs.Prelude.{◌≡◌, ◌+◌, ◌<◌, ◌≤◌, ◌++◌, ◌∷◌, [], drop, length, map, take};
 ghost use Rattle.listing_parser.specs.Views.{line_view};
 
-use listing_parser::{Line, Mark, Statement};
+use listing_parser::{FunctionMark, ListingLine, Statement};
 use std::alloc::{AllocError, Global};
 use std::marker::Model;
 use std::mem::replace;
 
-/// Lines of which the first are printed, and the others are left. Contracts see both lists.
+/// Lines of which the first are emitted, and the others are left. Contracts see both lists.
 ///
-/// In `lines` the first `done` are printed ones, those from `next` on are left, and what stands between is no more. The printed lines behind the first are
+/// In `lines` the first `done` are emitted ones, those from `next` on are left, and what stands between is no more. The emitted lines behind the first are
 /// `waiting` until there is room for them there.
 #[derive(Drop)]
 pub(crate) struct InPlace {
-    lines: Vec<Line>,
+    lines: Vec<ListingLine>,
     done: usize,
     next: usize,
-    waiting: Vec<Line>,
+    waiting: Vec<ListingLine>,
 }
 
 impl Model for InPlace {
@@ -32,7 +32,7 @@ impl Model for InPlace {
 }
 
 /// Moves a line down over another, if it stands behind it.
-fn move_down(lines: &mut Vec<Line>, to: usize, from: usize)
+fn move_down(lines: &mut Vec<ListingLine>, to: usize, from: usize)
     requires order { to ≤ from }
     requires within { from < length lines.old.items }
     ensures many { length lines.new.items ≡ length lines.old.items }
@@ -45,17 +45,17 @@ fn move_down(lines: &mut Vec<Line>, to: usize, from: usize)
 }
 
 /// Takes a line out, and leaves one that says nothing.
-fn take_out(alloc: Global, lines: &mut Vec<Line>, at: usize) -> Line
+fn take_out(alloc: Global, lines: &mut Vec<ListingLine>, at: usize) -> ListingLine
     requires { at < length lines.old.items }
     ensures many { length lines.new.items ≡ length lines.old.items }
     ensures taken { take 1 (drop at (map line_view lines.old.items)) ≡ line_view result ∷ [] }
     ensures before { take at lines.new.items ≡ take at lines.old.items }
     ensures behind { drop (at + 1) lines.new.items ≡ drop (at + 1) lines.old.items }
 {
-    let nothing = Line {
+    let nothing = ListingLine {
         names: Vec::new(alloc),
         statement: Statement::Nothing,
-        mark: Mark::Nothing,
+        mark: FunctionMark::Nothing,
         text: Vec::new(alloc),
         front: 0,
     };
@@ -63,7 +63,7 @@ fn take_out(alloc: Global, lines: &mut Vec<Line>, at: usize) -> Line
 }
 
 /// Puts lines over those from one on.
-fn put(lines: &mut Vec<Line>, from: usize, new: &mut Vec<Line>)
+fn put(lines: &mut Vec<ListingLine>, from: usize, new: &mut Vec<ListingLine>)
     requires { from + length new.old.items ≤ length lines.old.items }
     ensures lines { lines.new.items ≡ take from lines.old.items ++ (new.old.items ++ drop (from + length new.old.items) lines.old.items) }
     ensures none { new.new.items ≡ [] }
@@ -80,8 +80,8 @@ impl InPlace {
     ghost use Rattle.listing_parser.specs.Views.{line_view};
 
     /// Lines that all are left.
-    pub(crate) fn new(alloc: Global, lines: Vec<Line>) -> Self
-        ensures { result ≡ record { printed = []; left = map line_view lines.items } }
+    pub(crate) fn new(alloc: Global, lines: Vec<ListingLine>) -> Self
+        ensures { result ≡ record { emitted = []; left = map line_view lines.items } }
     {
         InPlace {
             lines,
@@ -99,14 +99,14 @@ impl InPlace {
     }
 
     /// The first of those that are left.
-    pub(crate) fn next(&self) -> &Line
+    pub(crate) fn next(&self) -> &ListingLine
         requires { 0 < length self.now.left }
         ensures { self.now.left ≡ line_view result.now ∷ drop 1 self.now.left }
     {
         &self.lines[self.next]
     }
 
-    /// Lets the printed lines that wait stand behind the first, if there is room for all of them.
+    /// Lets the emitted lines that wait stand behind the first, if there is room for all of them.
     fn settle(&mut self)
         ensures { self.new ≡ self.old }
     {
@@ -117,10 +117,10 @@ impl InPlace {
         }
     }
 
-    /// Prints the first of those that are left as it is.
+    /// Emits the first of those that are left as it is.
     pub(crate) fn keep(&mut self, alloc: Global) -> Result<(), AllocError>
         requires { 0 < length self.old.left }
-        ensures { OnOk result (self.new ≡ record { printed = self.old.printed ++ take 1 self.old.left; left = drop 1 self.old.left }) }
+        ensures { OnOk result (self.new ≡ record { emitted = self.old.emitted ++ take 1 self.old.left; left = drop 1 self.old.left }) }
     {
         if self.waiting.is_empty() {
             move_down(&mut self.lines, self.done, self.next);
@@ -135,10 +135,10 @@ impl InPlace {
         Ok(())
     }
 
-    /// Lets the first of those that are left give way to others, which are printed.
-    pub(crate) fn give_way(&mut self, new: &mut Vec<Line>) -> Result<(), AllocError>
+    /// Lets the first of those that are left give way to others, which are emitted.
+    pub(crate) fn give_way(&mut self, new: &mut Vec<ListingLine>) -> Result<(), AllocError>
         requires { 0 < length self.old.left }
-        ensures lines { OnOk result (self.new ≡ record { printed = self.old.printed ++ map line_view new.old.items; left = drop 1 self.old.left }) }
+        ensures lines { OnOk result (self.new ≡ record { emitted = self.old.emitted ++ map line_view new.old.items; left = drop 1 self.old.left }) }
         ensures none { OnOk result (new.new.items ≡ []) }
     {
         self.waiting.append(new)?;
@@ -147,9 +147,9 @@ impl InPlace {
         Ok(())
     }
 
-    /// The printed lines.
-    pub(crate) fn into_printed(self) -> Result<Vec<Line>, AllocError>
-        ensures { IfOk result (λ lines. map line_view lines.items ≡ self.printed) }
+    /// The emitted lines.
+    pub(crate) fn into_emitted(self) -> Result<Vec<ListingLine>, AllocError>
+        ensures { IfOk result (λ lines. map line_view lines.items ≡ self.emitted) }
     {
         let InPlace {
             mut lines,

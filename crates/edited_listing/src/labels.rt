@@ -5,7 +5,7 @@ ghost use Rattle.listing_parser.specs.Views.{line_view, statement_view, value_vi
 ghost use Rattle.edited_listing.specs.Counting.{labels_in, op_labels};
 ghost use Rattle.edited_listing.specs.Known.{last_labels};
 
-use listing_parser::{Line, Statement, Value};
+use listing_parser::{ListingLine, Statement, Value};
 use std::alloc::{AllocError, Global};
 
 /// What is known of labels at each place of lines: one more than the place of the last label up to it, 0 where there is none, and whether a label stands on
@@ -17,7 +17,11 @@ pub(crate) struct Labels {
 }
 
 /// What is known of labels at each place of lines. `places` is how many are made room for.
-pub(crate) fn labels_of(alloc: Global, lines: &[Line], places: usize) -> Result<Labels, AllocError>
+pub(crate) fn labels_of(
+    alloc: Global,
+    lines: &[ListingLine],
+    places: usize,
+) -> Result<Labels, AllocError>
     ensures lasts { IfOk result (λ l. l.lasts.items ≡ last_labels 0 0 (map line_view lines.now)) }
     ensures labelled { IfOk result (λ l. l.labelled.items ≡ op_labels (map line_view lines.now)) }
 {
@@ -60,7 +64,7 @@ fn add_places(
     ensures { OnOk result (labels.new.items ≡ labels.old.items ++ labels_in is_labelled (statement_view statement.now)) }
 {
     match statement {
-        Statement::Runs { .. } => {
+        Statement::Instruction { .. } => {
             labels.push(is_labelled)?;
             Ok(())
         }

@@ -1,6 +1,7 @@
 //! A listing whose instructions give way to others while the numbers of its places stay.
 #![tactic(auto)]
 
+mod emitting;
 mod given;
 mod giving;
 mod in_place;
@@ -9,7 +10,6 @@ pub mod laws;
 mod listing;
 mod looks;
 mod passing;
-mod printing;
 mod standing;
 
 pub use listing::EditedListing;

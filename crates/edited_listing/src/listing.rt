@@ -9,12 +9,12 @@ ghost use Rattle.edited_listing.specs.Edited.{letter_in};
 ghost use Rattle.edited_listing.specs.declared.standing.Standing.{Standing as Standings};
 ghost use Rattle.edited_listing.specs.declared.standing.Standing.TheVariants as standing;
 
+use crate::emitting::emit;
 use crate::given::GivenListing;
 use crate::giving::give_way;
 use crate::labels::{Labels, labels_of};
 use crate::looks::{Run, home, next_letter, run_from};
 use crate::passing::is_op_behind;
-use crate::printing::print;
 use crate::standing::Standing;
 use kept_places::KeptPlaces;
 use listing_parser::{Listing, Memory, Mention, Place};
@@ -42,11 +42,11 @@ impl Model for EditedListing {
 
     ghost Value = { Edited };
 
-    ghost use Rattle.edited_listing.specs.Held.{IsHeld};
+    ghost use Rattle.edited_listing.specs.Invariant.{IsEditedInside};
 
     ghost view = { λ s. record { given = s.listing; stands = s.stands.items } };
 
-    ghost invariant = { IsHeld };
+    ghost invariant = { IsEditedInside };
 }
 
 /// So many places as they were given.
@@ -294,7 +294,7 @@ impl EditedListing {
         if !is_changed {
             return Ok(listing);
         }
-        let lines = print(alloc, listing.into_lines(), &stands, &mut kept)?;
+        let lines = emit(alloc, listing.into_lines(), &stands, &mut kept)?;
         Listing::of(alloc, lines)
     }
 }

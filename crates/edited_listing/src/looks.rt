@@ -8,7 +8,7 @@ ghost use Rattle.padded_code.specs.Windows.{AreRanked};
 ghost use Rattle.edited_listing.specs.Changes.{marks_of};
 ghost use Rattle.edited_listing.specs.Edited.{letter_in, lines_now, padded, IsEdited};
 ghost use Rattle.edited_listing.specs.Known.{joined_at};
-ghost use Rattle.edited_listing.specs.Looks.{home_of_place, Follows};
+ghost use Rattle.edited_listing.specs.Looks.{home_of_place, IsNextKept};
 
 use crate::given::GivenListing;
 use crate::standing::Standing;
@@ -43,7 +43,7 @@ fn letter(given: &GivenListing, stands: &[Standing], place: u32) -> Option<Instr
     }
 }
 
-/// The place at whose line is printed what stands at a place.
+/// The place at whose line is emitted what stands at a place.
 pub(crate) fn home(stands: &[Standing], place: u32) -> u32
     requires { place < length stands.now }
     ensures { result ≡ home_of_place stands.now place }
@@ -54,7 +54,7 @@ pub(crate) fn home(stands: &[Standing], place: u32) -> u32
 /// Whether neither a label nor an alignment line stands between an instruction and the kept place behind it.
 fn is_joined(given: &GivenListing, stands: &[Standing], before: u32, place: u32) -> bool
     requires edited { IsEdited (record { given = given.now; stands = stands.now }) }
-    requires follows { Follows (record { given = given.now; stands = stands.now }) before place }
+    requires follows { IsNextKept (record { given = given.now; stands = stands.now }) before place }
     ensures { result ≡ joined_at (rows_from false (lines_now (record { given = given.now; stands = stands.now }))) (rank (marks_of stands.now) place) }
 {
     let from = home(stands, before);
@@ -72,7 +72,7 @@ pub(crate) fn next_letter(
 ) -> Option<Instr>
     requires edited { IsEdited (record { given = given.now; stands = stands.now }) }
     requires kept { is_gone (marks_of stands.now) place ≡ false }
-    requires follows { begins ≡ false → place < length stands.now → Follows (record { given = given.now; stands = stands.now }) before place }
+    requires follows { begins ≡ false → place < length stands.now → IsNextKept (record { given = given.now; stands = stands.now }) before place }
     ensures letter { result ≡ letter_at begins (drop (rank (marks_of stands.now) place) (rows_from false (lines_now (record { given = given.now; stands = stands.now })))) }
     ensures within { IfSome result (λ i. place < length stands.now) }
 {

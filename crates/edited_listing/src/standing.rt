@@ -11,7 +11,7 @@ pub enum Standing {
     Given,
     /// Nothing: it is gone.
     Gone,
-    /// Another instruction, which is printed at the line of a place: its home.
+    /// Another instruction, which is emitted at the line of a place: its home.
     New { instr: Instr, home: u32 },
 }
 
@@ -38,7 +38,7 @@ impl Standing {
         }
     }
 
-    /// The place at whose line it is printed, where it stands at that place.
+    /// The place at whose line it is emitted, where it stands at that place.
     pub(crate) fn home(&self, place: u32) -> u32
         ensures { result ≡ home_at place self.now }
     {

@@ -7,7 +7,7 @@ use Rattle.thumb_instr.specs.declared.within.Within.{Within}
 use Rattle.thumb_instr.specs.declared.instr.Instr.{Instr}
 use Rattle.thumb_instr.specs.declared.instr.Instr.TheVariants as instr
 use Rattle.thumb_instr.specs.Window.{named, AreBelow, is_in_window, normal_of}
-use Rattle.seq_enum.specs.Alphabet.{grid2, grid3, held_in, registers, others, wide, rows, members, alphabet}
+use Rattle.seq_enum.specs.Alphabet.{grid2, grid3, those_within, registers, others, wide, rows, members, alphabet}
 use Rattle.thumb_instr.specs.declared.kind.Kind.{Kind}
 use Rattle.thumb_instr.specs.declared.kind.Kind.TheVariants as kind
 use Rattle.seq_enum.proofs.Numbered.{flat_map_at, flat_map_from}
@@ -81,7 +81,7 @@ member_letter k pool (kind.Three s) i a few e =
     grid3_parts (instr.Three s) (registers k) (λ d. registers k) (registers k) i a e (λ h j l d n m at there last is.
     subst (IsLetter k) is (record { window = refl; below = (register_low k h d few at, (register_low k j n few there, (register_low k l m few last, tt))); normal = refl }))
 member_letter k pool (kind.ThreeNumber s) i a few e =
-    grid3_parts (instr.ThreeNumber s) (registers k) (others k) (held_in 0 8 pool) i a e (λ h j l d n m at there last is.
+    grid3_parts (instr.ThreeNumber s) (registers k) (others k) (those_within 0 8 pool) i a e (λ h j l d n m at there last is.
     let kept = filter_at (λ (x : Within 0 8). not (x.number == d.number)) (registers k) j n there in
     subst (IsLetter k) is (record {
       window = refl;
@@ -89,13 +89,13 @@ member_letter k pool (kind.ThreeNumber s) i a few e =
       normal = rw (apart d.number n.number (not-true (n.number == d.number) kept.0)) refl;
     }))
 member_letter k pool (kind.TwoNumber o) i a few e =
-    grid2_parts (instr.TwoNumber o) (registers k) (held_in 0 256 pool) i a e (λ h j d n at there is.
+    grid2_parts (instr.TwoNumber o) (registers k) (those_within 0 256 pool) i a e (λ h j d n at there is.
     subst (IsLetter k) is (record { window = refl; below = (register_low k h d few at, tt); normal = refl }))
 member_letter k pool kind.ShiftLeft i a few e =
-    grid3_parts instr.ShiftLeft (registers k) (λ d. registers k) (held_in 1 32 pool) i a e (λ h j l d n m at there last is.
+    grid3_parts instr.ShiftLeft (registers k) (λ d. registers k) (those_within 1 32 pool) i a e (λ h j l d n m at there last is.
     subst (IsLetter k) is (record { window = refl; below = (register_low k h d few at, (register_low k j n few there, tt)); normal = refl }))
 member_letter k pool (kind.ShiftRight s) i a few e =
-    grid3_parts (instr.ShiftRight s) (registers k) (λ d. registers k) (held_in 1 33 pool) i a e (λ h j l d n m at there last is.
+    grid3_parts (instr.ShiftRight s) (registers k) (λ d. registers k) (those_within 1 33 pool) i a e (λ h j l d n m at there last is.
     subst (IsLetter k) is (record { window = refl; below = (register_low k h d few at, (register_low k j n few there, tt)); normal = refl }))
 member_letter k pool (kind.Two o) i a few e = two_registers k i a few _ e (λ d m. (refl, (λ x y. (x, (y, tt)), refl)))
 member_letter k pool kind.Movs i a few e = two_registers k i a few _ e (λ d m. (refl, (λ x y. (x, (y, tt)), refl)))

@@ -8,7 +8,7 @@ use Rattle.std.proofs.lemmas.Slice.Eq.{bytes_eq-Decides}
 use Rattle.thumb_instr.specs.declared.instr.Instr.{Instr}
 use Rattle.thumb_instr.specs.declared.instr.Instr.TheVariants as instr
 use Rattle.thumb_model.specs.Effect.{one_of}
-use Rattle.thumb_model.specs.Listing.{Name, Mention, Value, Statement, Runs, Words, Line, Place, Op, Word, Label, Code, code_of, places_in, places_of, labels_at, labels_from, is_op_place, is_code, place_among, place_of, has_label, place_mentions, is_mentioned, is_call, call_count, label_places, return_places, IsPoint}
+use Rattle.thumb_model.specs.Listing.{Name, Mention, Value, Statement, Instruction, Words, ListingLine, Place, Op, Word, Label, Code, code_of, places_in, places_of, labels_at, labels_from, is_op_place, is_code, place_among, place_of, has_label, place_mentions, is_mentioned, is_call, call_count, label_places, return_places, IsPoint}
 use Rattle.thumb_model.specs.Naming.{Naming, Fits, points_of, returns_from, points}
 use Rattle.thumb_model.specs.Steps.{label_place, loads_literal, word_of_place, word_behind, literal_word, word_of_mention, literal_at, aim_of}
 use Rattle.thumb_model.specs.Literals.{HasLiterals, is_word_place}
@@ -251,10 +251,10 @@ past_words [] ys p i mention e = (p, omega arith, e)
 past_words (v ∷ vs) ys zero i mention e = absurd (cc)
 past_words (v ∷ vs) ys (suc p) i mention e = let r = past_words vs ys p i mention e in (r.0, omega (arith, r.1), r.2)
 
-PlacesRec : (Instr → Option Mention → List ℕ) → Name → List Line → Type 0
+PlacesRec : (Instr → Option Mention → List ℕ) → Name → List ListingLine → Type 0
 PlacesRec write label ls = (q : ℕ) (i : Instr) (mention : Option Mention) → slice_get (places_of ls) q ≡ Some (Op i mention) → places_of (aimed_lines write q label ls) ≡ aimed_places q label (places_of ls)
 
-left_alone : (write : Instr → Option Mention → List ℕ) (label : Name) (p m : ℕ) (i : Instr) (mention : Option Mention) (l : Line) (s : Statement) (ls : List Line) → l.statement ≡ s → PlacesRec write label ls → p ≡ length (places_in s) + m → slice_get (places_of ls) m ≡ Some (Op i mention) → places_of (l ∷ aimed_lines write (p - length (places_in s)) label ls) ≡ aimed_places p label (places_in s ++ places_of ls)
+left_alone : (write : Instr → Option Mention → List ℕ) (label : Name) (p m : ℕ) (i : Instr) (mention : Option Mention) (l : ListingLine) (s : Statement) (ls : List ListingLine) → l.statement ≡ s → PlacesRec write label ls → p ≡ length (places_in s) + m → slice_get (places_of ls) m ≡ Some (Op i mention) → places_of (l ∷ aimed_lines write (p - length (places_in s)) label ls) ≡ aimed_places p label (places_in s ++ places_of ls)
 unfolding PlacesRec
 left_alone write label p m i mention l s ls f rec g h =
     ap (λ q. places_of (l ∷ aimed_lines write q label ls)) (let z : p - length (places_in s) ≡ m = omega arith in z)
@@ -262,23 +262,23 @@ left_alone write label p m i mention l s ls f rec g h =
     ∙ ap (λ x. places_in s ++ x) (rec m i mention h)
     ∙ sym (aimed_behind label (places_in s) (places_of ls) p m g)
 
-places_step : (write : Instr → Option Mention → List ℕ) (label : Name) (p : ℕ) (i : Instr) (mention : Option Mention) (l : Line) (s : Statement) (ls : List Line) → l.statement ≡ s → PlacesRec write label ls → slice_get (places_in s ++ places_of ls) p ≡ Some (Op i mention) → places_of (if is_op s && (p == 0) then labels_kept l l.names ++ (aimed_line write label l ∷ ls) else l ∷ aimed_lines write (p - length (places_in s)) label ls) ≡ aimed_places p label (places_in s ++ places_of ls)
+places_step : (write : Instr → Option Mention → List ℕ) (label : Name) (p : ℕ) (i : Instr) (mention : Option Mention) (l : ListingLine) (s : Statement) (ls : List ListingLine) → l.statement ≡ s → PlacesRec write label ls → slice_get (places_in s ++ places_of ls) p ≡ Some (Op i mention) → places_of (if is_op s && (p == 0) then labels_kept l l.names ++ (aimed_line write label l ∷ ls) else l ∷ aimed_lines write (p - length (places_in s)) label ls) ≡ aimed_places p label (places_in s ++ places_of ls)
 places_step write label p i mention l (Words vs) ls f rec e =
     let r = past_words vs (places_of ls) p i mention e in
     left_alone write label p r.0 i mention l (Words vs) ls f rec r.1 r.2
-places_step write label zero i mention l (Runs j n) ls f rec e =
+places_step write label zero i mention l (Instruction j n) ls f rec e =
     kept_places l l.names (aimed_line write label l ∷ ls) ∙ ap (λ x. places_in (aimed label x) ++ places_of ls) f
-places_step write label (suc p) i mention l (Runs j n) ls f rec e =
+places_step write label (suc p) i mention l (Instruction j n) ls f rec e =
     ap (λ b. places_of (if b then labels_kept l l.names ++ (aimed_line write label l ∷ ls) else l ∷ aimed_lines write (suc p - 1) label ls)) (ne_eqb (suc p) 0 (λ z. absurd (omega arith)))
-    ∙ left_alone write label (suc p) p i mention l (Runs j n) ls f rec (omega arith) e
+    ∙ left_alone write label (suc p) p i mention l (Instruction j n) ls f rec (omega arith) e
 places_step write label p i mention l s ls f rec e = left_alone write label p p i mention l s ls f rec (omega arith) e
 
-places_aimed : (write : Instr → Option Mention → List ℕ) (label : Name) (ls : List Line) (p : ℕ) (i : Instr) (mention : Option Mention) → slice_get (places_of ls) p ≡ Some (Op i mention) → places_of (aimed_lines write p label ls) ≡ aimed_places p label (places_of ls)
+places_aimed : (write : Instr → Option Mention → List ℕ) (label : Name) (ls : List ListingLine) (p : ℕ) (i : Instr) (mention : Option Mention) → slice_get (places_of ls) p ≡ Some (Op i mention) → places_of (aimed_lines write p label ls) ≡ aimed_places p label (places_of ls)
 unfolding PlacesRec
 places_aimed write label [] p i mention e = refl
 places_aimed write label (l ∷ ls) p i mention e = places_step write label p i mention l l.statement ls refl (λ q j n f. places_aimed write label ls q j n f) e
 
-labels_aimed : (write : Instr → Option Mention → List ℕ) (label : Name) (q p : ℕ) (ls : List Line) → labels_from q (aimed_lines write p label ls) ≡ labels_from q ls
+labels_aimed : (write : Instr → Option Mention → List ℕ) (label : Name) (q p : ℕ) (ls : List ListingLine) → labels_from q (aimed_lines write p label ls) ≡ labels_from q ls
 labels_aimed write label q p [] = refl
 labels_aimed write label q p (l ∷ ls) =
     elim (is_op l.statement && (p == 0)) as (λ b. labels_from q (if b then labels_kept l l.names ++ (aimed_line write label l ∷ ls) else l ∷ aimed_lines write (p - length (places_in l.statement)) label ls) ≡ labels_at q l.names ++ labels_from (q + length (places_in l.statement)) ls) [
@@ -287,7 +287,7 @@ labels_aimed write label q p (l ∷ ls) =
     ]
 
 -- the code of the lines
-pub code_aimed : (write : Instr → Option Mention → List ℕ) (label : Name) (p : ℕ) (ls : List Line) (i : Instr) (mention : Option Mention) → slice_get (places_of ls) p ≡ Some (Op i mention) → code_of (aimed_lines write p label ls) ≡ aimed_code p label (code_of ls)
+pub code_aimed : (write : Instr → Option Mention → List ℕ) (label : Name) (p : ℕ) (ls : List ListingLine) (i : Instr) (mention : Option Mention) → slice_get (places_of ls) p ≡ Some (Op i mention) → code_of (aimed_lines write p label ls) ≡ aimed_code p label (code_of ls)
 code_aimed write label p ls i mention e = same_code _ _ _ _ (places_aimed write label ls p i mention e) (labels_aimed write label 0 p ls)
   where
     same_code : (ps qs : List Place) (ls ms : List Label) → ps ≡ qs → ls ≡ ms → (let c : Code = record { places = ps; labels = ls } in c) ≡ record { places = qs; labels = ms }

@@ -7,9 +7,9 @@ use Rattle.thumb_instr.specs.declared.instr.Instr.{Instr}
 use Rattle.thumb_instr.specs.declared.instr.Instr.TheVariants as instr
 use Rattle.thumb_instr.specs.Shape.{condition_uses}
 use Rattle.thumb_model.specs.Effect.{Values}
-use Rattle.thumb_model.specs.Listing.{Name, Mention, Place, Op, Word, Line, Code, code_of, place_of, IsPoint}
+use Rattle.thumb_model.specs.Listing.{Name, Mention, Place, Op, Word, ListingLine, Code, code_of, place_of, IsPoint}
 use Rattle.thumb_model.specs.Naming.{Naming, points}
-use Rattle.thumb_model.specs.States.{World, Around, Target, Event, At, Here, Ended, State, On, puts}
+use Rattle.thumb_model.specs.States.{World, Around, Target, Event, Position, Here, Ended, State, On, puts}
 use Rattle.thumb_model.specs.Acts.{holds, act, jumps}
 use Rattle.thumb_model.specs.Steps.{does, around_of, aim_of, target_at, landing, point_among, step_on, step_at, step, times}
 use Rattle.thumb_model.specs.Flow.{Way, way, Leads, Onward, ToPlace, AnyPoint, Out, jump_way, ways, ways_on, ways_of, Follows}
@@ -310,7 +310,7 @@ module _ (code : Code) (p : ℕ) (label : Name) (g : GoesToEnd code p label) whe
         | inr ne ↦ go_one (stood q) (step_elsewhere q (stood q) ne)
       ]
 
-    advance_at : (a : At) (w : World) (es : List Event) → ((step names code (state w a es) ≡ state w a es) × (step names after (state w a es) ≡ state w a es)) ⊎ Go (state w a es) (state w a es)
+    advance_at : (a : Position) (w : World) (es : List Event) → ((step names code (state w a es) ≡ state w a es) × (step names after (state w a es) ≡ state w a es)) ⊎ Go (state w a es) (state w a es)
     advance_at Ended w es = inl (refl, refl)
     advance_at (Here q) w es = inr (go_from w es q)
 
@@ -340,8 +340,8 @@ module _ (code : Code) (p : ℕ) (label : Name) (g : GoesToEnd code p label) whe
 
 -- ---- lines ----
 
-pub lines_aimed_keep : (s : Setting) (p : ℕ) (label : Name) (ls : List Line) → GoesToEnd (code_of ls) p label → Keeps (code_of ls) (code_of (aimed_lines s.write p label ls))
+pub lines_aimed_keep : (s : Setting) (p : ℕ) (label : Name) (ls : List ListingLine) → GoesToEnd (code_of ls) p label → Keeps (code_of ls) (code_of (aimed_lines s.write p label ls))
 lines_aimed_keep s p label ls g = subst (Keeps (code_of ls)) (sym (code_aimed s.write label p ls g.i (Some g.mention) g.stands)) (end_keeps (code_of ls) p label g)
 
-pub reached_aimed : (s : Setting) (p : ℕ) (label : Name) (ls : List Line) → GoesToEnd (code_of ls) p label → (q : ℕ) → Reached (code_of ls) q ↔ Reached (code_of (aimed_lines s.write p label ls)) q
+pub reached_aimed : (s : Setting) (p : ℕ) (label : Name) (ls : List ListingLine) → GoesToEnd (code_of ls) p label → (q : ℕ) → Reached (code_of ls) q ↔ Reached (code_of (aimed_lines s.write p label ls)) q
 reached_aimed s p label ls g q = subst (λ (c : Code). Reached (code_of ls) q ↔ Reached c q) (sym (code_aimed s.write label p ls g.i (Some g.mention) g.stands)) (reached_same (code_of ls) p label g q)

@@ -3,7 +3,7 @@ use Rattle.std.proofs.Common.{◌≡◌, ◌↔◌, ℕ, zero, suc, ◌+◌, ◌
 use Rattle.std.specs.Prelude.{slice_get}
 use Rattle.std.proofs.lemmas.Option.{same_Some}
 use Rattle.thumb_instr.specs.declared.instr.Instr.{Instr}
-use Rattle.thumb_model.specs.Listing.{Name, Mention, Statement, Nothing, Runs, Words, Aligns, Sets, Line, Op, places_in, places_of}
+use Rattle.thumb_model.specs.Listing.{Name, Mention, Statement, Nothing, Instruction, Words, Aligns, Sets, ListingLine, Op, places_in, places_of}
 use Rattle.thumb_model.specs.Layout.{Fault, size_at, end_of, is_among, label_address, set_in, set_address, cleared, or_else, lies_in, aim_fault, fault_at, or_first, faults_from, Layable}
 use Rattle.thumb_model.specs.Replaced.{is_op, labels_kept}
 use Rattle.thumb_model.proofs.Lists.{get_back}
@@ -22,7 +22,7 @@ both_none : (n : ℕ) (f : Option Fault) (rest : Option (ℕ × Fault)) → f �
 both_none n None rest e h = h
 both_none n (Some f) rest e h = absurd (cc)
 
-renumbered : (lies : Name → Option ℕ) (ls : List Line) (n m at : ℕ) → faults_from lies n at ls ≡ None → faults_from lies m at ls ≡ None
+renumbered : (lies : Name → Option ℕ) (ls : List ListingLine) (n m at : ℕ) → faults_from lies n at ls ≡ None → faults_from lies m at ls ≡ None
 renumbered lies [] n m at e = refl
 renumbered lies (l ∷ ls) n m at e =
     let b = none_first n (fault_at lies at l.statement) (faults_from lies (n + 1) (at + size_at l.statement at) ls) e in
@@ -30,35 +30,35 @@ renumbered lies (l ∷ ls) n m at e =
 
 -- faults by names that lie at the same addresses
 same_fault : (lies other : Name → Option ℕ) → ((name : Name) → lies name ≡ other name) → (at : ℕ) (s : Statement) → fault_at lies at s ≡ fault_at other at s
-same_fault lies other e at (Runs i (Some m)) = ap (λ (o : Option ℕ). aim_fault at i o m.plus) (e m.name)
+same_fault lies other e at (Instruction i (Some m)) = ap (λ (o : Option ℕ). aim_fault at i o m.plus) (e m.name)
 same_fault lies other e at s = refl
 
-by_names : (lies other : Name → Option ℕ) → ((name : Name) → lies name ≡ other name) → (n at : ℕ) (ls : List Line) → faults_from lies n at ls ≡ faults_from other n at ls
+by_names : (lies other : Name → Option ℕ) → ((name : Name) → lies name ≡ other name) → (n at : ℕ) (ls : List ListingLine) → faults_from lies n at ls ≡ faults_from other n at ls
 by_names lies other e n at [] = refl
 by_names lies other e n at (l ∷ ls) =
     ap (λ (f : Option Fault). or_first n f (faults_from lies (n + 1) (at + size_at l.statement at) ls)) (same_fault lies other e at l.statement)
     ∙ ap (λ (o : Option (ℕ × Fault)). or_first n (fault_at other at l.statement) o) (by_names lies other e (n + 1) (at + size_at l.statement at) ls)
 
 module _ (write : Instr → Option Mention → List ℕ) (label : Name) where
-  abbrev new_lines : ℕ → List Line → List Line
+  abbrev new_lines : ℕ → List ListingLine → List ListingLine
   new_lines p ls = aimed_lines write p label ls
 
   -- ---- where names lie ----
 
   same_size : (s : Statement) (at : ℕ) → size_at (aimed label s) at ≡ size_at s at
   same_size Nothing at = refl
-  same_size (Runs i mention) at = refl
+  same_size (Instruction i mention) at = refl
   same_size (Words vs) at = refl
   same_size (Aligns size most) at = refl
   same_size (Sets name address) at = refl
 
-  head_address : (name : Name) (at : ℕ) (l : Line) (ns : List Name) (ls : List Line) → label_address name at (labels_kept l ns ++ (aimed_line write label l ∷ ls)) ≡ (if is_among name ns then Some at else label_address name (at + size_at l.statement at) ls)
+  head_address : (name : Name) (at : ℕ) (l : ListingLine) (ns : List Name) (ls : List ListingLine) → label_address name at (labels_kept l ns ++ (aimed_line write label l ∷ ls)) ≡ (if is_among name ns then Some at else label_address name (at + size_at l.statement at) ls)
   head_address name at l [] ls = ap (λ n. label_address name (at + n) ls) (same_size l.statement at)
   head_address name at l (n ∷ ns) ls =
       ap (λ (o : Option ℕ). if is_among name (n ∷ ns) then Some at else o)
       (ap (λ b. label_address name b (aimed_line write label l ∷ ls)) (let e : at + 0 ≡ at = omega arith in e) ∙ ap (λ m. label_address name (at + m) ls) (same_size l.statement at))
 
-  address_stays : (name : Name) (at p : ℕ) (ls : List Line) → label_address name at (new_lines p ls) ≡ label_address name at ls
+  address_stays : (name : Name) (at p : ℕ) (ls : List ListingLine) → label_address name at (new_lines p ls) ≡ label_address name at ls
   address_stays name at p [] = refl
   address_stays name at p (l ∷ ls) =
       elim (is_op l.statement && (p == 0)) as (λ b. label_address name at (if b then labels_kept l l.names ++ (aimed_line write label l ∷ ls) else l ∷ new_lines (p - length (places_in l.statement)) ls) ≡ label_address name at (l ∷ ls)) [
@@ -68,16 +68,16 @@ module _ (write : Instr → Option Mention → List ℕ) (label : Name) where
 
   same_set : (name : Name) (s : Statement) (rest : Option ℕ) → set_in name (aimed label s) rest ≡ set_in name s rest
   same_set name Nothing rest = refl
-  same_set name (Runs i mention) rest = refl
+  same_set name (Instruction i mention) rest = refl
   same_set name (Words vs) rest = refl
   same_set name (Aligns size most) rest = refl
   same_set name (Sets other address) rest = refl
 
-  head_set : (name : Name) (l : Line) (ns : List Name) (ls : List Line) → set_address name (labels_kept l ns ++ (aimed_line write label l ∷ ls)) ≡ set_in name l.statement (set_address name ls)
+  head_set : (name : Name) (l : ListingLine) (ns : List Name) (ls : List ListingLine) → set_address name (labels_kept l ns ++ (aimed_line write label l ∷ ls)) ≡ set_in name l.statement (set_address name ls)
   head_set name l [] ls = same_set name l.statement (set_address name ls)
   head_set name l (n ∷ ns) ls = same_set name l.statement (set_address name ls)
 
-  set_stays : (name : Name) (p : ℕ) (ls : List Line) → set_address name (new_lines p ls) ≡ set_address name ls
+  set_stays : (name : Name) (p : ℕ) (ls : List ListingLine) → set_address name (new_lines p ls) ≡ set_address name ls
   set_stays name p [] = refl
   set_stays name p (l ∷ ls) =
       elim (is_op l.statement && (p == 0)) as (λ b. set_address name (if b then labels_kept l l.names ++ (aimed_line write label l ∷ ls) else l ∷ new_lines (p - length (places_in l.statement)) ls) ≡ set_address name (l ∷ ls)) [
@@ -85,16 +85,16 @@ module _ (write : Instr → Option Mention → List ℕ) (label : Name) where
         | false ↦ ap (set_in name l.statement) (set_stays name (p - length (places_in l.statement)) ls)
       ]
 
-  lies_stay : (base p : ℕ) (ls : List Line) (name : Name) → lies_in base (new_lines p ls) name ≡ lies_in base ls name
+  lies_stay : (base p : ℕ) (ls : List ListingLine) (name : Name) → lies_in base (new_lines p ls) name ≡ lies_in base ls name
   lies_stay base p ls name = ap (λ (o : Option ℕ). or_else o (cleared (set_address name (new_lines p ls)))) (address_stays name base p ls) ∙ ap (λ (o : Option ℕ). or_else (label_address name base ls) (cleared o)) (set_stays name p ls)
 
   -- ---- where lines lie ----
 
-  head_end : (at : ℕ) (l : Line) (ns : List Name) (ls : List Line) → end_of at (labels_kept l ns ++ (aimed_line write label l ∷ ls)) ≡ end_of (at + size_at l.statement at) ls
+  head_end : (at : ℕ) (l : ListingLine) (ns : List Name) (ls : List ListingLine) → end_of at (labels_kept l ns ++ (aimed_line write label l ∷ ls)) ≡ end_of (at + size_at l.statement at) ls
   head_end at l [] ls = ap (λ n. end_of (at + n) ls) (same_size l.statement at)
   head_end at l (n ∷ ns) ls = ap (λ b. end_of b (aimed_line write label l ∷ ls)) (let e : at + 0 ≡ at = omega arith in e) ∙ ap (λ m. end_of (at + m) ls) (same_size l.statement at)
 
-  end_stays : (at p : ℕ) (ls : List Line) → end_of at (new_lines p ls) ≡ end_of at ls
+  end_stays : (at p : ℕ) (ls : List ListingLine) → end_of at (new_lines p ls) ≡ end_of at ls
   end_stays at p [] = refl
   end_stays at p (l ∷ ls) =
       elim (is_op l.statement && (p == 0)) as (λ b. end_of at (if b then labels_kept l l.names ++ (aimed_line write label l ∷ ls) else l ∷ new_lines (p - length (places_in l.statement)) ls) ≡ end_of at (l ∷ ls)) [
@@ -104,12 +104,12 @@ module _ (write : Instr → Option Mention → List ℕ) (label : Name) where
 
   same_places : (s : Statement) (at : ℕ) → addresses_in at (aimed label s) ≡ addresses_in at s
   same_places Nothing at = refl
-  same_places (Runs i mention) at = refl
+  same_places (Instruction i mention) at = refl
   same_places (Words vs) at = refl
   same_places (Aligns size most) at = refl
   same_places (Sets name address) at = refl
 
-  head_places : (at : ℕ) (l : Line) (ns : List Name) (ls : List Line) → addresses_from at (labels_kept l ns ++ (aimed_line write label l ∷ ls)) ≡ addresses_in at l.statement ++ addresses_from (at + size_at l.statement at) ls
+  head_places : (at : ℕ) (l : ListingLine) (ns : List Name) (ls : List ListingLine) → addresses_from at (labels_kept l ns ++ (aimed_line write label l ∷ ls)) ≡ addresses_in at l.statement ++ addresses_from (at + size_at l.statement at) ls
   head_places at l [] ls =
       ap (λ (x : List ℕ). x ++ addresses_from (at + size_at (aimed label l.statement) at) ls) (same_places l.statement at) ∙ ap (λ n. addresses_in at l.statement ++ addresses_from (at + n) ls) (same_size l.statement at)
   head_places at l (n ∷ ns) ls =
@@ -117,7 +117,7 @@ module _ (write : Instr → Option Mention → List ℕ) (label : Name) where
       ∙ ap (λ (x : List ℕ). x ++ addresses_from (at + size_at (aimed label l.statement) at) ls) (same_places l.statement at)
       ∙ ap (λ m. addresses_in at l.statement ++ addresses_from (at + m) ls) (same_size l.statement at)
 
-  places_stay : (at p : ℕ) (ls : List Line) → addresses_from at (new_lines p ls) ≡ addresses_from at ls
+  places_stay : (at p : ℕ) (ls : List ListingLine) → addresses_from at (new_lines p ls) ≡ addresses_from at ls
   places_stay at p [] = refl
   places_stay at p (l ∷ ls) =
       elim (is_op l.statement && (p == 0)) as (λ b. addresses_from at (if b then labels_kept l l.names ++ (aimed_line write label l ∷ ls) else l ∷ new_lines (p - length (places_in l.statement)) ls) ≡ addresses_from at (l ∷ ls)) [
@@ -125,7 +125,7 @@ module _ (write : Instr → Option Mention → List ℕ) (label : Name) where
         | false ↦ ap (λ (x : List ℕ). addresses_in at l.statement ++ x) (places_stay (at + size_at l.statement at) (p - length (places_in l.statement)) ls)
       ]
 
-  pub addresses_stay : (p : ℕ) (ls : List Line) (laid : Addresses) → AreAddresses ls laid → AreAddresses (new_lines p ls) laid
+  pub addresses_stay : (p : ℕ) (ls : List ListingLine) (laid : Addresses) → AreAddresses ls laid → AreAddresses (new_lines p ls) laid
   addresses_stay p ls laid a = record {
     end = a.end ∙ sym (end_stays laid.base p ls);
     places = a.places ∙ sym (places_stay laid.base p ls);
@@ -136,14 +136,14 @@ module _ (write : Instr → Option Mention → List ℕ) (label : Name) where
 
   module _ (lies : Name → Option ℕ) (i : Instr) (mention : Option Mention) (a : ℕ) where
     -- the new lines have a fault exactly where the others have, or the branch has one
-    AimedRec : List Line → Type 0
+    AimedRec : List ListingLine → Type 0
     AimedRec ls =
         (p at n m : ℕ) → slice_get (places_of ls) p ≡ Some (Op i mention) → slice_get (addresses_from at ls) p ≡ Some a →
         (faults_from lies n at ls ≡ None → aim_fault a i (lies label) 0 ≡ None → faults_from lies m at (new_lines p ls) ≡ None) ×
         (faults_from lies m at (new_lines p ls) ≡ None → aim_fault a i (lies label) 0 ≡ None)
 
     -- behind a line that stays
-    passed : (l : Line) (s : Statement) (ls : List Line) (p r at n m : ℕ) → l.statement ≡ s → AimedRec ls → p ≡ length (places_in s) + r → slice_get (places_of ls) r ≡ Some (Op i mention) → slice_get (addresses_in at s ++ addresses_from (at + size_at s at) ls) p ≡ Some a →
+    passed : (l : ListingLine) (s : Statement) (ls : List ListingLine) (p r at n m : ℕ) → l.statement ≡ s → AimedRec ls → p ≡ length (places_in s) + r → slice_get (places_of ls) r ≡ Some (Op i mention) → slice_get (addresses_in at s ++ addresses_from (at + size_at s at) ls) p ≡ Some a →
         (faults_from lies n at (l ∷ ls) ≡ None → aim_fault a i (lies label) 0 ≡ None → faults_from lies m at (l ∷ new_lines (p - length (places_in s)) ls) ≡ None) ×
         (faults_from lies m at (l ∷ new_lines (p - length (places_in s)) ls) ≡ None → aim_fault a i (lies label) 0 ≡ None)
     unfolding AimedRec
@@ -158,7 +158,7 @@ module _ (write : Instr → Option Mention → List ℕ) (label : Name) where
         )
 
     -- the line itself, with the branch and what stands behind
-    branch_faults : (l : Line) (ls : List Line) (at n m : ℕ) → l.statement ≡ Runs i mention → at ≡ a →
+    branch_faults : (l : ListingLine) (ls : List ListingLine) (at n m : ℕ) → l.statement ≡ Instruction i mention → at ≡ a →
         (faults_from lies n at (l ∷ ls) ≡ None → aim_fault a i (lies label) 0 ≡ None → faults_from lies m at (aimed_line write label l ∷ ls) ≡ None) ×
         (faults_from lies m at (aimed_line write label l ∷ ls) ≡ None → aim_fault a i (lies label) 0 ≡ None)
     branch_faults l ls at n m f g =
@@ -173,7 +173,7 @@ module _ (write : Instr → Option Mention → List ℕ) (label : Name) where
           (λ free. sym is ∙ (none_first m fault rest free).0),
         )
 
-    head_faults : (l : Line) (ns : List Name) (ls : List Line) (at n m : ℕ) → l.statement ≡ Runs i mention → at ≡ a →
+    head_faults : (l : ListingLine) (ns : List Name) (ls : List ListingLine) (at n m : ℕ) → l.statement ≡ Instruction i mention → at ≡ a →
         (faults_from lies n at (l ∷ ls) ≡ None → aim_fault a i (lies label) 0 ≡ None → faults_from lies m at (labels_kept l ns ++ (aimed_line write label l ∷ ls)) ≡ None) ×
         (faults_from lies m at (labels_kept l ns ++ (aimed_line write label l ∷ ls)) ≡ None → aim_fault a i (lies label) 0 ≡ None)
     head_faults l [] ls at n m f g = branch_faults l ls at n m f g
@@ -184,33 +184,33 @@ module _ (write : Instr → Option Mention → List ℕ) (label : Name) where
           (λ free. r.1 (ap (λ x. faults_from lies (m + 1) x (aimed_line write label l ∷ ls)) (sym here) ∙ free)),
         )
 
-    abbrev Agree : ℕ → ℕ → ℕ → List Line → List Line → Type 0
+    abbrev Agree : ℕ → ℕ → ℕ → List ListingLine → List ListingLine → Type 0
     Agree at n m ls news =
         (faults_from lies n at ls ≡ None → aim_fault a i (lies label) 0 ≡ None → faults_from lies m at news ≡ None) ×
         (faults_from lies m at news ≡ None → aim_fault a i (lies label) 0 ≡ None)
 
-    stays_step : (l : Line) (s : Statement) (ls : List Line) (p at n m : ℕ) → l.statement ≡ s → AimedRec ls → slice_get (places_in s ++ places_of ls) p ≡ Some (Op i mention) → slice_get (addresses_in at s ++ addresses_from (at + size_at s at) ls) p ≡ Some a
+    stays_step : (l : ListingLine) (s : Statement) (ls : List ListingLine) (p at n m : ℕ) → l.statement ≡ s → AimedRec ls → slice_get (places_in s ++ places_of ls) p ≡ Some (Op i mention) → slice_get (addresses_in at s ++ addresses_from (at + size_at s at) ls) p ≡ Some a
         → Agree at n m (l ∷ ls) (if is_op s && (p == 0) then labels_kept l l.names ++ (aimed_line write label l ∷ ls) else l ∷ new_lines (p - length (places_in s)) ls)
     stays_step l (Words vs) ls p at n m f rec e h =
         let r = past_words vs (places_of ls) p i mention e in
         passed l (Words vs) ls p r.0 at n m f rec r.1 r.2 h
-    stays_step l (Runs j k) ls zero at n m f rec e h =
+    stays_step l (Instruction j k) ls zero at n m f rec e h =
         let same : Op j k ≡ Op i mention = same_Some (Op j k) (Op i mention) e in
         let first : j ≡ i = cc in
         let second : k ≡ mention = cc in
         head_faults l l.names ls at n m (f ∙ cc) (same_Some at a h)
-    stays_step l (Runs j k) ls (suc p) at n m f rec e h =
+    stays_step l (Instruction j k) ls (suc p) at n m f rec e h =
         subst (λ b. Agree at n m (l ∷ ls) (if b then labels_kept l l.names ++ (aimed_line write label l ∷ ls) else l ∷ new_lines (suc p - 1) ls)) (sym (ne_eqb (suc p) 0 (λ z. absurd (omega arith))))
-        (passed l (Runs j k) ls (suc p) p at n m f rec (omega arith) e h)
+        (passed l (Instruction j k) ls (suc p) p at n m f rec (omega arith) e h)
     stays_step l s ls p at n m f rec e h = passed l s ls p p at n m f rec (omega arith) e h
 
-    stays : (ls : List Line) → AimedRec ls
+    stays : (ls : List ListingLine) → AimedRec ls
     unfolding AimedRec
     stays [] p at n m e h = absurd (cc)
     stays (l ∷ ls) p at n m e h = stays_step l l.statement ls p at n m refl (stays ls) e h
 
   -- the new lines can be laid out exactly where the branch reaches its label
-  pub aims_within : (base p : ℕ) (ls : List Line) (i : Instr) (mention : Option Mention) (a : ℕ) → slice_get (places_of ls) p ≡ Some (Op i mention) → slice_get (addresses_from base ls) p ≡ Some a → Layable base ls
+  pub aims_within : (base p : ℕ) (ls : List ListingLine) (i : Instr) (mention : Option Mention) (a : ℕ) → slice_get (places_of ls) p ≡ Some (Op i mention) → slice_get (addresses_from base ls) p ≡ Some a → Layable base ls
       → (aim_fault a i (lies_in base ls label) 0 ≡ None) ↔ Layable base (new_lines p ls)
   unfolding AimedRec
   aims_within base p ls i mention a e h free =

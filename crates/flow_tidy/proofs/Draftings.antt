@@ -1,7 +1,7 @@
 -- What is known of a draft stays known while its instructions go and its branches go elsewhere.
 use Rattle.std.proofs.Common.{◌≡◌, ◌∙◌, ◌<◌, ℕ, zero, suc, Bool, true, false, List, [], ◌∷◌, length, replicate, Some, ap, refl, subst, sym, arith}
 use Rattle.std.specs.Prelude.{slice_set}
-use Rattle.thumb_model.specs.Listing.{code_of, places_of, Code, Line, Name}
+use Rattle.thumb_model.specs.Listing.{code_of, places_of, Code, ListingLine, Name}
 use Rattle.thumb_model.specs.Replaced.{replaced_lines}
 use Rattle.code_flow.specs.Marks.{AreMarks}
 use Rattle.kept_places.specs.Marks.{is_gone, rank}
@@ -78,7 +78,7 @@ length_of : (n : ℕ) (b : Bool) → length (replicate n b) ≡ n
 length_of zero b = refl
 length_of (suc n) b = ap suc (length_of n b)
 
-pub quick_first : (ls : List Line) (d : Drafted) (marks dues : List Bool) → d ≡ unchanged ls → lines_now d ≡ ls → AreMarks (code_of ls) marks → AreDue (code_of ls) dues → IsQuick d marks dues
+pub quick_first : (ls : List ListingLine) (d : Drafted) (marks dues : List Bool) → d ≡ unchanged ls → lines_now d ≡ ls → AreMarks (code_of ls) marks → AreDue (code_of ls) dues → IsQuick d marks dues
 quick_first ls d marks dues is lines a f =
     let m : ℕ = length (places_of ls) in
     let gone : d.gone ≡ replicate m false = ap (λ (x : Drafted). x.gone) is in
@@ -90,6 +90,6 @@ quick_first ls d marks dues is lines a f =
     record {
       many = due_many ∙ sym many;
       all = all ∙ sym many;
-      reached = subst (λ (l : List Line). AreMarks (code_of l) (left d.gone marks)) (sym lines) (subst (AreMarks (code_of ls)) (sym marks_so) a);
-      due = subst (λ (l : List Line). AreDue (code_of l) (left d.gone dues)) (sym lines) (subst (AreDue (code_of ls)) (sym dues_so) f);
+      reached = subst (λ (l : List ListingLine). AreMarks (code_of l) (left d.gone marks)) (sym lines) (subst (AreMarks (code_of ls)) (sym marks_so) a);
+      due = subst (λ (l : List ListingLine). AreDue (code_of l) (left d.gone dues)) (sym lines) (subst (AreDue (code_of ls)) (sym dues_so) f);
     }

@@ -5,7 +5,7 @@ use Rattle.std.proofs.Math.Nat.{mul-suc, suc-mul}
 use Rattle.std.proofs.lemmas.Bool.{cases_eq, and_from as both, false_from_ne_true as not_true}
 use Rattle.std.proofs.lemmas.Option.{same_Some, slice_get_within}
 use Rattle.thumb_instr.specs.declared.instr.Instr.{Instr}
-use Rattle.thumb_model.specs.Listing.{Name, Mention, Place, Op, Word, Line, Code, code_of, places_of, place_of}
+use Rattle.thumb_model.specs.Listing.{Name, Mention, Place, Op, Word, ListingLine, Code, code_of, places_of, place_of}
 use Rattle.thumb_model.proofs.Lists.{take_all, length_drop}
 use Rattle.flow_tidy.specs.Tidying.{is_always, Hops, HopsBy, Setting, Cause, ToNext, ToEnd, Idle, Change, is_branch, GoesToEnd, HasCause, lines_without, lines_by, lines_after, AreTidied}
 use Rattle.listing_parser.specs.Targets.{aimed_lines}
@@ -177,7 +177,7 @@ most_square : (n : ℕ) → most n ≤ n * n
 most_square zero = omega arith
 most_square (suc n) = square_step (most n) (n * n) n (suc n * suc n) (most_square n) (mul-suc (suc n) n ∙ ap (λ x. x + suc n) (suc-mul n n))
 
-pub one_place_less : (s : Setting) (p : ℕ) (ls : List Line) (i : Instr) (mention : Option Mention) → slice_get (places_of ls) p ≡ Some (Op i mention) → length (places_of (lines_without s p ls)) + 1 ≡ length (places_of ls)
+pub one_place_less : (s : Setting) (p : ℕ) (ls : List ListingLine) (i : Instr) (mention : Option Mention) → slice_get (places_of ls) p ≡ Some (Op i mention) → length (places_of (lines_without s p ls)) + 1 ≡ length (places_of ls)
 one_place_less s p ls i mention e =
     let l : p < length (places_of ls) = slice_get_within (places_of ls) p _ e in
     let a : length (places_of (lines_without s p ls)) ≡ length (take p (places_of ls) ++ drop (p + 1) (places_of ls)) = ap (λ (c : Code). length c.places) (code_without s p ls i mention e) in
@@ -186,14 +186,14 @@ one_place_less s p ls i mention e =
     let d = length_drop (p + 1) (places_of ls) in
     omega arith
 
-abbrev chains_of : List Line → ℕ
+abbrev chains_of : List ListingLine → ℕ
 chains_of ls = chained (code_of ls) (places_of ls)
 
 -- a change leaves more room than it takes
-Leaves : List Line → List Line → Type 0
+Leaves : List ListingLine → List ListingLine → Type 0
 Leaves ls new = (chains_of new + most (length (places_of new)) + 1 ≤ chains_of ls + most (length (places_of ls))) × (length (places_of new) ≤ length (places_of ls))
 
-without_leaves : (s : Setting) (p : ℕ) (ls : List Line) (i : Instr) (mention : Option Mention) → slice_get (places_of ls) p ≡ Some (Op i mention) → Leaves ls (lines_without s p ls)
+without_leaves : (s : Setting) (p : ℕ) (ls : List ListingLine) (i : Instr) (mention : Option Mention) → slice_get (places_of ls) p ≡ Some (Op i mention) → Leaves ls (lines_without s p ls)
 unfolding Leaves
 without_leaves s p ls i mention e =
     let one = one_place_less s p ls i mention e in
@@ -204,7 +204,7 @@ without_leaves s p ls i mention e =
     room : (c n m k : ℕ) → c ≤ n → m ≡ most n + n + 1 → c + most n + 1 ≤ k + m
     room c n m k h f = omega arith
 
-aimed_leaves : (s : Setting) (p : ℕ) (label : Name) (ls : List Line) → GoesToEnd (code_of ls) p label → Leaves ls (aimed_lines s.write p label ls)
+aimed_leaves : (s : Setting) (p : ℕ) (label : Name) (ls : List ListingLine) → GoesToEnd (code_of ls) p label → Leaves ls (aimed_lines s.write p label ls)
 unfolding Leaves
 aimed_leaves s p label ls g =
     let e : code_of (aimed_lines s.write p label ls) ≡ aimed_code p label (code_of ls) = code_aimed s.write label p ls g.i (Some g.mention) g.stands in
@@ -216,38 +216,38 @@ aimed_leaves s p label ls g =
     room : (c d f m n : ℕ) → m ≡ n → c ≡ d → d + 1 ≡ f → c + m + 1 ≤ f + n
     room c d f m n h k l = omega arith
 
-cause_leaves : (s : Setting) (p : ℕ) (cause : Cause) (ls : List Line) → HasCause (code_of ls) p cause → Leaves ls (lines_by s p cause ls)
+cause_leaves : (s : Setting) (p : ℕ) (cause : Cause) (ls : List ListingLine) → HasCause (code_of ls) p cause → Leaves ls (lines_by s p cause ls)
 cause_leaves s p ToNext ls h = without_leaves s p ls h.i h.mention h.stands
 cause_leaves s p (ToEnd label) ls h = aimed_leaves s p label ls h
 cause_leaves s p Idle ls h = without_leaves s p ls h.i h.mention h.stands
 
 -- how many changes there can still be
-unfoldable pub room_of : List Line → ℕ
+unfoldable pub room_of : List ListingLine → ℕ
 room_of ls = chains_of ls + most (length (places_of ls))
 
-pub room_less : (s : Setting) (c : Change) (ls : List Line) → HasCause (code_of ls) c.place c.cause → (room_of (lines_after s c ls) + 1 ≤ room_of ls) × (length (places_of (lines_after s c ls)) ≤ length (places_of ls))
+pub room_less : (s : Setting) (c : Change) (ls : List ListingLine) → HasCause (code_of ls) c.place c.cause → (room_of (lines_after s c ls) + 1 ≤ room_of ls) × (length (places_of (lines_after s c ls)) ≤ length (places_of ls))
 unfolding room_of Leaves
 room_less s c ls h = cause_leaves s c.place c.cause ls h
 
 last_step : (k c m n z y : ℕ) → k ≤ c + m → c ≤ n → m ≤ z → y ≡ z + n → k ≤ y
 last_step k c m n z y a b d e = omega arith
 
-pub room_few : (ls : List Line) → room_of ls ≤ length (places_of ls) * (length (places_of ls) + 1)
+pub room_few : (ls : List ListingLine) → room_of ls ≤ length (places_of ls) * (length (places_of ls) + 1)
 unfolding room_of
 room_few ls =
     let n : ℕ = length (places_of ls) in
     let product : n * (n + 1) ≡ n * n + n = ap (λ m. n * m) (let f : n + 1 ≡ suc n = omega arith in f) ∙ mul-suc n n in
     last_step (room_of ls) (chains_of ls) (most n) n (n * n) (n * (n + 1)) (omega arith) (chained_few (code_of ls) (places_of ls)) (most_square n) product
 
-within_room : (s : Setting) (ls : List Line) (cs : List Change) (new : List Line) → AreTidied s ls cs new → (length cs ≤ room_of ls) × (length (places_of new) ≤ length (places_of ls))
-within_room s ls [] new h = (omega arith, let e : length (places_of new) ≡ length (places_of ls) = ap (λ (l : List Line). length (places_of l)) h.1 in omega arith)
+within_room : (s : Setting) (ls : List ListingLine) (cs : List Change) (new : List ListingLine) → AreTidied s ls cs new → (length cs ≤ room_of ls) × (length (places_of new) ≤ length (places_of ls))
+within_room s ls [] new h = (omega arith, let e : length (places_of new) ≡ length (places_of ls) = ap (λ (l : List ListingLine). length (places_of l)) h.1 in omega arith)
 within_room s ls (c ∷ cs) new h =
     let one = room_less s c ls h.0.possible.cause in
     let rest = within_room s (lines_after s c ls) cs new h.1 in
     (omega (arith, one.0, rest.0), omega (arith, one.1, rest.1))
 
 -- there are at most so many changes, and no more places
-pub tidying_ends : (s : Setting) (ls : List Line) (cs : List Change) (new : List Line) → AreTidied s ls cs new → (length cs ≤ length (places_of ls) * (length (places_of ls) + 1)) × (length (places_of new) ≤ length (places_of ls))
+pub tidying_ends : (s : Setting) (ls : List ListingLine) (cs : List Change) (new : List ListingLine) → AreTidied s ls cs new → (length cs ≤ length (places_of ls) * (length (places_of ls) + 1)) × (length (places_of new) ≤ length (places_of ls))
 tidying_ends s ls cs new h =
     let room = within_room s ls cs new h in
     let few = room_few ls in

@@ -7,7 +7,7 @@ use Rattle.thumb_instr.specs.declared.instr.Instr.{Instr}
 use Rattle.thumb_model.specs.Effect.{Values, assigned}
 use Rattle.thumb_model.specs.Listing.{Name, Mention, Place, Op, Word, Code, place_of}
 use Rattle.thumb_model.specs.Naming.{Naming, is_odd, is_in_range, points}
-use Rattle.thumb_model.specs.States.{World, Answer, Around, Event, Landing, Leaves, Strays, Next, On, Stay, To, Over, At, Here, Ended, State}
+use Rattle.thumb_model.specs.States.{World, Answer, Around, Event, Landing, Leaves, Strays, Continuation, On, Stay, To, Over, Position, Here, Ended, State}
 use Rattle.thumb_model.specs.Acts.{act}
 use Rattle.thumb_model.specs.Steps.{label_place, loads_literal, word_of_mention, word_of_place, word_behind, literal_word, literal_at, arrives, around_of, aim_of, target_at, landing, point_among, step_on, step, times}
 use Rattle.thumb_model.specs.Literals.{HasLiterals}
@@ -51,7 +51,7 @@ module _ (names : Naming) (code : Code) (literals : HasLiterals code) (p : ℕ) 
   abbrev CameTo : ℕ → ℕ → Type 0
   CameTo q r = (r ≡ come q) × Reached code q
 
-  abbrev pub AtBoth : At → At → Type 0
+  abbrev pub AtBoth : Position → Position → Type 0
   AtBoth Ended Ended = Unit {0}
   AtBoth (Here q) (Here r) = CameTo q r
   AtBoth Ended (Here r) = ⊥
@@ -110,10 +110,10 @@ module _ (names : Naming) (code : Code) (literals : HasLiterals code) (p : ℕ) 
       let row : Taken around i w w = law around i w w (refl, refl) in
       let is_way : slice_get (ways code q) row.number ≡ Some row.taken =
       ap (λ (o : Option Place). slice_get (ways_on code o) row.number) e ∙ ap (λ (o : Option ℕ). slice_get (ways_of o i) row.number) (sym (inside_is names mention (aim_of code mention))) ∙ row.is_way in
-      let leads : row.taken.leads ≡ Onward = on_leads around.lands row.taken.leads _ _ (subst (λ (n : Next). Matches around.lands n row.taken.leads (keys (act around i w).outputs) row.taken.writes) on row.takes) in
+      let leads : row.taken.leads ≡ Onward = on_leads around.lands row.taken.leads _ _ (subst (λ (n : Continuation). Matches around.lands n row.taken.leads (keys (act around i w).outputs) row.taken.writes) on row.takes) in
       along q row.number row.taken (q + 1) h is_way (subst (λ (l : Leads). Follows code q l (q + 1)) (sym leads) refl)
 
-  arrive : (q : ℕ) (n n' : Next) → NextTied CameTo n n' → q ≢ p → Reached code q → (n ≡ On → Reached code (q + 1)) → AtBoth (arrives q (q + 1) n) (arrives (come q) (come q + 1) n')
+  arrive : (q : ℕ) (n n' : Continuation) → NextTied CameTo n n' → q ≢ p → Reached code q → (n ≡ On → Reached code (q + 1)) → AtBoth (arrives q (q + 1) n) (arrives (come q) (come q + 1) n')
   arrive q On On t ne h f = (next_place code p m q ne, f refl)
   arrive q Stay Stay t ne h f = (refl, h)
   arrive q (To r) (To s) t ne h f = t
@@ -143,7 +143,7 @@ module _ (names : Naming) (code : Code) (literals : HasLiterals code) (p : ℕ) 
   alike_of : (s t : State) → Related s t → Alike s t
   alike_of s t r = record { events = r.events; memory = ap (λ (w : World). w.memory) r.world; answers = ap (λ (w : World). w.answers) r.world; ended = ended_of s.at t.at r.both }
     where
-      ended_of : (a b : At) → AtBoth a b → has_ended a ≡ has_ended b
+      ended_of : (a b : Position) → AtBoth a b → has_ended a ≡ has_ended b
       ended_of Ended Ended h = refl
       ended_of (Here q) (Here y) h = refl
       ended_of Ended (Here y) h = absurd h
@@ -195,7 +195,7 @@ module _ (names : Naming) (code : Code) (literals : HasLiterals code) (p : ℕ) 
     | inr ne ↦ at_other q w es ne h
   ]
 
-  advance_at : (a b : At) (u v : World) (es fs : List Event) → u ≡ v → es ≡ fs → AtBoth a b → ((step names code (state u a es) ≡ state u a es) × (step names after (state v b fs) ≡ state v b fs)) ⊎ Go (state u a es) (state v b fs)
+  advance_at : (a b : Position) (u v : World) (es fs : List Event) → u ≡ v → es ≡ fs → AtBoth a b → ((step names code (state u a es) ≡ state u a es) × (step names after (state v b fs) ≡ state v b fs)) ⊎ Go (state u a es) (state v b fs)
   advance_at Ended Ended u v es fs e f h = inl (refl, refl)
   advance_at Ended (Here q) u v es fs e f h = absurd h
   advance_at (Here q) Ended u v es fs e f h = absurd h

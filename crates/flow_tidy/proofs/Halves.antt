@@ -5,7 +5,7 @@ use Rattle.std.proofs.lemmas.Bool.{cases_Bool, cases_lt, and_parts, leb-true, lt
 use Rattle.std.proofs.lemmas.Option.{same_Some}
 use Rattle.thumb_instr.specs.declared.instr.Instr.{Instr}
 use Rattle.thumb_instr.specs.declared.instr.Instr.TheVariants as instr
-use Rattle.thumb_model.specs.Listing.{Name, Mention, Value, Statement, Nothing, Runs, Words, Aligns, Sets, Line, Place, Op, Word, places_in, places_of, labels_from}
+use Rattle.thumb_model.specs.Listing.{Name, Mention, Value, Statement, Nothing, Instruction, Words, Aligns, Sets, ListingLine, Place, Op, Word, places_in, places_of, labels_from}
 use Rattle.thumb_model.specs.Layout.{branch_base, branch_fault, instr_size, is_among, label_address, size_at}
 use Rattle.thumb_model.specs.Steps.{label_place}
 use Rattle.thumb_model.proofs.Lists.{get_back}
@@ -15,7 +15,7 @@ use Rattle.listing_parser.proofs.LabelLemmas.{label_at}
 use Rattle.kept_places.specs.Marks.{is_gone, rank}
 use Rattle.kept_places.proofs.Ranks.{rank_gone, rank_kept, rank_zero}
 use Rattle.listing_draft.specs.Drafted.{aim_at, lines_now, Drafted}
-use Rattle.listing_draft.specs.Held.{IsDraft}
+use Rattle.listing_draft.specs.Invariant.{IsDraft}
 use Rattle.listing_draft.proofs.Stands.{aimed_to, stands_at}
 use Rattle.flow_tidy.specs.Halves.{halves, wide_count, wide_of, wides_before, IsBeyond}
 use Rattle.flow_tidy.proofs.Aimed.{past_words}
@@ -109,14 +109,14 @@ instr_least i m = omega arith
 
 size_least : (s : Statement) (at : ℕ) → 2 * (length (places_in s) + wide_count (places_in s) (length (places_in s))) ≤ size_at s at
 size_least Nothing at = omega arith
-size_least (Runs i m) at = let l = instr_least i m in omega arith
+size_least (Instruction i m) at = let l = instr_least i m in omega arith
 size_least (Words vs) at = let a = all_words vs in let b = words_length vs in omega arith
 size_least (Aligns size most) at = omega arith
 size_least (Sets name address) at = omega arith
 
 -- ---- where a label lies ----
 
-pub record LiesBy (name : Name) (ls : List Line) (at r q : ℕ) : Type 0 where
+pub record LiesBy (name : Name) (ls : List ListingLine) (at r q : ℕ) : Type 0 where
   pub address : ℕ
   pub is : label_address name at ls ≡ Some address
   pub more : ℕ
@@ -124,7 +124,7 @@ pub record LiesBy (name : Name) (ls : List Line) (at r q : ℕ) : Type 0 where
   pub least : at + 2 * halves (places_of ls) more ≤ address
 
 -- one that no label of a line is
-lies_behind : (name : Name) (l : Line) (ls : List Line) (at r q : ℕ) → is_among name l.names ≡ false → LiesBy name ls (at + size_at l.statement at) (r + length (places_in l.statement)) q → LiesBy name (l ∷ ls) at r q
+lies_behind : (name : Name) (l : ListingLine) (ls : List ListingLine) (at r q : ℕ) → is_among name l.names ≡ false → LiesBy name ls (at + size_at l.statement at) (r + length (places_in l.statement)) q → LiesBy name (l ∷ ls) at r q
 lies_behind name l ls at r q a rest =
     let n : ℕ = length (places_in l.statement) in
     let count = count_behind (places_in l.statement) (places_of ls) rest.more (n + rest.more) refl in
@@ -137,10 +137,10 @@ lies_behind name l ls at r q a rest =
       least = let f = rest.least in omega arith;
     }
 
-lies_here : (name : Name) (l : Line) (ls : List Line) (at r q : ℕ) → is_among name l.names ≡ true → r ≡ q → LiesBy name (l ∷ ls) at r q
+lies_here : (name : Name) (l : ListingLine) (ls : List ListingLine) (at r q : ℕ) → is_among name l.names ≡ true → r ≡ q → LiesBy name (l ∷ ls) at r q
 lies_here name l ls at r q a e = let zero = none_wide (places_of (l ∷ ls)) in record { address = at; is = rw a refl; more = 0; number = omega arith; least = omega arith }
 
-pub label_lies : (name : Name) (ls : List Line) (at r q : ℕ) → label_place name (labels_from r ls) ≡ Some q → LiesBy name ls at r q
+pub label_lies : (name : Name) (ls : List ListingLine) (at r q : ℕ) → label_place name (labels_from r ls) ≡ Some q → LiesBy name ls at r q
 label_lies name [] at r q e = absurd (cc)
 label_lies name (l ∷ ls) at r q e =
     let n : ℕ = length (places_in l.statement) in
@@ -155,23 +155,23 @@ label_lies name (l ∷ ls) at r q e =
 abbrev IsHere : ℕ → ℕ → ℕ → ℕ → Type 0
 IsHere p a at n = (p ≡ 0) × (a ≡ at) × (n ≡ 1)
 
-abbrev IsFurther : ℕ → ℕ → Instr → Option Mention → List Line → ℕ → ℕ → Type 0
+abbrev IsFurther : ℕ → ℕ → Instr → Option Mention → List ListingLine → ℕ → ℕ → Type 0
 IsFurther p n i m ls next a = (q : ℕ) × (p ≡ n + q) × (slice_get (places_of ls) q ≡ Some (Op i m)) × (slice_get (addresses_from next ls) q ≡ Some a)
 
 module _ (i : Instr) (m : Option Mention) (a : ℕ) where
-  further : (s : Statement) (ls : List Line) (at p q : ℕ) → p ≡ length (places_in s) + q → slice_get (places_of ls) q ≡ Some (Op i m) → slice_get (addresses_in at s ++ addresses_from (at + size_at s at) ls) p ≡ Some a → IsFurther p (length (places_in s)) i m ls (at + size_at s at) a
+  further : (s : Statement) (ls : List ListingLine) (at p q : ℕ) → p ≡ length (places_in s) + q → slice_get (places_of ls) q ≡ Some (Op i m) → slice_get (addresses_in at s ++ addresses_from (at + size_at s at) ls) p ≡ Some a → IsFurther p (length (places_in s)) i m ls (at + size_at s at) a
   further s ls at p q e f g = (q, e, f, sym (get_back (addresses_in at s) (addresses_from (at + size_at s at) ls) q p (let c = places_counted_in at s in omega arith)) ∙ g)
 
-  where_it_is : (s : Statement) (ls : List Line) (at p : ℕ) → slice_get (places_in s ++ places_of ls) p ≡ Some (Op i m) → slice_get (addresses_in at s ++ addresses_from (at + size_at s at) ls) p ≡ Some a
+  where_it_is : (s : Statement) (ls : List ListingLine) (at p : ℕ) → slice_get (places_in s ++ places_of ls) p ≡ Some (Op i m) → slice_get (addresses_in at s ++ addresses_from (at + size_at s at) ls) p ≡ Some a
       → IsHere p a at (length (places_in s)) ⊎ IsFurther p (length (places_in s)) i m ls (at + size_at s at) a
   where_it_is (Words vs) ls at p f g = let r = past_words vs (places_of ls) p i m f in inr (further (Words vs) ls at p r.0 r.1 r.2 g)
-  where_it_is (Runs j k) ls at zero f g = inl (refl, sym (same_Some at a g), refl)
-  where_it_is (Runs j k) ls at (suc p) f g = inr (further (Runs j k) ls at (suc p) p (omega arith) f g)
+  where_it_is (Instruction j k) ls at zero f g = inl (refl, sym (same_Some at a g), refl)
+  where_it_is (Instruction j k) ls at (suc p) f g = inr (further (Instruction j k) ls at (suc p) p (omega arith) f g)
   where_it_is Nothing ls at p f g = inr (further Nothing ls at p p (omega arith) f g)
   where_it_is (Aligns size most) ls at p f g = inr (further (Aligns size most) ls at p p (omega arith) f g)
   where_it_is (Sets name address) ls at p f g = inr (further (Sets name address) ls at p p (omega arith) f g)
 
-  place_lies : (ls : List Line) (at p : ℕ) → slice_get (places_of ls) p ≡ Some (Op i m) → slice_get (addresses_from at ls) p ≡ Some a → at + 2 * halves (places_of ls) p ≤ a
+  place_lies : (ls : List ListingLine) (at p : ℕ) → slice_get (places_of ls) p ≡ Some (Op i m) → slice_get (addresses_from at ls) p ≡ Some a → at + 2 * halves (places_of ls) p ≤ a
   place_lies [] at p f g = absurd (cc)
   place_lies (l ∷ ls) at p f g = elim (where_it_is l.statement ls at p f g) [
     | inl h ↦ (
@@ -185,11 +185,11 @@ module _ (i : Instr) (m : Option Mention) (a : ℕ) where
   ]
 
   -- the instruction and the label lie as far from one another as there are half-words between them, or further
-  pub record AreApart (ls : List Line) (p q t : ℕ) : Type 0 where
+  pub record AreApart (ls : List ListingLine) (p q t : ℕ) : Type 0 where
     pub ahead : p < q → a + 2 * halves (places_of ls) q ≤ t + 2 * halves (places_of ls) p
     pub back : q ≤ p → t + 2 * halves (places_of ls) p ≤ a + 2 * halves (places_of ls) q
 
-  pub are_apart : (name : Name) (ls : List Line) (at r p q t : ℕ) → slice_get (places_of ls) p ≡ Some (Op i m) → slice_get (addresses_from at ls) p ≡ Some a → label_place name (labels_from r ls) ≡ Some (r + q) → label_address name at ls ≡ Some t → AreApart ls p q t
+  pub are_apart : (name : Name) (ls : List ListingLine) (at r p q t : ℕ) → slice_get (places_of ls) p ≡ Some (Op i m) → slice_get (addresses_from at ls) p ≡ Some a → label_place name (labels_from r ls) ≡ Some (r + q) → label_address name at ls ≡ Some t → AreApart ls p q t
   are_apart name [] at r p q t f g e k = absurd (cc)
   are_apart name (l ∷ ls) at r p q t f g e k =
       let n : ℕ = length (places_in l.statement) in
@@ -234,7 +234,7 @@ reach_parts half at to e = elim (cases_Bool (nat_lt to (branch_base at + 2 * hal
   | inr h ↦ absurd (cc (rw h at e))
 ]
 
-pub never_reached : (i : Instr) (m : Option Mention) (a : ℕ) (ls : List Line) (p q t half : ℕ) → AreApart i m a ls p q t → IsBeyond half (halves (places_of ls) p) (halves (places_of ls) q) → branch_fault half a (Some t) ≡ None → ⊥
+pub never_reached : (i : Instr) (m : Option Mention) (a : ℕ) (ls : List ListingLine) (p q t half : ℕ) → AreApart i m a ls p q t → IsBeyond half (halves (places_of ls) p) (halves (places_of ls) q) → branch_fault half a (Some t) ≡ None → ⊥
 never_reached i m a ls p q t half h b e =
     let r = reach_parts half a t e in
     elim (cases_lt p q) [

@@ -1,12 +1,12 @@
 -- Tidying that begins by places that stay and goes on with a listing.
 use Rattle.std.proofs.Common.{ℕ, ◌+◌, ◌*◌, ◌<◌, ◌≤◌, ◌^◌, List, ◌++◌, length, length-append, arith}
 use Rattle.std.proofs.Math.Nat.{mul-le-mul_left}
-use Rattle.thumb_model.specs.Listing.{Line, places_of}
+use Rattle.thumb_model.specs.Listing.{ListingLine, places_of}
 use Rattle.flow_tidy.specs.Tidying.{setting, AreTidiedBy}
 use Rattle.flow_tidy.specs.Made.{AreMadeBy}
 use Rattle.flow_tidy.proofs.Ends.{tidying_ends}
 
-pub handed_over : (base : ℕ) (given ls new : List Line) (n m : ℕ) → AreMadeBy (setting base) given ls n → AreTidiedBy base ls new m → AreTidiedBy base given new (n + m)
+pub handed_over : (base : ℕ) (given ls new : List ListingLine) (n m : ℕ) → AreMadeBy (setting base) given ls n → AreTidiedBy base ls new m → AreTidiedBy base given new (n + m)
 handed_over base given ls new n m a t = record {
   changes = a.changes ++ t.changes;
   are = a.lead t.changes new t.are;
@@ -20,7 +20,7 @@ square_below n h =
     omega arith
 
 -- so many changes fit into 64 bits
-pub all_fit : (base : ℕ) (given new : List Line) (n : ℕ) → AreTidiedBy base given new n → length (places_of given) < 2 ^ 32 → n < 2 ^ 64
+pub all_fit : (base : ℕ) (given new : List ListingLine) (n : ℕ) → AreTidiedBy base given new n → length (places_of given) < 2 ^ 32 → n < 2 ^ 64
 all_fit base given new n t h =
     let e = tidying_ends (setting base) given t.changes new t.are in
     let s = square_below (length (places_of given)) h in

@@ -26,7 +26,7 @@ pub mod Handing
 pub mod Draftings
 pub mod Wholes
 pub mod Safes
-pub mod Grounds
+pub mod WidestLayouts
 pub mod Halves
 pub mod Starting
 pub mod OwnLines

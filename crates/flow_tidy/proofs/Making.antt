@@ -3,7 +3,7 @@ use Rattle.std.proofs.Common.{◌≡◌, ◌↔◌, ℕ, ◌+◌, ◌<◌, ◌�
 use Rattle.std.specs.Prelude.{is_some, option_map, slice_get}
 use Rattle.std.proofs.lemmas.Option.{same_Some, slice_get_within}
 use Rattle.thumb_instr.specs.declared.instr.Instr.{Instr}
-use Rattle.thumb_model.specs.Listing.{Name, Mention, Place, Op, Word, Line, Code, code_of, places_of}
+use Rattle.thumb_model.specs.Listing.{Name, Mention, Place, Op, Word, ListingLine, Code, code_of, places_of}
 use Rattle.thumb_model.specs.Layout.{Layable}
 use Rattle.flow_tidy.specs.declared.found.Changed.{Changed}
 use Rattle.flow_tidy.specs.Tidying.{IsEnd, Setting, Cause, ToNext, ToEnd, Idle, Change, is_branch, lines_by, lines_after, rank, GoesToNext, GoesToEnd, IsIdle, HasCause, IsPossible, NonePossible}
@@ -49,18 +49,18 @@ no_end_none code p label h k end g =
 
 -- ---- possible changes ----
 
-possible : (s : Setting) (c : Change) (ls : List Line) → HasCause (code_of ls) c.place c.cause → IsFit s (lines_after s c ls) → IsPossible s c ls
+possible : (s : Setting) (c : Change) (ls : List ListingLine) → HasCause (code_of ls) c.place c.cause → IsFit s (lines_after s c ls) → IsPossible s c ls
 possible s c ls h f = record { cause = h; labels_stay = (change_keeps s c ls h).entry; layable = f.layable; few = f.few; short = f.short }
 
-fit : (s : Setting) (c : Change) (ls : List Line) → IsPossible s c ls → IsFit s (lines_after s c ls)
+fit : (s : Setting) (c : Change) (ls : List ListingLine) → IsPossible s c ls → IsFit s (lines_after s c ls)
 fit s c ls h = record { layable = h.layable; few = h.few; short = h.short }
 
 -- where the change has its cause, it is made where its lines are fit
-pub made : (s : Setting) (p : ℕ) (c : Cause) (ls : List Line) (r : Option Changed) → HasCause (code_of ls) p c → IsAccepted s (lines_by s p c ls) r → IsMade s p (rank c) ls r
+pub made : (s : Setting) (p : ℕ) (c : Cause) (ls : List ListingLine) (r : Option Changed) → HasCause (code_of ls) p c → IsAccepted s (lines_by s p c ls) r → IsMade s p (rank c) ls r
 made s p c ls None h a = λ o e q. a (subst (λ (x : Cause). IsFit s (lines_by s p x ls)) (cause_same (code_of ls) p o c e q.cause h) (fit s (change p o) ls q))
 made s p c ls (Some new) h a = (c, refl, possible s (change p c) ls h a.0, a.1)
 
-pub not_end : (s : Setting) (p : ℕ) (ls : List Line) → ((label : Name) → GoesToEnd (code_of ls) p label → ⊥) → IsMade s p 1 ls None
+pub not_end : (s : Setting) (p : ℕ) (ls : List ListingLine) → ((label : Name) → GoesToEnd (code_of ls) p label → ⊥) → IsMade s p 1 ls None
 not_end s p ls h = no
   where
     no : (o : Cause) → rank o ≡ 1 → IsPossible s (change p o) ls → ⊥
@@ -69,37 +69,37 @@ not_end s p ls h = no
     no Idle e q = absurd (omega arith)
 
 -- lines that can be laid out are fit within the limits
-accepted_within : (s : Setting) (ls : List Line) (r : Option Changed) → Layable s.base ls → IsWithin s.most_lines s.longest_line ls r → IsAccepted s ls r
+accepted_within : (s : Setting) (ls : List ListingLine) (r : Option Changed) → Layable s.base ls → IsWithin s.most_lines s.longest_line ls r → IsAccepted s ls r
 accepted_within s ls None l w = λ f. w (f.few, f.short)
 accepted_within s ls (Some new) l w = (record { layable = l; few = w.0.0; short = w.0.1 }, (w.1, subst (IsMovedTo s.base ls) (sym w.2) tt))
 
-pub made_within : (s : Setting) (p : ℕ) (c : Cause) (ls : List Line) (r : Option Changed) → HasCause (code_of ls) p c → Layable s.base (lines_by s p c ls) → IsWithin s.most_lines s.longest_line (lines_by s p c ls) r → IsMade s p (rank c) ls r
+pub made_within : (s : Setting) (p : ℕ) (c : Cause) (ls : List ListingLine) (r : Option Changed) → HasCause (code_of ls) p c → Layable s.base (lines_by s p c ls) → IsWithin s.most_lines s.longest_line (lines_by s p c ls) r → IsMade s p (rank c) ls r
 made_within s p c ls r h l w = made s p c ls r h (accepted_within s (lines_by s p c ls) r l w)
 
-pub not_layable : (s : Setting) (p : ℕ) (c : Cause) (ls : List Line) → HasCause (code_of ls) p c → (Layable s.base (lines_by s p c ls) → ⊥) → IsMade s p (rank c) ls None
+pub not_layable : (s : Setting) (p : ℕ) (c : Cause) (ls : List ListingLine) → HasCause (code_of ls) p c → (Layable s.base (lines_by s p c ls) → ⊥) → IsMade s p (rank c) ls None
 not_layable s p c ls h never = made s p c ls None h (λ f. never f.layable)
 
 -- ---- the first change ----
 
 -- none is possible at a lesser place
-abbrev pub NoneBefore : Setting → ℕ → List Line → Type 0
+abbrev pub NoneBefore : Setting → ℕ → List ListingLine → Type 0
 NoneBefore s p ls = (o : Change) → IsPossible s o ls → p ≤ o.place
 
-here : (s : Setting) (p : ℕ) (ls : List Line) (o : Change) → o.place ≡ p → IsPossible s o ls → IsPossible s (change p o.cause) ls
+here : (s : Setting) (p : ℕ) (ls : List ListingLine) (o : Change) → o.place ≡ p → IsPossible s o ls → IsPossible s (change p o.cause) ls
 here s p ls o e q = subst (λ n. IsPossible s (change n o.cause) ls) e q
 
-pub none_before_more : (s : Setting) (p : ℕ) (ls : List Line) → NoneBefore s p ls → IsMadeAt s p ls None → NoneBefore s (p + 1) ls
+pub none_before_more : (s : Setting) (p : ℕ) (ls : List ListingLine) → NoneBefore s p ls → IsMadeAt s p ls None → NoneBefore s (p + 1) ls
 none_before_more s p ls h n = λ o q. let le = h o q in let ne : o.place ≡ p → ⊥ = λ e. n o.cause (here s p ls o e q) in omega arith
 
 -- one that is made where none is possible before is the first
-pub found_next : (s : Setting) (p : ℕ) (ls : List Line) (new : Changed) → NoneBefore s p ls → IsMadeAt s p ls (Some new) → IsNextAt s p ls new.listing × IsMovedTo s.base new.listing new.moved
+pub found_next : (s : Setting) (p : ℕ) (ls : List ListingLine) (new : Changed) → NoneBefore s p ls → IsMadeAt s p ls (Some new) → IsNextAt s p ls new.listing × IsMovedTo s.base new.listing new.moved
 found_next s p ls new h m = (
   record {
     cause = m.0;
     first = record { possible = m.1; least_place = λ o q. h o q; soonest = λ o q e. m.2 o.cause (here s p ls o e q) };
     lines = m.3.0;
   },
-  subst (λ (l : List Line). IsMovedTo s.base l new.moved) (sym m.3.0) m.3.1,
+  subst (λ (l : List ListingLine). IsMovedTo s.base l new.moved) (sym m.3.0) m.3.1,
 )
 
 pub stands_within : (code : Code) (p : ℕ) (c : Cause) → HasCause code p c → p < length code.places
@@ -107,7 +107,7 @@ stands_within code p ToNext h = slice_get_within code.places p _ h.stands
 stands_within code p (ToEnd label) h = slice_get_within code.places p _ h.stands
 stands_within code p Idle h = slice_get_within code.places p _ h.stands
 
-pub none_at_all : (s : Setting) (p : ℕ) (ls : List Line) → length (places_of ls) ≤ p → NoneBefore s p ls → NonePossible s ls
+pub none_at_all : (s : Setting) (p : ℕ) (ls : List ListingLine) → length (places_of ls) ≤ p → NoneBefore s p ls → NonePossible s ls
 none_at_all s p ls e h = λ o q. let le = h o q in let lt = stands_within (code_of ls) o.place o.cause q.cause in absurd (omega arith)
 
 -- ---- what has a cause ----

@@ -4,7 +4,7 @@ use Rattle.std.specs.Prelude.{slice_get, slice_set}
 use Rattle.std.specs.List.{remove}
 use Rattle.std.proofs.lemmas.Bool.{cases_Bool, cases_eq, cases_lt}
 use Rattle.std.proofs.lemmas.Option.{slice_get_within}
-use Rattle.thumb_model.specs.Listing.{Name, Line, Code, code_of, is_op_place, places_of}
+use Rattle.thumb_model.specs.Listing.{Name, ListingLine, Code, code_of, is_op_place, places_of}
 use Rattle.thumb_model.specs.Layout.{Layable}
 use Rattle.thumb_model.specs.Replaced.{replaced, replaced_lines}
 use Rattle.code_flow.specs.Marks.{AreMarks}
@@ -34,7 +34,7 @@ pub op_goes : (code : Code) (r : ℕ) → MayVanish code r → is_op_place (slic
 op_goes code r (inl g) = ap is_op_place g.stands
 op_goes code r (inr h) = ap is_op_place h.stands
 
-pub code_goes : (ls new : List Line) (r : ℕ) → MayVanish (code_of ls) r → new ≡ replaced_lines own_line r 1 [] ls → code_of new ≡ replaced (code_of ls) r 1 []
+pub code_goes : (ls new : List ListingLine) (r : ℕ) → MayVanish (code_of ls) r → new ≡ replaced_lines own_line r 1 [] ls → code_of new ≡ replaced (code_of ls) r 1 []
 code_goes ls new r (inl g) e = ap code_of (e ∙ without_one 0 r ls) ∙ code_without (setting 0) r ls g.i g.mention g.stands
 code_goes ls new r (inr h) e = ap code_of (e ∙ without_one 0 r ls) ∙ code_without (setting 0) r ls h.i h.mention h.stands
 
@@ -96,13 +96,13 @@ not_due gone due p code e a kept c =
 -- ---- the first place at which a change is possible ----
 
 -- none is at a kept place before
-abbrev pub NoneSooner : ℕ → List Bool → List Line → ℕ → Type 0
+abbrev pub NoneSooner : ℕ → List Bool → List ListingLine → ℕ → Type 0
 NoneSooner base gone ls p = (k : ℕ) → k < rank gone p → NoneAt base ls k
 
-pub none_least : (base : ℕ) (gone due : List Bool) (ls : List Line) (p : ℕ) → AreDue (code_of ls) (left gone due) → IsLeast due p → NoneSooner base gone ls p
+pub none_least : (base : ℕ) (gone due : List Bool) (ls : List ListingLine) (p : ℕ) → AreDue (code_of ls) (left gone due) → IsLeast due p → NoneSooner base gone ls p
 none_least base gone due ls p a l = λ k lt o q. left_free gone due p l.free k lt (a.each k (record { cause = o; is = q.cause }))
 
-pub none_further : (base : ℕ) (gone : List Bool) (ls : List Line) (p : ℕ) → NoneSooner base gone ls p → (is_gone gone p ≡ false → NoneAt base ls (rank gone p)) → NoneSooner base gone ls (p + 1)
+pub none_further : (base : ℕ) (gone : List Bool) (ls : List ListingLine) (p : ℕ) → NoneSooner base gone ls p → (is_gone gone p ≡ false → NoneAt base ls (rank gone p)) → NoneSooner base gone ls (p + 1)
 none_further base gone ls p h never = λ k lt o q. elim (cases_Bool (is_gone gone p)) [
   | inl g ↦ (
       let r : rank gone (p + 1) ≡ rank gone p = ap (rank gone) (let e : p + 1 ≡ suc p = omega arith in e) ∙ rank_gone gone p g in
@@ -116,11 +116,11 @@ none_further base gone ls p h never = λ k lt o q. elim (cases_Bool (is_gone gon
 ]
 
 -- up to the next kept place there is no other
-pub none_up_to : (base : ℕ) (gone : List Bool) (ls : List Line) (p q : ℕ) → IsNode gone p q → NoneSooner base gone ls p → NoneSooner base gone ls q
+pub none_up_to : (base : ℕ) (gone : List Bool) (ls : List ListingLine) (p q : ℕ) → IsNode gone p q → NoneSooner base gone ls p → NoneSooner base gone ls q
 none_up_to base gone ls p q n h = λ k lt. h k (let r = node_rank gone p q n in omega arith)
 
 -- and none is possible at places that aren't due
-none_free_by : (n : ℕ) (base : ℕ) (gone due : List Bool) (ls : List Line) (p q : ℕ) → q ≡ n + p → AreDue (code_of ls) (left gone due) → ((k : ℕ) → p ≤ k → k < q → slice_get due k ≡ Some true → ⊥) → NoneSooner base gone ls p → NoneSooner base gone ls q
+none_free_by : (n : ℕ) (base : ℕ) (gone due : List Bool) (ls : List ListingLine) (p q : ℕ) → q ≡ n + p → AreDue (code_of ls) (left gone due) → ((k : ℕ) → p ≤ k → k < q → slice_get due k ≡ Some true → ⊥) → NoneSooner base gone ls p → NoneSooner base gone ls q
 none_free_by zero base gone due ls p q e a free h = subst (NoneSooner base gone ls) (let z : p ≡ q = omega arith in z) h
 none_free_by (suc n) base gone due ls p zero e a free h = absurd (omega arith)
 none_free_by (suc n) base gone due ls p (suc q) e a free h =
@@ -128,11 +128,11 @@ none_free_by (suc n) base gone due ls p (suc q) e a free h =
     subst (NoneSooner base gone ls) (let z : q + 1 ≡ suc q = omega arith in z)
     (none_further base gone ls q before (λ kept o c. free q (omega arith) (omega arith) (sym (left_at gone due q kept) ∙ a.each (rank gone q) (record { cause = o; is = c.cause }))))
 
-pub none_free : (base : ℕ) (gone due : List Bool) (ls : List Line) (p q : ℕ) → p ≤ q → AreDue (code_of ls) (left gone due) → ((k : ℕ) → p ≤ k → k < q → slice_get due k ≡ Some true → ⊥) → NoneSooner base gone ls p → NoneSooner base gone ls q
+pub none_free : (base : ℕ) (gone due : List Bool) (ls : List ListingLine) (p q : ℕ) → p ≤ q → AreDue (code_of ls) (left gone due) → ((k : ℕ) → p ≤ k → k < q → slice_get due k ≡ Some true → ⊥) → NoneSooner base gone ls p → NoneSooner base gone ls q
 none_free base gone due ls p q e = none_free_by (q - p) base gone due ls p q (omega arith)
 
 -- as many are left as places
-pub none_left : (base : ℕ) (gone due : List Bool) (ls : List Line) (p : ℕ) → length due ≡ length gone → length gone ≤ p → AreDue (code_of ls) (left gone due) → NoneSooner base gone ls p → (r : ℕ) → NoneAt base ls r
+pub none_left : (base : ℕ) (gone due : List Bool) (ls : List ListingLine) (p : ℕ) → length due ≡ length gone → length gone ≤ p → AreDue (code_of ls) (left gone due) → NoneSooner base gone ls p → (r : ℕ) → NoneAt base ls r
 none_left base gone due ls p e f a h = λ r o q.
     let w = slice_get_within (left gone due) r true (a.each r (record { cause = o; is = q.cause })) in
     let m = left_few gone due e in
@@ -148,10 +148,10 @@ none_left base gone due ls p e f a h = λ r o q.
 
 -- ---- the first change ----
 
-pub soonest_next : (base : ℕ) (ls new : List Line) (r : ℕ) → GoesToNext (code_of ls) r → new ≡ replaced_lines own_line r 1 [] ls → ChangesSoonest base ls new r
+pub soonest_next : (base : ℕ) (ls new : List ListingLine) (r : ℕ) → GoesToNext (code_of ls) r → new ≡ replaced_lines own_line r 1 [] ls → ChangesSoonest base ls new r
 soonest_next base ls new r g e = record { cause = ToNext; has = g; soonest = λ o h. omega arith; lines = e ∙ without_one base r ls }
 
-pub soonest_end : (base : ℕ) (ls new : List Line) (r : ℕ) (label : Name) → (GoesToNext (code_of ls) r → ⊥) → GoesToEnd (code_of ls) r label → new ≡ aimed_lines line_mentioning r label ls → ChangesSoonest base ls new r
+pub soonest_end : (base : ℕ) (ls new : List ListingLine) (r : ℕ) (label : Name) → (GoesToNext (code_of ls) r → ⊥) → GoesToEnd (code_of ls) r label → new ≡ aimed_lines line_mentioning r label ls → ChangesSoonest base ls new r
 soonest_end base ls new r label next g e = record { cause = ToEnd label; has = g; soonest = later; lines = e }
   where
     later : (o : Cause) → IsPossible (setting base) (change r o) ls → turn (ToEnd label) ≤ turn o
@@ -159,7 +159,7 @@ soonest_end base ls new r label next g e = record { cause = ToEnd label; has = g
     later (ToEnd other) h = omega arith
     later Idle h = omega arith
 
-pub soonest_idle : (base : ℕ) (ls new : List Line) (r : ℕ) → (GoesToNext (code_of ls) r → ⊥) → ((label : Name) → IsPossible (setting base) (change r (ToEnd label)) ls → ⊥) → IsIdle (code_of ls) r → new ≡ replaced_lines own_line r 1 [] ls → ChangesSoonest base ls new r
+pub soonest_idle : (base : ℕ) (ls new : List ListingLine) (r : ℕ) → (GoesToNext (code_of ls) r → ⊥) → ((label : Name) → IsPossible (setting base) (change r (ToEnd label)) ls → ⊥) → IsIdle (code_of ls) r → new ≡ replaced_lines own_line r 1 [] ls → ChangesSoonest base ls new r
 soonest_idle base ls new r next end i e = record { cause = Idle; has = i; soonest = later; lines = e ∙ without_one base r ls }
   where
     later : (o : Cause) → IsPossible (setting base) (change r o) ls → turn Idle ≤ turn o
@@ -176,18 +176,18 @@ no_cause code r next end idle c = by c.cause c.is
     by Idle h = idle h
 
 -- lines that surely can be laid out stay so when an instruction goes
-pub still_sure : (base : ℕ) (ls new : List Line) (r : ℕ) → is_op_place (slice_get (places_of ls) r) ≡ true → new ≡ replaced_lines own_line r 1 [] ls → IsSure base ls → IsSure base new
+pub still_sure : (base : ℕ) (ls new : List ListingLine) (r : ℕ) → is_op_place (slice_get (places_of ls) r) ≡ true → new ≡ replaced_lines own_line r 1 [] ls → IsSure base ls → IsSure base new
 still_sure base ls new r op e s = record {
   whole_words = s.whole_words;
   steady = subst (IsSteady base) (sym e) (cut_stays base ls (replaced_lines own_line r 1 [] ls) (cut_op own_line ls r op) s.steady);
   room = subst (HaveRoom most_lines longest_line) (sym e) (have_left most_lines longest_line own_line r ls s.room);
 }
 
-pub sure_layable : (base : ℕ) (ls : List Line) → IsSure base ls → Layable base ls
+pub sure_layable : (base : ℕ) (ls : List ListingLine) → IsSure base ls → Layable base ls
 sure_layable base ls s = steady_is_layable base ls s.whole_words s.steady
 
 -- a change that leaves sure lines is the first one, where none is possible before
-pub goes_first : (base : ℕ) (ls new : List Line) (r : ℕ) → ChangesSoonest base ls new r → ((k : ℕ) → k < r → NoneAt base ls k) → IsSure base new → IsNextAt (setting base) r ls new
+pub goes_first : (base : ℕ) (ls new : List ListingLine) (r : ℕ) → ChangesSoonest base ls new r → ((k : ℕ) → k < r → NoneAt base ls k) → IsSure base new → IsNextAt (setting base) r ls new
 goes_first base ls new r g none sure =
     let fits : IsSure base (lines_by (setting base) r g.cause ls) = subst (IsSure base) g.lines sure in
     record {
@@ -209,5 +209,5 @@ goes_first base ls new r g none sure =
       lines = g.lines;
     }
 
-pub none_possible : (base : ℕ) (ls : List Line) → ((r : ℕ) → NoneAt base ls r) → NonePossible (setting base) ls
+pub none_possible : (base : ℕ) (ls : List ListingLine) → ((r : ℕ) → NoneAt base ls r) → NonePossible (setting base) ls
 none_possible base ls h = λ o q. h o.place o.cause q

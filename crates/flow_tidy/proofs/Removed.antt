@@ -8,7 +8,7 @@ use Rattle.thumb_instr.specs.declared.instr.Instr.{Instr}
 use Rattle.thumb_instr.specs.declared.instr.Instr.TheVariants as instr
 use Rattle.thumb_instr.specs.Shape.{condition_uses}
 use Rattle.thumb_model.specs.Effect.{one_of}
-use Rattle.thumb_model.specs.Listing.{Name, Mention, Place, Op, Word, Label, Line, Code, code_of, places_of, labels_from, is_code, is_op_place, is_call_instr, place_among, label_places, return_places, IsPoint}
+use Rattle.thumb_model.specs.Listing.{Name, Mention, Place, Op, Word, Label, ListingLine, Code, code_of, places_of, labels_from, is_code, is_op_place, is_call_instr, place_among, label_places, return_places, IsPoint}
 use Rattle.thumb_model.specs.Naming.{Naming}
 use Rattle.thumb_model.specs.States.{World, Target, Inside, Event, Here, puts, On}
 use Rattle.thumb_model.specs.Acts.{holds, jumps}
@@ -152,15 +152,15 @@ outside_one : (p q : ℕ) → (q ≤ p) ⊎ (p + 1 ≤ q)
 outside_one p q = elim (cases_lt p q) [ inl h ↦ inr (omega arith) | inr h ↦ inl h ]
 
 -- the code of the lines without an instruction
-pub code_without : (s : Setting) (p : ℕ) (ls : List Line) (i : Instr) (mention : Option Mention) → slice_get (places_of ls) p ≡ Some (Op i mention) → code_of (lines_without s p ls) ≡ replaced (code_of ls) p 1 []
+pub code_without : (s : Setting) (p : ℕ) (ls : List ListingLine) (i : Instr) (mention : Option Mention) → slice_get (places_of ls) p ≡ Some (Op i mention) → code_of (lines_without s p ls) ≡ replaced (code_of ls) p 1 []
 code_without s p ls i mention e =
     code_replaced (λ i. s.write i None) p 0 [] ls (omega arith) (ops_at (drop p (places_of ls)) i mention (get_drop p (places_of ls) 0 p (omega arith) ∙ e)) (outside_of p 1 (labels_from 0 ls) (λ k l f. outside_one p l.place))
 
-pub lines_without_keep : (s : Setting) (p : ℕ) (ls : List Line) → MayGo (code_of ls) p → DoesNothing (code_of ls) p → Keeps (code_of ls) (code_of (lines_without s p ls))
+pub lines_without_keep : (s : Setting) (p : ℕ) (ls : List ListingLine) → MayGo (code_of ls) p → DoesNothing (code_of ls) p → Keeps (code_of ls) (code_of (lines_without s p ls))
 lines_without_keep s p ls m nothing = subst (Keeps (code_of ls)) (sym (code_without s p ls m.i m.mention m.stands)) (gone_keeps (code_of ls) p m nothing)
 
 -- what is reached stays so, and nothing else comes to be
-pub reached_without : (s : Setting) (p : ℕ) (ls : List Line) → MayGo (code_of ls) p → (q : ℕ) → q ≢ p → Reached (code_of ls) q ↔ Reached (code_of (lines_without s p ls)) (moved p 1 q)
+pub reached_without : (s : Setting) (p : ℕ) (ls : List ListingLine) → MayGo (code_of ls) p → (q : ℕ) → q ≢ p → Reached (code_of ls) q ↔ Reached (code_of (lines_without s p ls)) (moved p 1 q)
 reached_without s p ls m q ne =
     subst (λ (c : Code). Reached (code_of ls) q ↔ Reached c (moved p 1 q)) (sym (code_without s p ls m.i m.mention m.stands))
     (reached_forth (code_of ls) p m q, λ h. reached_back (code_of ls) p m (moved p 1 q) h q refl ne)

@@ -5,7 +5,7 @@ use Rattle.std.proofs.lemmas.Bool.{cases_eq}
 use Rattle.std.proofs.lemmas.Option.{same_Some, slice_get_within}
 use Rattle.thumb_instr.specs.declared.instr.Instr.{Instr}
 use Rattle.thumb_instr.specs.declared.instr.Instr.TheVariants as instr
-use Rattle.thumb_model.specs.Listing.{Name, Mention, Line, Place, Op, Word, Code, code_of, is_call_instr, is_op_place, labels_from, places_of}
+use Rattle.thumb_model.specs.Listing.{Name, Mention, ListingLine, Place, Op, Word, Code, code_of, is_call_instr, is_op_place, labels_from, places_of}
 use Rattle.thumb_model.specs.Layout.{aim_fault, branch_fault, cleared, lies_in, or_else, set_address, Layable}
 use Rattle.thumb_model.specs.Steps.{label_place}
 use Rattle.kept_places.specs.Marks.{is_gone, rank}
@@ -16,13 +16,13 @@ use Rattle.listing_parser.specs.Grammar.{longest_line, most_lines}
 use Rattle.listing_parser.specs.Parsing.{line_mentioning}
 use Rattle.listing_parser.specs.Targets.{aimed_lines}
 use Rattle.listing_draft.specs.Drafted.{aim_at, instr_in, lines_now, name_in, now_of, stands, unchanged, Drafted}
-use Rattle.listing_draft.specs.Held.{IsDraft}
+use Rattle.listing_draft.specs.Invariant.{IsDraft}
 use Rattle.listing_draft.proofs.Drafts.{aimed_draft, all_same, drafted, instr_at, still_draft}
 use Rattle.listing_draft.proofs.Labels.{place_ranked}
 use Rattle.listing_draft.proofs.Stands.{stands_at}
 use Rattle.steady_layout.specs.Steady.{IsSteady}
-use Rattle.flow_tidy.specs.declared.ground.Ground.{Ground}
-use Rattle.flow_tidy.specs.Ground.{IsGround}
+use Rattle.flow_tidy.specs.declared.widest_layout.WidestLayout.{WidestLayout}
+use Rattle.flow_tidy.specs.WidestLayout.{IsWidestLayout}
 use Rattle.flow_tidy.specs.Halves.{halves, wide_of, IsBeyond}
 use Rattle.flow_tidy.specs.Made.{change}
 use Rattle.flow_tidy.specs.Quick.{whole, EndsAt, HaveRoom, IsSafe, IsSure, MayAim}
@@ -38,11 +38,11 @@ use Rattle.flow_tidy.proofs.Wholes.{aimed_steady, now_steady}
 
 -- ---- drafts by their parts ----
 
-draft_of : (e : Drafted) (given : List Line) (gone : List Bool) (aims : List (Option Name)) → e.given ≡ given → e.gone ≡ gone → e.aims ≡ aims → IsDraft (drafted given gone aims) → IsDraft e
+draft_of : (e : Drafted) (given : List ListingLine) (gone : List Bool) (aims : List (Option Name)) → e.given ≡ given → e.gone ≡ gone → e.aims ≡ aims → IsDraft (drafted given gone aims) → IsDraft e
 draft_of e given gone aims f g a h =
     subst (λ x. IsDraft (drafted e.given e.gone x)) (sym a) (subst (λ x. IsDraft (drafted e.given x aims)) (sym g) (subst (λ x. IsDraft (drafted x gone aims)) (sym f) h))
 
-whole_of : (base : ℕ) (e : Drafted) (given : List Line) (aims : List (Option Name)) → e.given ≡ given → e.aims ≡ aims → IsSteady base (now_of [] aims given) → IsSteady base (whole e)
+whole_of : (base : ℕ) (e : Drafted) (given : List ListingLine) (aims : List (Option Name)) → e.given ≡ given → e.aims ≡ aims → IsSteady base (now_of [] aims given) → IsSteady base (whole e)
 whole_of base e given aims f a h = subst (λ x. IsSteady base (now_of [] x e.given)) (sym a) (subst (λ x. IsSteady base (now_of [] aims x)) (sym f) h)
 
 -- ---- an instruction that goes ----
@@ -60,7 +60,7 @@ narrow_goes : (code : Code) (r : ℕ) → MayVanish code r → wide_of (slice_ge
 narrow_goes code r (inl g) = ap wide_of g.stands ∙ branch_narrow g.i g.mention g.branch
 narrow_goes code r (inr h) = ap wide_of h.stands ∙ other_narrow h.i h.mention h.no_call
 
-still_narrow : (g : Ground) (d : Drafted) (p : ℕ) → IsSafe g d → is_gone d.gone p ≡ false → MayVanish (code_of (lines_now d)) (rank d.gone p) → (q : ℕ) → is_gone (slice_set d.gone p true) q ≡ true → wide_of (slice_get (places_of d.given) q) ≡ 0
+still_narrow : (g : WidestLayout) (d : Drafted) (p : ℕ) → IsSafe g d → is_gone d.gone p ≡ false → MayVanish (code_of (lines_now d)) (rank d.gone p) → (q : ℕ) → is_gone (slice_set d.gone p true) q ≡ true → wide_of (slice_get (places_of d.given) q) ≡ 0
 still_narrow g d p s kept goes q e = elim (cases_eq q p) [
   | inl same ↦
       ap (λ n. wide_of (slice_get (places_of d.given) n)) same
@@ -70,15 +70,15 @@ still_narrow g d p s kept goes q e = elim (cases_eq q p) [
   | inr ne ↦ s.narrow q (sym (marked_other d.gone p q true ne) ∙ e)
 ]
 
-narrow_of : (e : Drafted) (given : List Line) (gone : List Bool) → e.given ≡ given → e.gone ≡ gone → ((q : ℕ) → is_gone gone q ≡ true → wide_of (slice_get (places_of given) q) ≡ 0) → (q : ℕ) → is_gone e.gone q ≡ true → wide_of (slice_get (places_of e.given) q) ≡ 0
-narrow_of e given gone f g h q k = ap (λ (ls : List Line). wide_of (slice_get (places_of ls) q)) f ∙ h q (ap (λ (gs : List Bool). is_gone gs q) (sym g) ∙ k)
+narrow_of : (e : Drafted) (given : List ListingLine) (gone : List Bool) → e.given ≡ given → e.gone ≡ gone → ((q : ℕ) → is_gone gone q ≡ true → wide_of (slice_get (places_of given) q) ≡ 0) → (q : ℕ) → is_gone e.gone q ≡ true → wide_of (slice_get (places_of e.given) q) ≡ 0
+narrow_of e given gone f g h q k = ap (λ (ls : List ListingLine). wide_of (slice_get (places_of ls) q)) f ∙ h q (ap (λ (gs : List Bool). is_gone gs q) (sym g) ∙ k)
 
-pub safe_left : (g : Ground) (d e : Drafted) (p : ℕ) (dues : List Bool) → p < length d.gone → is_gone d.gone p ≡ false → MayVanish (code_of (lines_now d)) (rank d.gone p) → IsSafe g d → IsLeft d e p dues → IsSafe g e
+pub safe_left : (g : WidestLayout) (d e : Drafted) (p : ℕ) (dues : List Bool) → p < length d.gone → is_gone d.gone p ≡ false → MayVanish (code_of (lines_now d)) (rank d.gone p) → IsSafe g d → IsLeft d e p dues → IsSafe g e
 safe_left g d e p dues within kept goes s h =
     let op : is_op_place (stands d p) ≡ true = op_goes (code_of (lines_now d)) (rank d.gone p) goes in
     record {
       draft = draft_of e d.given (slice_set d.gone p true) d.aims h.given h.gone h.aims (still_draft d p s.draft within kept op);
-      ground = subst (λ (ls : List Line). IsGround ls g) (sym h.given) s.ground;
+      widest = subst (λ (ls : List ListingLine). IsWidestLayout ls g) (sym h.given) s.widest;
       sure = still_sure g.base (lines_now d) (lines_now e) (rank d.gone p) op h.lines s.sure;
       steady = whole_of g.base e d.given d.aims h.given h.aims s.steady;
       narrow = narrow_of e d.given (slice_set d.gone p true) h.given h.gone (still_narrow g d p s kept goes);
@@ -91,7 +91,7 @@ op_of None i e = absurd (cc)
 op_of (Some (Op j m)) i e = (m, ap (λ (x : Instr). Some (Op x m)) (same_Some j i e))
 op_of (Some (Word v)) i e = absurd (cc)
 
-pub safe_aimed : (g : Ground) (d e : Drafted) (p : ℕ) (name : Name) → p < length d.gone → is_gone d.gone p ≡ false → MayAim g.base d p name → e.given ≡ d.given → e.gone ≡ d.gone → e.aims ≡ slice_set d.aims p (Some name)
+pub safe_aimed : (g : WidestLayout) (d e : Drafted) (p : ℕ) (name : Name) → p < length d.gone → is_gone d.gone p ≡ false → MayAim g.base d p name → e.given ≡ d.given → e.gone ≡ d.gone → e.aims ≡ slice_set d.aims p (Some name)
     → lines_now e ≡ aimed_lines line_mentioning (rank d.gone p) name (lines_now d) → IsSafe g d → IsSafe g e
 safe_aimed g d e p name within kept may given gone aims lines s =
     let now = op_of (stands d p) may.i may.is in
@@ -100,7 +100,7 @@ safe_aimed g d e p name within kept may given gone aims lines s =
     let steady : IsSteady g.base (whole e) = whole_of g.base e d.given (slice_set d.aims p (Some name)) given aims (aimed_steady g.base d.given d.aims p may.i before.0 name before.1 may.reach s.steady) in
     record {
       draft = draft;
-      ground = subst (λ (ls : List Line). IsGround ls g) (sym given) s.ground;
+      widest = subst (λ (ls : List ListingLine). IsWidestLayout ls g) (sym given) s.widest;
       sure = record {
         whole_words = s.sure.whole_words;
         steady = now_steady g.base e draft steady;
@@ -112,13 +112,13 @@ safe_aimed g d e p name within kept may given gone aims lines s =
 
 -- ---- a draft of which nothing is changed ----
 
-pub safe_first : (g : Ground) (ls : List Line) (d : Drafted) → d ≡ unchanged ls → lines_now d ≡ ls → IsDraft d → IsGround ls g → IsSure g.base ls → IsSafe g d
-safe_first g ls d is lines draft ground sure =
+pub safe_first : (g : WidestLayout) (ls : List ListingLine) (d : Drafted) → d ≡ unchanged ls → lines_now d ≡ ls → IsDraft d → IsWidestLayout ls g → IsSure g.base ls → IsSafe g d
+safe_first g ls d is lines draft widest sure =
     let given : d.given ≡ ls = ap (λ (x : Drafted). x.given) is in
     let all : whole d ≡ ls = ap whole is ∙ all_same 0 (length (places_of ls)) ls in
     record {
       draft = draft;
-      ground = subst (λ (x : List Line). IsGround x g) (sym given) ground;
+      widest = subst (λ (x : List ListingLine). IsWidestLayout x g) (sym given) widest;
       sure = subst (IsSure g.base) (sym lines) sure;
       steady = subst (IsSteady g.base) (sym all) sure.steady;
       narrow = λ q e. let no : true ≡ false = sym e ∙ ap (λ (gs : List Bool). is_gone gs q) (ap (λ (x : Drafted). x.gone) is) ∙ unmarked (length (places_of ls)) q in absurd (cc);
@@ -131,11 +131,11 @@ some_at [] p h = absurd (omega arith)
 some_at (x ∷ xs) zero h = (x, refl)
 some_at (x ∷ xs) (suc p) h = some_at xs p (omega arith)
 
-pub never_possible : (g : Ground) (d : Drafted) (p last label half : ℕ) (i : Instr) → IsSafe g d → EndsAt d p last → (name : Name) → name_in (stands d last) ≡ Some name → instr_in (stands d p) ≡ Some i → label_place name (labels_from 0 d.given) ≡ Some label
+pub never_possible : (g : WidestLayout) (d : Drafted) (p last label half : ℕ) (i : Instr) → IsSafe g d → EndsAt d p last → (name : Name) → name_in (stands d last) ≡ Some name → instr_in (stands d p) ≡ Some i → label_place name (labels_from 0 d.given) ≡ Some label
     → IsBeyond half (halves (places_of (lines_now d)) (rank d.gone p)) (halves (places_of (lines_now d)) (rank d.gone label)) → ((a : ℕ) (to : Option ℕ) → aim_fault a i to 0 ≡ branch_fault half a to)
     → (other : Name) → IsPossible (setting g.base) (change (rank d.gone p) (ToEnd other)) (lines_now d) → ⊥
 never_possible g d p last label half i s h name called is leads beyond reach other possible =
-    let ls : List Line = lines_now d in
+    let ls : List ListingLine = lines_now d in
     let r : ℕ = rank d.gone p in
     let q : ℕ = rank d.gone label in
     let end : other ≡ name = label_same (code_of ls) r other h.label possible.cause h.goes ∙ same_Some h.label name (sym h.named ∙ called) in

@@ -6,7 +6,7 @@ use Rattle.std.proofs.lemmas.Bool.{cases_eq, cases_lt}
 use Rattle.std.proofs.lemmas.List.Edits.{length-remove}
 use Rattle.std.proofs.lemmas.Option.{slice_get_within}
 use Rattle.thumb_instr.specs.declared.instr.Instr.{Instr}
-use Rattle.thumb_model.specs.Listing.{Name, Mention, Op, Line, Code, code_of, places_of}
+use Rattle.thumb_model.specs.Listing.{Name, Mention, Op, ListingLine, Code, code_of, places_of}
 use Rattle.thumb_model.specs.Layout.{Layable}
 use Rattle.thumb_model.specs.Replaced.{moved, replaced}
 use Rattle.thumb_model.proofs.Lists.{get_back, get_drop, get_front, get_take, take_all}
@@ -117,7 +117,7 @@ due_all code p due m d =
     all_due (replaced code p 1 []) (length (remove due p)) (let l = d.len in omega arith)
 
 -- before the least that is due no change is possible
-pub none_before_least : (s : Setting) (p : ℕ) (ls : List Line) (addresses : Addresses) (marks dues : List Bool) → IsKnown ls addresses marks dues → IsLeast dues p → NoneBefore s p ls
+pub none_before_least : (s : Setting) (p : ℕ) (ls : List ListingLine) (addresses : Addresses) (marks dues : List Bool) → IsKnown ls addresses marks dues → IsLeast dues p → NoneBefore s p ls
 none_before_least s p ls addresses marks dues k l = λ o q. elim (cases_lt o.place p) [
   | inl lt ↦ absurd (l.free o.place lt (k.due.each o.place (record { cause = o.cause; is = q.cause })))
   | inr ge ↦ ge
@@ -172,29 +172,29 @@ may_leave code p (inl g) quiet = record { may = next_may_go code p g; labelled =
 may_leave code p (inr h) quiet = record { may = idle_may_go code p h; labelled = λ x e. idle_unlabelled code p h x e; quiet = quiet }
 
 -- a change that leaves fewer places takes one away
-pub record Vanishes (ls new : List Line) (p : ℕ) : Type 0 where
+pub record Vanishes (ls new : List ListingLine) (p : ℕ) : Type 0 where
   pub vanishes : MayVanish (code_of ls) p
   pub code : code_of new ≡ replaced (code_of ls) p 1 []
 
-pub fewer_places : (s : Setting) (p : ℕ) (ls new : List Line) → IsNextAt s p ls new → length (places_of new) < length (places_of ls) → Vanishes ls new p
+pub fewer_places : (s : Setting) (p : ℕ) (ls new : List ListingLine) → IsNextAt s p ls new → length (places_of new) < length (places_of ls) → Vanishes ls new p
 fewer_places s p ls new n less = by n.cause n.first.possible.cause n.lines
   where
     by : (cause : Cause) → HasCause (code_of ls) p cause → new ≡ lines_by s p cause ls → Vanishes ls new p
     by ToNext h e = record { vanishes = inl h; code = ap code_of e ∙ code_without s p ls h.i h.mention h.stands }
     by (ToEnd label) h e =
         let same : length (places_of new) ≡ length (places_of ls) =
-        ap (λ (l : List Line). length (places_of l)) e ∙ ap (λ (c : Code). length c.places) (code_aimed s.write label p ls h.i (Some h.mention) h.stands) ∙ same_length p label (places_of ls) in
+        ap (λ (l : List ListingLine). length (places_of l)) e ∙ ap (λ (c : Code). length c.places) (code_aimed s.write label p ls h.i (Some h.mention) h.stands) ∙ same_length p label (places_of ls) in
         absurd (omega arith)
     by Idle h e = record { vanishes = inr h; code = ap code_of e ∙ code_without s p ls h.i h.mention h.stands }
 
 -- and one that doesn't lets a branch go elsewhere: all that is known stays
-pub known_aimed : (s : Setting) (p : ℕ) (ls new : List Line) (laid : Addresses) (reached due : List Bool) → laid.base ≡ s.base → IsNextAt s p ls new → (length (places_of new) < length (places_of ls) → ⊥) → IsKnown ls laid reached due → IsKnown new laid reached due
+pub known_aimed : (s : Setting) (p : ℕ) (ls new : List ListingLine) (laid : Addresses) (reached due : List Bool) → laid.base ≡ s.base → IsNextAt s p ls new → (length (places_of new) < length (places_of ls) → ⊥) → IsKnown ls laid reached due → IsKnown new laid reached due
 known_aimed s p ls new laid reached due base n more k = by n.cause n.first.possible.cause n.lines
   where
     less : (i : Instr) (mention : Option Mention) → slice_get (places_of ls) p ≡ Some (Op i mention) → new ≡ lines_by s p Idle ls → ⊥
     less i mention h e =
         let one = one_place_less s p ls i mention h in
-        let same : length (places_of new) ≡ length (places_of (lines_by s p Idle ls)) = ap (λ (l : List Line). length (places_of l)) e in
+        let same : length (places_of new) ≡ length (places_of (lines_by s p Idle ls)) = ap (λ (l : List ListingLine). length (places_of l)) e in
         more (omega arith)
 
     by : (cause : Cause) → HasCause (code_of ls) p cause → new ≡ lines_by s p cause ls → IsKnown new laid reached due
@@ -205,14 +205,14 @@ known_aimed s p ls new laid reached due base n more k = by n.cause n.first.possi
         let marks = marks_aimed (code_of ls) p label reached h k.reached in
         let all = due_aimed (code_of ls) p label due h k.due in
         record {
-          laid = subst (λ (l : List Line). AreAddresses l laid) (sym e) (addresses_stay s.write label p ls laid k.laid);
+          laid = subst (λ (l : List ListingLine). AreAddresses l laid) (sym e) (addresses_stay s.write label p ls laid k.laid);
           layable = subst (λ b. Layable b new) (sym base) (subst (Layable s.base) (sym n.lines) n.first.possible.layable);
           reached = subst (λ (c : Code). AreMarks c reached) (sym code) marks;
           due = subst (λ (c : Code). AreDue c due) (sym code) all;
         }
 
 -- where lines that lose a place lie is found anew
-pub known_left : (s : Setting) (p : ℕ) (ls new : List Line) (laid now : Addresses) (reached due : List Bool) → laid.base ≡ s.base → now.base ≡ laid.base → IsNextAt s p ls new → AreAddresses new now
+pub known_left : (s : Setting) (p : ℕ) (ls new : List ListingLine) (laid now : Addresses) (reached due : List Bool) → laid.base ≡ s.base → now.base ≡ laid.base → IsNextAt s p ls new → AreAddresses new now
     → AreMarks (replaced (code_of ls) p 1 []) reached → AreDue (replaced (code_of ls) p 1 []) due → code_of new ≡ replaced (code_of ls) p 1 [] → IsKnown new now reached due
 known_left s p ls new laid now reached due base same n a marks all code = record {
   laid = a;

@@ -3,7 +3,7 @@ use Rattle.std.proofs.Common.{◌≡◌, ℕ, zero, suc, List, [], ◌∷◌, So
 use Rattle.std.specs.Prelude.{slice_get}
 use Rattle.std.proofs.lemmas.Option.{same_Some}
 use Rattle.thumb_instr.specs.declared.instr.Instr.{Instr}
-use Rattle.thumb_model.specs.Listing.{Name, Mention, Op, Line, Code, code_of}
+use Rattle.thumb_model.specs.Listing.{Name, Mention, Op, ListingLine, Code, code_of}
 use Rattle.thumb_model.proofs.Lists.{cons_same}
 use Rattle.flow_tidy.specs.Tidying.{Hops, HopsBy, IsEnd, Setting, Cause, ToNext, ToEnd, Idle, Change, lines_after, GoesToEnd, HasCause, rank, IsFirst, NonePossible, AreTidied, AllPossible}
 
@@ -46,7 +46,7 @@ cause_same code p Idle Idle e h k = refl
 cause_same code p a b e h k = absurd (omega arith)
 
 -- one change comes first at most
-pub first_same : (s : Setting) (ls : List Line) (c o : Change) → IsFirst s c ls → IsFirst s o ls → c ≡ o
+pub first_same : (s : Setting) (ls : List ListingLine) (c o : Change) → IsFirst s c ls → IsFirst s o ls → c ≡ o
 first_same s ls c o f g =
     let p1 = f.least_place o g.possible in
     let p2 = g.least_place c f.possible in
@@ -62,7 +62,7 @@ first_same s ls c o f g =
 -- ---- all changes ----
 
 -- the changes and the lines are determined
-pub is_determined : (s : Setting) (ls : List Line) (cs ds : List Change) (new other : List Line) → AreTidied s ls cs new → AreTidied s ls ds other → (cs ≡ ds) × (new ≡ other)
+pub is_determined : (s : Setting) (ls : List ListingLine) (cs ds : List Change) (new other : List ListingLine) → AreTidied s ls cs new → AreTidied s ls ds other → (cs ≡ ds) × (new ≡ other)
 is_determined s ls [] [] new other a b = (refl, a.1 ∙ sym b.1)
 is_determined s ls [] (d ∷ ds) new other a b = absurd (a.0 d b.0.possible)
 is_determined s ls (c ∷ cs) [] new other a b = absurd (b.0 c a.0.possible)
@@ -72,11 +72,11 @@ is_determined s ls (c ∷ cs) (d ∷ ds) new other a b =
     (cons_same c d cs ds here rest.0, rest.1)
 
 -- none is possible any more
-pub none_left : (s : Setting) (ls : List Line) (cs : List Change) (new : List Line) → AreTidied s ls cs new → NonePossible s new
+pub none_left : (s : Setting) (ls : List ListingLine) (cs : List Change) (new : List ListingLine) → AreTidied s ls cs new → NonePossible s new
 none_left s ls [] new h = subst (NonePossible s) (sym h.1) h.0
 none_left s ls (c ∷ cs) new h = none_left s (lines_after s c ls) cs new h.1
 
 -- each was possible in the lines as they then were
-pub all_possible : (s : Setting) (ls : List Line) (cs : List Change) (new : List Line) → AreTidied s ls cs new → AllPossible s ls cs
+pub all_possible : (s : Setting) (ls : List ListingLine) (cs : List Change) (new : List ListingLine) → AreTidied s ls cs new → AllPossible s ls cs
 all_possible s ls [] new h = tt
 all_possible s ls (c ∷ cs) new h = (h.0.possible, all_possible s (lines_after s c ls) cs new h.1)

@@ -4,7 +4,7 @@ use Rattle.std.specs.Prelude.{slice_get, slice_set}
 use Rattle.std.proofs.lemmas.Bool.{and_parts, and_from}
 use Rattle.std.proofs.lemmas.Option.{same_Some}
 use Rattle.thumb_instr.specs.declared.instr.Instr.{Instr}
-use Rattle.thumb_model.specs.Listing.{Name, Mention, Statement, Nothing, Runs, Words, Aligns, Sets, Line, Op, is_op_place, places_in, places_of}
+use Rattle.thumb_model.specs.Listing.{Name, Mention, Statement, Nothing, Instruction, Words, Aligns, Sets, ListingLine, Op, is_op_place, places_in, places_of}
 use Rattle.thumb_model.specs.Layout.{is_among, set_in, set_address, cleared}
 use Rattle.thumb_model.specs.Replaced.{is_op, labels_kept, replaced_lines}
 use Rattle.thumb_model.proofs.Lists.{get_back}
@@ -13,7 +13,7 @@ use Rattle.kept_places.proofs.Ranks.{unmarked}
 use Rattle.listing_parser.specs.Parsing.{line_mentioning, own_line}
 use Rattle.listing_parser.specs.Targets.{aimed, aimed_line}
 use Rattle.listing_draft.specs.Drafted.{aim_at, line_now, lines_now, now_of, Drafted}
-use Rattle.listing_draft.specs.Held.{IsDraft}
+use Rattle.listing_draft.specs.Invariant.{IsDraft}
 use Rattle.listing_draft.proofs.Ranks.{drop_set, op_behind, OpsGone}
 use Rattle.listing_draft.proofs.Removed.{lines_left}
 use Rattle.listing_draft.proofs.Stands.{same_op, stands_at}
@@ -22,10 +22,10 @@ use Rattle.steady_layout.specs.Starts.{starts_from}
 use Rattle.steady_layout.specs.Steady.{all_steady, behind, first, label_start, labels_in, sets_in, steady_aim, steady_at, steady_instr, widest_end, IsSteady}
 use Rattle.steady_layout.proofs.Cuts.{cut_op}
 use Rattle.steady_layout.proofs.Laws.{cut_stays}
-use Rattle.flow_tidy.specs.Ground.{places_begin, IsSteadyTo}
+use Rattle.flow_tidy.specs.WidestLayout.{places_begin, IsSteadyTo}
 use Rattle.flow_tidy.proofs.Aimed.{to_label}
 use Rattle.listing_draft.proofs.Drafts.{drop_marks as none_dropped}
-use Rattle.flow_tidy.proofs.Grounds.{repeated as as_many_starts}
+use Rattle.flow_tidy.proofs.WidestLayouts.{repeated as as_many_starts}
 
 -- ---- the line of an instruction, whose branch may go elsewhere ----
 
@@ -41,41 +41,41 @@ start_same a b x e = cc
 still : (here : Start) → behind here Nothing ≡ here
 still here = start_same (here.at + 0) here.at here.aligned (omega arith)
 
-branch_end : (label : Name) (l : Line) (ns : List Name) (i : Instr) (m : Option Mention) (rest : List Line) (here : Start) → l.statement ≡ Runs i m
+branch_end : (label : Name) (l : ListingLine) (ns : List Name) (i : Instr) (m : Option Mention) (rest : List ListingLine) (here : Start) → l.statement ≡ Instruction i m
     → widest_end here ((labels_kept l ns ++ (aimed_line line_mentioning label l ∷ [])) ++ rest) ≡ widest_end (behind here l.statement) rest
 branch_end label l [] i m rest here e = rw e refl
-branch_end label l (n ∷ ns) i m rest here e = rw e (ap (λ (s : Start). widest_end (behind s (Runs i m)) rest) (still here))
+branch_end label l (n ∷ ns) i m rest here e = rw e (ap (λ (s : Start). widest_end (behind s (Instruction i m)) rest) (still here))
 
-op_end : (a : Option Name) (l : Line) (i : Instr) (m : Option Mention) (rest : List Line) (here : Start) → l.statement ≡ Runs i m → widest_end here (line_now false a l ++ rest) ≡ widest_end (behind here l.statement) rest
+op_end : (a : Option Name) (l : ListingLine) (i : Instr) (m : Option Mention) (rest : List ListingLine) (here : Start) → l.statement ≡ Instruction i m → widest_end here (line_now false a l ++ rest) ≡ widest_end (behind here l.statement) rest
 op_end None l i m rest here e = refl
 op_end (Some label) l i m rest here e = branch_end label l l.names i m rest here e
 
-branch_label : (name label : Name) (l : Line) (ns : List Name) (i : Instr) (m : Option Mention) (rest : List Line) (here : Start) → l.statement ≡ Runs i m
+branch_label : (name label : Name) (l : ListingLine) (ns : List Name) (i : Instr) (m : Option Mention) (rest : List ListingLine) (here : Start) → l.statement ≡ Instruction i m
     → label_start name here ((labels_kept l ns ++ (aimed_line line_mentioning label l ∷ [])) ++ rest) ≡ (if is_among name ns then Some here else label_start name (behind here l.statement) rest)
 branch_label name label l [] i m rest here e = rw e refl
-branch_label name label l (n ∷ ns) i m rest here e = rw e (ap (λ (s : Start). if is_among name (n ∷ ns) then Some here else label_start name (behind s (Runs i m)) rest) (still here))
+branch_label name label l (n ∷ ns) i m rest here e = rw e (ap (λ (s : Start). if is_among name (n ∷ ns) then Some here else label_start name (behind s (Instruction i m)) rest) (still here))
 
-op_label : (name : Name) (a : Option Name) (l : Line) (i : Instr) (m : Option Mention) (rest : List Line) (here : Start) → l.statement ≡ Runs i m
+op_label : (name : Name) (a : Option Name) (l : ListingLine) (i : Instr) (m : Option Mention) (rest : List ListingLine) (here : Start) → l.statement ≡ Instruction i m
     → label_start name here (line_now false a l ++ rest) ≡ (if is_among name l.names then Some here else label_start name (behind here l.statement) rest)
 op_label name None l i m rest here e = refl
 op_label name (Some label) l i m rest here e = branch_label name label l l.names i m rest here e
 
-branch_sets : (name label : Name) (l : Line) (ns : List Name) (i : Instr) (m : Option Mention) (rest : List Line) → l.statement ≡ Runs i m
+branch_sets : (name label : Name) (l : ListingLine) (ns : List Name) (i : Instr) (m : Option Mention) (rest : List ListingLine) → l.statement ≡ Instruction i m
     → set_address name ((labels_kept l ns ++ (aimed_line line_mentioning label l ∷ [])) ++ rest) ≡ set_in name l.statement (set_address name rest)
 branch_sets name label l [] i m rest e = rw e refl
 branch_sets name label l (n ∷ ns) i m rest e = rw e refl
 
-op_sets : (name : Name) (a : Option Name) (l : Line) (i : Instr) (m : Option Mention) (rest : List Line) → l.statement ≡ Runs i m → set_address name (line_now false a l ++ rest) ≡ set_in name l.statement (set_address name rest)
+op_sets : (name : Name) (a : Option Name) (l : ListingLine) (i : Instr) (m : Option Mention) (rest : List ListingLine) → l.statement ≡ Instruction i m → set_address name (line_now false a l ++ rest) ≡ set_in name l.statement (set_address name rest)
 op_sets name None l i m rest e = refl
 op_sets name (Some label) l i m rest e = branch_sets name label l l.names i m rest e
 
 module _ (labels : Name → Option Start) (sets : Name → Option ℕ) (base : ℕ) where
-  branch_steady : (label : Name) (l : Line) (ns : List Name) (i : Instr) (m : Option Mention) (rest : List Line) (here : Start) → l.statement ≡ Runs i m
+  branch_steady : (label : Name) (l : ListingLine) (ns : List Name) (i : Instr) (m : Option Mention) (rest : List ListingLine) (here : Start) → l.statement ≡ Instruction i m
       → all_steady labels sets base here ((labels_kept l ns ++ (aimed_line line_mentioning label l ∷ [])) ++ rest) ≡ (steady_at labels sets base here (aimed label l.statement) && all_steady labels sets base (behind here l.statement) rest)
   branch_steady label l [] i m rest here e = rw e refl
-  branch_steady label l (n ∷ ns) i m rest here e = rw e (ap (λ (s : Start). steady_instr labels sets base s i (Some (to_label label)) && all_steady labels sets base (behind s (Runs i m)) rest) (still here))
+  branch_steady label l (n ∷ ns) i m rest here e = rw e (ap (λ (s : Start). steady_instr labels sets base s i (Some (to_label label)) && all_steady labels sets base (behind s (Instruction i m)) rest) (still here))
 
-  op_steady : (a : Option Name) (l : Line) (i : Instr) (m : Option Mention) (rest : List Line) (here : Start) → l.statement ≡ Runs i m
+  op_steady : (a : Option Name) (l : ListingLine) (i : Instr) (m : Option Mention) (rest : List ListingLine) (here : Start) → l.statement ≡ Instruction i m
       → all_steady labels sets base here (line_now false a l ++ rest) ≡ (steady_at labels sets base here (said a l.statement) && all_steady labels sets base (behind here l.statement) rest)
   op_steady None l i m rest here e = refl
   op_steady (Some label) l i m rest here e = branch_steady label l l.names i m rest here e
@@ -86,40 +86,40 @@ none_behind : {A : Type 0} (n : ℕ) → (let xs : List A = drop n [] in xs) ≡
 none_behind zero = refl
 none_behind (suc n) = refl
 
-pub record LieAlike (ls ms : List Line) : Type 0 where
+pub record LieAlike (ls ms : List ListingLine) : Type 0 where
   pub ending : (here : Start) → widest_end here ls ≡ widest_end here ms
   pub label : (name : Name) (here : Start) → label_start name here ls ≡ label_start name here ms
   pub sets : (name : Name) → set_address name ls ≡ set_address name ms
 
-op_alike : (a : Option Name) (l : Line) (i : Instr) (m : Option Mention) (ls new : List Line) → l.statement ≡ Runs i m → LieAlike new ls → LieAlike (line_now false a l ++ new) (l ∷ ls)
+op_alike : (a : Option Name) (l : ListingLine) (i : Instr) (m : Option Mention) (ls new : List ListingLine) → l.statement ≡ Instruction i m → LieAlike new ls → LieAlike (line_now false a l ++ new) (l ∷ ls)
 op_alike a l i m ls new e k = record {
   ending = λ here. op_end a l i m new here e ∙ k.ending (behind here l.statement);
   label = λ name here. op_label name a l i m new here e ∙ ap (λ (o : Option Start). if is_among name l.names then Some here else o) (k.label name (behind here l.statement));
   sets = λ name. op_sets name a l i m new e ∙ ap (set_in name l.statement) (k.sets name);
 }
 
-other_alike : (l : Line) (ls new : List Line) → LieAlike new ls → LieAlike (l ∷ new) (l ∷ ls)
+other_alike : (l : ListingLine) (ls new : List ListingLine) → LieAlike new ls → LieAlike (l ∷ new) (l ∷ ls)
 other_alike l ls new k = record {
   ending = λ here. k.ending (behind here l.statement);
   label = λ name here. ap (λ (o : Option Start). if is_among name l.names then Some here else o) (k.label name (behind here l.statement));
   sets = λ name. ap (set_in name l.statement) (k.sets name);
 }
 
-abbrev AlikeRec : List Line → Type 0
+abbrev AlikeRec : List ListingLine → Type 0
 AlikeRec ls = (aims : List (Option Name)) → LieAlike (now_of [] aims ls) ls
 
-behind_alike : (l : Line) (s : Statement) (ls : List Line) → AlikeRec ls → (aims : List (Option Name)) → LieAlike (l ∷ now_of (drop (length (places_in s)) []) (drop (length (places_in s)) aims) ls) (l ∷ ls)
+behind_alike : (l : ListingLine) (s : Statement) (ls : List ListingLine) → AlikeRec ls → (aims : List (Option Name)) → LieAlike (l ∷ now_of (drop (length (places_in s)) []) (drop (length (places_in s)) aims) ls) (l ∷ ls)
 behind_alike l s ls rec aims =
     let n : ℕ = length (places_in s) in
     other_alike l ls (now_of (drop n []) (drop n aims) ls) (subst (λ (g : List Bool). LieAlike (now_of g (drop n aims) ls) ls) (sym (none_behind n)) (rec (drop n aims)))
 
-line_alike : (l : Line) (s : Statement) (ls : List Line) → l.statement ≡ s → AlikeRec ls → (aims : List (Option Name))
+line_alike : (l : ListingLine) (s : Statement) (ls : List ListingLine) → l.statement ≡ s → AlikeRec ls → (aims : List (Option Name))
     → LieAlike (if is_op s then line_now false (aim_at aims 0) l ++ now_of [] (drop 1 aims) ls else l ∷ now_of (drop (length (places_in s)) []) (drop (length (places_in s)) aims) ls) (l ∷ ls)
-line_alike l (Runs i m) ls e rec aims = op_alike (aim_at aims 0) l i m ls (now_of [] (drop 1 aims) ls) e (rec (drop 1 aims))
+line_alike l (Instruction i m) ls e rec aims = op_alike (aim_at aims 0) l i m ls (now_of [] (drop 1 aims) ls) e (rec (drop 1 aims))
 line_alike l s ls e rec aims = behind_alike l s ls rec aims
 
 -- wherever branches go, the lines lie as they were given
-pub whole_alike : (ls : List Line) → AlikeRec ls
+pub whole_alike : (ls : List ListingLine) → AlikeRec ls
 whole_alike [] aims = record { ending = λ here. refl; label = λ name here. refl; sets = λ name. refl }
 whole_alike (l ∷ ls) aims = line_alike l l.statement ls refl (whole_alike ls) aims
 
@@ -128,24 +128,24 @@ whole_alike (l ∷ ls) aims = line_alike l l.statement ls refl (whole_alike ls) 
 -- steady by names that lie at the same addresses
 same_steady : (labels others : Name → Option Start) (sets zets : Name → Option ℕ) → ((name : Name) → labels name ≡ others name) → ((name : Name) → sets name ≡ zets name)
     → (base : ℕ) (here : Start) (s : Statement) → steady_at labels sets base here s ≡ steady_at others zets base here s
-same_steady labels others sets zets e f base here (Runs i (Some m)) =
+same_steady labels others sets zets e f base here (Instruction i (Some m)) =
     ap (λ (o : Option Start). steady_aim base here i o (sets m.name) m.plus) (e m.name) ∙ ap (λ (o : Option ℕ). steady_aim base here i (others m.name) o m.plus) (f m.name)
 same_steady labels others sets zets e f base here s = refl
 
 all_same : (labels others : Name → Option Start) (sets zets : Name → Option ℕ) → ((name : Name) → labels name ≡ others name) → ((name : Name) → sets name ≡ zets name)
-    → (base : ℕ) (here : Start) (ls : List Line) → all_steady labels sets base here ls ≡ all_steady others zets base here ls
+    → (base : ℕ) (here : Start) (ls : List ListingLine) → all_steady labels sets base here ls ≡ all_steady others zets base here ls
 all_same labels others sets zets e f base here [] = refl
 all_same labels others sets zets e f base here (l ∷ ls) =
     ap (λ (b : Bool). b && all_steady labels sets base (behind here l.statement) ls) (same_steady labels others sets zets e f base here l.statement)
     ∙ ap (λ (b : Bool). steady_at others zets base here l.statement && b) (all_same labels others sets zets e f base (behind here l.statement) ls)
 
 module _ (labels : Name → Option Start) (sets : Name → Option ℕ) (base : ℕ) (to : Name) (i : Instr) (m : Option Mention) (start : Start) (near : steady_instr labels sets base start i (Some (to_label to)) ≡ true) where
-  abbrev SteadyRec : List Line → Type 0
+  abbrev SteadyRec : List ListingLine → Type 0
   SteadyRec ls = (aims : List (Option Name)) (here : Start) (p : ℕ) → slice_get (places_of ls) p ≡ Some (Op i m) → slice_get (places_begin (starts_from here ls) ls) p ≡ Some start
       → all_steady labels sets base here (now_of [] aims ls) ≡ true → all_steady labels sets base here (now_of [] (slice_set aims p (Some to)) ls) ≡ true
 
   -- the branch's line itself
-  branch_stays : (a : Option Name) (l : Line) (j : Instr) (k : Option Mention) (rest : List Line) (here : Start) → l.statement ≡ Runs j k → j ≡ i → here ≡ start
+  branch_stays : (a : Option Name) (l : ListingLine) (j : Instr) (k : Option Mention) (rest : List ListingLine) (here : Start) → l.statement ≡ Instruction j k → j ≡ i → here ≡ start
       → all_steady labels sets base here (line_now false a l ++ rest) ≡ true → all_steady labels sets base here (line_now false (Some to) l ++ rest) ≡ true
   branch_stays a l j k rest here e f g h =
       let parts = and_parts _ _ (sym (op_steady labels sets base a l j k rest here e) ∙ h) in
@@ -157,13 +157,13 @@ module _ (labels : Name → Option Start) (sets : Name → Option ℕ) (base : �
       op_steady labels sets base (Some to) l j k rest here e ∙ and_from _ _ own parts.1
 
   -- a line before it
-  past_stays : (a : Option Name) (l : Line) (j : Instr) (k : Option Mention) (rest new : List Line) (here : Start) → l.statement ≡ Runs j k → (all_steady labels sets base (behind here l.statement) rest ≡ true → all_steady labels sets base (behind here l.statement) new ≡ true)
+  past_stays : (a : Option Name) (l : ListingLine) (j : Instr) (k : Option Mention) (rest new : List ListingLine) (here : Start) → l.statement ≡ Instruction j k → (all_steady labels sets base (behind here l.statement) rest ≡ true → all_steady labels sets base (behind here l.statement) new ≡ true)
       → all_steady labels sets base here (line_now false a l ++ rest) ≡ true → all_steady labels sets base here (line_now false a l ++ new) ≡ true
   past_stays a l j k rest new here e f h =
       let parts = and_parts _ _ (sym (op_steady labels sets base a l j k rest here e) ∙ h) in
       op_steady labels sets base a l j k new here e ∙ and_from _ _ parts.0 (f parts.1)
 
-  op_stays : (l : Line) (j : Instr) (k : Option Mention) (ls : List Line) → l.statement ≡ Runs j k → SteadyRec ls → (aims : List (Option Name)) (here : Start) (p : ℕ) → slice_get (Op j k ∷ places_of ls) p ≡ Some (Op i m)
+  op_stays : (l : ListingLine) (j : Instr) (k : Option Mention) (ls : List ListingLine) → l.statement ≡ Instruction j k → SteadyRec ls → (aims : List (Option Name)) (here : Start) (p : ℕ) → slice_get (Op j k ∷ places_of ls) p ≡ Some (Op i m)
       → slice_get (here ∷ places_begin (starts_from (behind here l.statement) ls) ls) p ≡ Some start
       → all_steady labels sets base here (line_now false (aim_at aims 0) l ++ now_of [] (drop 1 aims) ls) ≡ true
       → all_steady labels sets base here (line_now false (aim_at (slice_set aims p (Some to)) 0) l ++ now_of [] (drop 1 (slice_set aims p (Some to))) ls) ≡ true
@@ -174,7 +174,7 @@ module _ (labels : Name → Option Start) (sets : Name → Option ℕ) (base : �
       branch_stays a l j k (now_of [] os ls) here e is (same_Some here start g) h
   op_stays l j k ls e rec (a ∷ os) here (suc p) f g h = past_stays a l j k (now_of [] os ls) (now_of [] (slice_set os p (Some to)) ls) here e (rec os (behind here l.statement) p f g) h
 
-  other_stays : (l : Line) (s : Statement) (ls : List Line) → is_op s ≡ false → SteadyRec ls → (aims : List (Option Name)) (here : Start) (p : ℕ) → slice_get (places_in s ++ places_of ls) p ≡ Some (Op i m)
+  other_stays : (l : ListingLine) (s : Statement) (ls : List ListingLine) → is_op s ≡ false → SteadyRec ls → (aims : List (Option Name)) (here : Start) (p : ℕ) → slice_get (places_in s ++ places_of ls) p ≡ Some (Op i m)
       → slice_get (replicate (length (places_in s)) here ++ places_begin (starts_from (behind here l.statement) ls) ls) p ≡ Some start
       → all_steady labels sets base here (l ∷ now_of (drop (length (places_in s)) []) (drop (length (places_in s)) aims) ls) ≡ true
       → all_steady labels sets base here (l ∷ now_of (drop (length (places_in s)) []) (drop (length (places_in s)) (slice_set aims p (Some to))) ls) ≡ true
@@ -195,27 +195,27 @@ module _ (labels : Name → Option Start) (sets : Name → Option ℕ) (base : �
       ∙ ap (λ (x : List (Option Name)). all_steady labels sets base next (now_of [] x ls)) (drop_set n aims q p (Some to) is)
       ∙ new)
 
-  line_stays : (l : Line) (s : Statement) (ls : List Line) → l.statement ≡ s → SteadyRec ls → (aims : List (Option Name)) (here : Start) (p : ℕ) → slice_get (places_in s ++ places_of ls) p ≡ Some (Op i m)
+  line_stays : (l : ListingLine) (s : Statement) (ls : List ListingLine) → l.statement ≡ s → SteadyRec ls → (aims : List (Option Name)) (here : Start) (p : ℕ) → slice_get (places_in s ++ places_of ls) p ≡ Some (Op i m)
       → slice_get (replicate (length (places_in s)) here ++ places_begin (starts_from (behind here l.statement) ls) ls) p ≡ Some start
       → all_steady labels sets base here (if is_op s then line_now false (aim_at aims 0) l ++ now_of [] (drop 1 aims) ls else l ∷ now_of (drop (length (places_in s)) []) (drop (length (places_in s)) aims) ls) ≡ true
       → all_steady labels sets base here (if is_op s then line_now false (aim_at (slice_set aims p (Some to)) 0) l ++ now_of [] (drop 1 (slice_set aims p (Some to))) ls else l ∷ now_of (drop (length (places_in s)) []) (drop (length (places_in s)) (slice_set aims p (Some to))) ls) ≡ true
-  line_stays l (Runs j k) ls e rec aims here p f g h = op_stays l j k ls e rec aims here p f g h
+  line_stays l (Instruction j k) ls e rec aims here p f g h = op_stays l j k ls e rec aims here p f g h
   line_stays l Nothing ls e rec aims here p f g h = other_stays l Nothing ls refl rec aims here p f g h
   line_stays l (Words vs) ls e rec aims here p f g h = other_stays l (Words vs) ls refl rec aims here p f g h
   line_stays l (Aligns size most) ls e rec aims here p f g h = other_stays l (Aligns size most) ls refl rec aims here p f g h
   line_stays l (Sets name address) ls e rec aims here p f g h = other_stays l (Sets name address) ls refl rec aims here p f g h
 
-  all_stays : (ls : List Line) → SteadyRec ls
+  all_stays : (ls : List ListingLine) → SteadyRec ls
   all_stays [] aims here p f g h = h
   all_stays (l ∷ ls) aims here p f g h = line_stays l l.statement ls refl (all_stays ls) aims here p f g h
 
 -- the lines stay steady where the branch surely stays within reach
-pub aimed_steady : (base : ℕ) (ls : List Line) (aims : List (Option Name)) (p : ℕ) (i : Instr) (m : Option Mention) (to : Name) → slice_get (places_of ls) p ≡ Some (Op i m) → IsSteadyTo base ls p i to
+pub aimed_steady : (base : ℕ) (ls : List ListingLine) (aims : List (Option Name)) (p : ℕ) (i : Instr) (m : Option Mention) (to : Name) → slice_get (places_of ls) p ≡ Some (Op i m) → IsSteadyTo base ls p i to
     → IsSteady base (now_of [] aims ls) → IsSteady base (now_of [] (slice_set aims p (Some to)) ls)
 aimed_steady base ls aims p i m to e r h =
     let here : Start = first base in
-    let old : List Line = now_of [] aims ls in
-    let new : List Line = now_of [] (slice_set aims p (Some to)) ls in
+    let old : List ListingLine = now_of [] aims ls in
+    let new : List ListingLine = now_of [] (slice_set aims p (Some to)) ls in
     let a = whole_alike ls aims in
     let b = whole_alike ls (slice_set aims p (Some to)) in
     let near : steady_aim base r.start i (labels_in base old to) (sets_in old to) 0 ≡ true =
@@ -236,7 +236,7 @@ abbrev nones : List Bool → List Bool
 nones gs = replicate (length gs) false
 
 -- places that are marked as kept are so without a mark
-none_gone : (ls : List Line) (k : ℕ) (aims : List (Option Name)) → now_of (replicate k false) aims ls ≡ now_of [] aims ls
+none_gone : (ls : List ListingLine) (k : ℕ) (aims : List (Option Name)) → now_of (replicate k false) aims ls ≡ now_of [] aims ls
 none_gone [] k aims = refl
 none_gone (l ∷ ls) k aims =
     let n : ℕ = length (places_in l.statement) in
@@ -244,11 +244,11 @@ none_gone (l ∷ ls) k aims =
       | true ↦
           ap (λ (g : Bool). line_now g (aim_at aims 0) l ++ now_of (drop 1 (replicate k false)) (drop 1 aims) ls) (unmarked k 0)
           ∙ ap (λ (g : List Bool). line_now false (aim_at aims 0) l ++ now_of g (drop 1 aims) ls) (none_dropped 1 k)
-          ∙ ap (λ (x : List Line). line_now false (aim_at aims 0) l ++ x) (none_gone ls (k - 1) (drop 1 aims))
+          ∙ ap (λ (x : List ListingLine). line_now false (aim_at aims 0) l ++ x) (none_gone ls (k - 1) (drop 1 aims))
       | false ↦
-          ap (λ (g : List Bool). (let x : List Line = l ∷ now_of g (drop n aims) ls in x)) (none_dropped n k)
-          ∙ ap (λ (x : List Line). (let y : List Line = l ∷ x in y)) (none_gone ls (k - n) (drop n aims))
-          ∙ ap (λ (g : List Bool). (let x : List Line = l ∷ now_of g (drop n aims) ls in x)) (sym (none_behind n))
+          ap (λ (g : List Bool). (let x : List ListingLine = l ∷ now_of g (drop n aims) ls in x)) (none_dropped n k)
+          ∙ ap (λ (x : List ListingLine). (let y : List ListingLine = l ∷ x in y)) (none_gone ls (k - n) (drop n aims))
+          ∙ ap (λ (g : List Bool). (let x : List ListingLine = l ∷ now_of g (drop n aims) ls in x)) (sym (none_behind n))
     ]
 
 set_behind : (front gs : List Bool) → slice_set (front ++ (false ∷ gs)) (length front) true ≡ front ++ (true ∷ gs)
@@ -269,13 +269,13 @@ longer : (front : List Bool) (g : Bool) (gs : List Bool) → length front < leng
 longer [] g gs = omega arith
 longer (f ∷ fs) g gs = let r = longer fs g gs in omega arith
 
-module _ (base : ℕ) (ls : List Line) (aims : List (Option Name)) where
+module _ (base : ℕ) (ls : List ListingLine) (aims : List (Option Name)) where
   -- one instruction goes
   one_gone : (front gs : List Bool) → OpsGone (front ++ (true ∷ gs)) (places_of ls) → IsSteady base (now_of (front ++ (false ∷ nones gs)) aims ls) → IsSteady base (now_of (front ++ (true ∷ nones gs)) aims ls)
   one_gone front gs o h =
       let old : List Bool = front ++ (false ∷ nones gs) in
       let p : ℕ = length front in
-      let lines : List Line = now_of old aims ls in
+      let lines : List ListingLine = now_of old aims ls in
       let ops : OpsGone old (places_of ls) = λ q e. o q (fewer_gone front (true ∷ gs) q e) in
       let kept : is_gone old p ≡ false = marked_behind front (nones gs) false in
       let op : is_op_place (slice_get (places_of ls) p) ≡ true = o p (marked_behind front gs true) in

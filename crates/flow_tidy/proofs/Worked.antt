@@ -9,9 +9,9 @@ use Rattle.thumb_instr.specs.declared.within.General.{General}
 use Rattle.thumb_instr.specs.declared.within.Within.{Within}
 use Rattle.thumb_instr.specs.declared.operation.Condition.{Condition}
 use Rattle.thumb_instr.specs.declared.operation.ByteOperation.TheVariants as byte
-use Rattle.thumb_instr.specs.declared.operation.Hint.TheVariants as hint
+use Rattle.thumb_instr.specs.declared.operation.HintOperation.TheVariants as hint
 use Rattle.thumb_instr.specs.Shape.{condition_uses, uses_of, writes_of}
-use Rattle.thumb_model.specs.Listing.{Name, Mention, Op, Line, Code, code_of, place_of, is_call_instr, IsPoint}
+use Rattle.thumb_model.specs.Listing.{Name, Mention, Op, ListingLine, Code, code_of, place_of, is_call_instr, IsPoint}
 use Rattle.thumb_model.specs.States.{registers_left}
 use Rattle.thumb_model.specs.Steps.{aim_of}
 use Rattle.thumb_model.specs.Flow.{Way, way, Onward, AnyPoint, Out, jump_way, ways, Follows}
@@ -108,14 +108,14 @@ branch_settled code p q i m h r g ne d = record {
 -- ---- a change that comes first ----
 
 -- no line has bytes
-abbrev AreBare : List Line → Type 0
+abbrev AreBare : List ListingLine → Type 0
 AreBare [] = Unit {0}
 AreBare (l ∷ ls) = (l.text ≡ []) × AreBare ls
 
-bare_short : (ls : List Line) (k : ℕ) (l : Line) → AreBare ls → slice_get ls k ≡ Some l → line_length l.text ≤ 100
+bare_short : (ls : List ListingLine) (k : ℕ) (l : ListingLine) → AreBare ls → slice_get ls k ≡ Some l → line_length l.text ≤ 100
 bare_short [] k l b h = absurd (cc)
 bare_short (x ∷ ls) zero l b h =
-    let z : line_length l.text ≡ 0 = ap (λ (y : Line). line_length y.text) (sym (same_Some x l h)) ∙ ap line_length b.0 in
+    let z : line_length l.text ≡ 0 = ap (λ (y : ListingLine). line_length y.text) (sym (same_Some x l h)) ∙ ap line_length b.0 in
     omega arith
 bare_short (x ∷ ls) (suc k) l b h = bare_short ls k l b.1 h
 
@@ -168,7 +168,7 @@ module _ (far : Distance 1024) (lr : General) where
   abbrev next_code : Code
   next_code = code_of (next_branch far lr)
 
-  abbrev left : List Line
+  abbrev left : List ListingLine
   left = labels a ∷ labels c ∷ does (instr.Bx lr) ∷ []
 
   abbrev left_code : Code
@@ -205,7 +205,7 @@ module _ (k : Condition) (near : Distance 128) (far : Distance 1024) (d : Within
   move = instr.TwoNumber byte.Mov d n
 
   -- after the first change
-  abbrev middle : List Line
+  abbrev middle : List ListingLine
   middle =
       labels f
       ∷ goes (instr.BranchIf k near) c

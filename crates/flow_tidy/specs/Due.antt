@@ -1,7 +1,7 @@
 -- Places at which a change has its cause.
 use Rattle.std.specs.Prelude.{◌≡◌, ℕ, zero, suc, ◌+◌, ◌<◌, ◌≤◌, ◌&&◌, ◌||◌, not, Bool, true, false, List, length, Option, Some, None, slice_get, slice_set}
 use Rattle.thumb_model.specs.Layout.{Layable}
-use Rattle.thumb_model.specs.Listing.{Name, Place, Op, Word, Line, Code, code_of, is_call_instr}
+use Rattle.thumb_model.specs.Listing.{Name, Place, Op, Word, ListingLine, Code, code_of, is_call_instr}
 use Rattle.code_flow.specs.Marks.{AreMarks}
 use Rattle.label_layout.specs.Addresses.{Addresses, AreAddresses}
 use Rattle.flow_tidy.specs.Tidying.{is_always, Setting, Cause, is_branch, lines_by, GoesToEnd, HasCause, IsFirst, NonePossible}
@@ -56,19 +56,19 @@ before_is_due zero due = due
 before_is_due (suc p) due = slice_set due p true
 
 -- what is known of lines while they are tidied: where they lie, what is reached, and what is due
-pub record IsKnown (ls : List Line) (addresses : Addresses) (marks dues : List Bool) : Type 0 where
+pub record IsKnown (ls : List ListingLine) (addresses : Addresses) (marks dues : List Bool) : Type 0 where
   pub laid : AreAddresses ls addresses
   pub layable : Layable addresses.base ls
   pub reached : AreMarks (code_of ls) marks
   pub due : AreDue (code_of ls) dues
 
 -- the lines after the first change, which is made at this place
-pub record IsNextAt (s : Setting) (p : ℕ) (ls new : List Line) : Type 0 where
+pub record IsNextAt (s : Setting) (p : ℕ) (ls new : List ListingLine) : Type 0 where
   pub cause : Cause
   pub first : IsFirst s (record { place = p; cause = cause }) ls
   pub lines : new ≡ lines_by s p cause ls
 
 -- the lines after the first change with its place, where one is possible
-abbrev pub IsFoundNext : Setting → List Line → Option Found → Type 0
+abbrev pub IsFoundNext : Setting → List ListingLine → Option Found → Type 0
 IsFoundNext s ls None = NonePossible s ls
 IsFoundNext s ls (Some found) = IsNextAt s found.place ls found.changed.listing × IsMovedTo s.base found.changed.listing found.changed.moved

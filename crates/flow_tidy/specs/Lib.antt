@@ -1,6 +1,6 @@
 pub mod ChainEnds
 pub mod Due
-pub mod Ground
+pub mod WidestLayout
 pub mod Halves
 pub mod Laws
 pub mod Made

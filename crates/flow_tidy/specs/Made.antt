@@ -1,6 +1,6 @@
 -- What each step of tidying finds or makes, as the code tells it.
 use Rattle.std.specs.Prelude.{◌≡◌, ℕ, ◌≤◌, ◌==◌, not, Bool, List, ◌++◌, length, Option, Some, None, is_some, option_and_then, slice_get, if◌then◌else◌}
-use Rattle.thumb_model.specs.Listing.{Name, Place, Op, Word, Line, Code, place_of}
+use Rattle.thumb_model.specs.Listing.{Name, Place, Op, Word, ListingLine, Code, place_of}
 use Rattle.thumb_model.specs.Layout.{Layable}
 use Rattle.label_layout.specs.Addresses.{Addresses, AreAddresses}
 use Rattle.flow_tidy.specs.declared.found.Changed.{Changed}
@@ -41,35 +41,35 @@ abbrev pub is_no_newline : ℕ → Bool
 is_no_newline b = not (b == 10)
 
 -- no line is longer
-abbrev pub AreShort : ℕ → List Line → Type 0
-AreShort longest ls = (k : ℕ) (l : Line) → slice_get ls k ≡ Some l → line_length l.text ≤ longest
+abbrev pub AreShort : ℕ → List ListingLine → Type 0
+AreShort longest ls = (k : ℕ) (l : ListingLine) → slice_get ls k ≡ Some l → line_length l.text ≤ longest
 
 -- there are neither too many lines nor too long ones
-abbrev pub AreWithin : ℕ → ℕ → List Line → Type 0
+abbrev pub AreWithin : ℕ → ℕ → List ListingLine → Type 0
 AreWithin most longest ls = (length ls ≤ most) × AreShort longest ls
 
 -- where lines lie, if that is told
-abbrev pub IsMovedTo : ℕ → List Line → Option Addresses → Type 0
+abbrev pub IsMovedTo : ℕ → List ListingLine → Option Addresses → Type 0
 IsMovedTo base ls None = Unit {0}
 IsMovedTo base ls (Some a) = AreAddresses ls a × (a.base ≡ base)
 
 -- these lines, and if it is told where they lie
-abbrev pub AreLines : ℕ → List Line → Changed → Type 0
+abbrev pub AreLines : ℕ → List ListingLine → Changed → Type 0
 AreLines base ls new = (new.listing ≡ ls) × IsMovedTo base ls new.moved
 
 -- the lines themselves where they are within the limits, and else nothing
-abbrev pub IsWithin : ℕ → ℕ → List Line → Option Changed → Type 0
+abbrev pub IsWithin : ℕ → ℕ → List ListingLine → Option Changed → Type 0
 IsWithin most longest ls None = AreWithin most longest ls → ⊥
 IsWithin most longest ls (Some new) = AreWithin most longest ls × (new.listing ≡ ls) × (new.moved ≡ None)
 
 -- lines that can be laid out and are within the limits
-pub record IsFit (s : Setting) (ls : List Line) : Type 0 where
+pub record IsFit (s : Setting) (ls : List ListingLine) : Type 0 where
   pub layable : Layable s.base ls
   pub few : length ls ≤ s.most_lines
   pub short : AreShort s.longest_line ls
 
 -- the lines themselves where they are fit, and else nothing
-abbrev pub IsAccepted : Setting → List Line → Option Changed → Type 0
+abbrev pub IsAccepted : Setting → List ListingLine → Option Changed → Type 0
 IsAccepted s ls None = IsFit s ls → ⊥
 IsAccepted s ls (Some new) = IsFit s ls × AreLines s.base ls new
 
@@ -79,17 +79,17 @@ abbrev pub change : ℕ → Cause → Change
 change p cause = record { place = p; cause = cause }
 
 -- the lines after the change of this rank at a place, where one is possible
-abbrev pub IsMade : Setting → ℕ → ℕ → List Line → Option Changed → Type 0
+abbrev pub IsMade : Setting → ℕ → ℕ → List ListingLine → Option Changed → Type 0
 IsMade s p r ls None = (o : Cause) → rank o ≡ r → IsPossible s (change p o) ls → ⊥
 IsMade s p r ls (Some new) = (c : Cause) × (rank c ≡ r) × IsPossible s (change p c) ls × AreLines s.base (lines_by s p c ls) new
 
 -- the lines after the change at a place that is tried soonest, where one is possible
-abbrev pub IsMadeAt : Setting → ℕ → List Line → Option Changed → Type 0
+abbrev pub IsMadeAt : Setting → ℕ → List ListingLine → Option Changed → Type 0
 IsMadeAt s p ls None = (o : Cause) → IsPossible s (change p o) ls → ⊥
 IsMadeAt s p ls (Some new) = (c : Cause) × IsPossible s (change p c) ls × ((o : Cause) → IsPossible s (change p o) ls → rank c ≤ rank o) × AreLines s.base (lines_by s p c ls) new
 
 -- so many changes, each the first, lead from the given lines to these
-pub record AreMadeBy (s : Setting) (given ls : List Line) (count : ℕ) : Type 0 where
+pub record AreMadeBy (s : Setting) (given ls : List ListingLine) (count : ℕ) : Type 0 where
   pub changes : List Change
   pub counted : count ≡ length changes
-  pub lead : (more : List Change) (new : List Line) → AreTidied s ls more new → AreTidied s given (changes ++ more) new
+  pub lead : (more : List Change) (new : List ListingLine) → AreTidied s ls more new → AreTidied s given (changes ++ more) new

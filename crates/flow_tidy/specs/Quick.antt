@@ -1,25 +1,25 @@
 -- Tidying by places that stay, as far as each change surely can be made.
 use Rattle.std.specs.Prelude.{◌≡◌, ℕ, ◌+◌, ◌%◌, ◌<◌, ◌≤◌, ◌&&◌, Bool, true, false, List, [], ◌∷◌, length, Some, option_and_then, slice_get, if◌then◌else◌}
 use Rattle.thumb_instr.specs.declared.instr.Instr.{Instr}
-use Rattle.thumb_model.specs.Listing.{Name, Line, code_of, place_of, places_of}
+use Rattle.thumb_model.specs.Listing.{Name, ListingLine, code_of, place_of, places_of}
 use Rattle.thumb_model.specs.Replaced.{is_op}
 use Rattle.code_flow.specs.Marks.{AreMarks}
 use Rattle.kept_places.specs.Marks.{is_gone, rank}
 use Rattle.listing_draft.specs.Drafted.{Drafted, instr_in, lines_now, name_in, now_of, stands}
-use Rattle.listing_draft.specs.Held.{IsDraft}
+use Rattle.listing_draft.specs.Invariant.{IsDraft}
 use Rattle.listing_parser.specs.Grammar.{longest_line, most_lines}
 use Rattle.listing_parser.specs.Parsing.{line_mentioning}
 use Rattle.steady_layout.specs.Steady.{IsSteady}
-use Rattle.flow_tidy.specs.declared.ground.Ground.{Ground}
-use Rattle.flow_tidy.specs.declared.outcome.Outcome.{Outcome}
-use Rattle.flow_tidy.specs.declared.outcome.Outcome.TheVariants as outcome
+use Rattle.flow_tidy.specs.declared.widest_layout.WidestLayout.{WidestLayout}
+use Rattle.flow_tidy.specs.declared.outcome.PlaceOutcome.{PlaceOutcome}
+use Rattle.flow_tidy.specs.declared.outcome.PlaceOutcome.TheVariants as outcome
 use Rattle.flow_tidy.specs.declared.outcome.Redirected.{Redirected}
 use Rattle.flow_tidy.specs.declared.outcome.Redirected.TheVariants as redirected
 use Rattle.flow_tidy.specs.Tidying.{line_length, lines_by, rank as turn, Cause, ToEnd, GoesToEnd, HasCause, IsPossible, setting}
 use Rattle.flow_tidy.specs.Due.{AreDue}
 use Rattle.flow_tidy.specs.Halves.{wide_of}
 use Rattle.flow_tidy.specs.Made.{change, label_of_branch}
-use Rattle.flow_tidy.specs.Ground.{IsGround, IsSteadyTo}
+use Rattle.flow_tidy.specs.WidestLayout.{IsWidestLayout, IsSteadyTo}
 
 -- of marks of all places, those of the places that are kept
 abbrev pub left : List Bool → List Bool → List Bool
@@ -35,25 +35,25 @@ some_name [] = false
 some_name (n ∷ ns) = true
 
 -- how many lines a line counts for: two where it may leave one for its labels
-abbrev pub counts_for : Line → ℕ
+abbrev pub counts_for : ListingLine → ℕ
 counts_for l = if is_op l.statement && some_name l.names then 2 else 1
 
-abbrev pub room_taken : List Line → ℕ
+abbrev pub room_taken : List ListingLine → ℕ
 room_taken [] = 0
 room_taken (l ∷ ls) = counts_for l + room_taken ls
 
 -- each line is short, and so is what stays of it for its labels
-abbrev pub AllShort : ℕ → List Line → Type 0
+abbrev pub AllShort : ℕ → List ListingLine → Type 0
 AllShort longest [] = Unit {0}
 AllShort longest (l ∷ ls) = (line_length l.text ≤ longest) × (line_length l.front ≤ longest) × AllShort longest ls
 
 -- lines that stay few and short, whichever instructions go
-pub record HaveRoom (most longest : ℕ) (ls : List Line) : Type 0 where
+pub record HaveRoom (most longest : ℕ) (ls : List ListingLine) : Type 0 where
   pub few : room_taken ls ≤ most
   pub short : AllShort longest ls
 
 -- lines that can be laid out and stay within the limits, whichever instructions go
-pub record IsSure (base : ℕ) (ls : List Line) : Type 0 where
+pub record IsSure (base : ℕ) (ls : List ListingLine) : Type 0 where
   pub whole_words : base % 4 ≡ 0
   pub steady : IsSteady base ls
   pub room : HaveRoom most_lines longest_line ls
@@ -68,13 +68,13 @@ pub record IsQuick (d : Drafted) (marks dues : List Bool) : Type 0 where
   pub due : AreDue (code_of (lines_now d)) (left d.gone dues)
 
 -- the lines with none of the instructions gone
-abbrev pub whole : Drafted → List Line
+abbrev pub whole : Drafted → List ListingLine
 whole d = now_of [] d.aims d.given
 
--- what stays while changes are made: the lines now are sure, those with none of the instructions gone are steady, the ground is that of the given lines, and no call of a label is gone
-pub record IsSafe (g : Ground) (d : Drafted) : Type 0 where
+-- what stays while changes are made: the lines now are sure, those with none of the instructions gone are steady, the widest layout is that of the given lines, and no call of a label is gone
+pub record IsSafe (g : WidestLayout) (d : Drafted) : Type 0 where
   pub draft : IsDraft d
-  pub ground : IsGround d.given g
+  pub widest : IsWidestLayout d.given g
   pub sure : IsSure g.base (lines_now d)
   pub steady : IsSteady g.base (whole d)
   pub narrow : (p : ℕ) → is_gone d.gone p ≡ true → wide_of (slice_get (places_of d.given) p) ≡ 0
@@ -103,11 +103,11 @@ pub record MayAim (base : ℕ) (d : Drafted) (p : ℕ) (name : Name) : Type 0 wh
 -- ---- changes ----
 
 -- no change is possible at a place of lines
-abbrev pub NoneAt : ℕ → List Line → ℕ → Type 0
+abbrev pub NoneAt : ℕ → List ListingLine → ℕ → Type 0
 NoneAt base ls r = (o : Cause) → IsPossible (setting base) (change r o) ls → ⊥
 
 -- a change is made at a place of lines, for the cause that is tried soonest of those for which one is possible there
-pub record ChangesSoonest (base : ℕ) (ls new : List Line) (r : ℕ) : Type 0 where
+pub record ChangesSoonest (base : ℕ) (ls new : List ListingLine) (r : ℕ) : Type 0 where
   pub cause : Cause
   pub has : HasCause (code_of ls) r cause
   pub soonest : (o : Cause) → IsPossible (setting base) (change r o) ls → turn cause ≤ turn o
@@ -120,13 +120,13 @@ IsRedirected redirected.Made base d p new = ChangesSoonest base (lines_now d) (l
 IsRedirected redirected.Unsure base d p new = new ≡ d
 
 -- what became of a draft at a place, if that is kept
-abbrev pub IsOutcomeAt : Outcome → ℕ → Drafted → ℕ → Drafted → Type 0
+abbrev pub IsOutcomeAt : PlaceOutcome → ℕ → Drafted → ℕ → Drafted → Type 0
 IsOutcomeAt outcome.Nothing base d p new = (new ≡ d) × (is_gone d.gone p ≡ false → NoneAt base (lines_now d) (rank d.gone p))
 IsOutcomeAt outcome.Made base d p new = ChangesSoonest base (lines_now d) (lines_now new) (rank d.gone p)
 IsOutcomeAt outcome.Unsure base d p new = new ≡ d
 
 -- and of its lines at the first place at which a change is possible
-abbrev pub IsOutcome : Outcome → ℕ → List Line → List Line → Type 0
+abbrev pub IsOutcome : PlaceOutcome → ℕ → List ListingLine → List ListingLine → Type 0
 IsOutcome outcome.Nothing base ls new = (new ≡ ls) × ((r : ℕ) → NoneAt base ls r)
 IsOutcome outcome.Made base ls new = (r : ℕ) × ChangesSoonest base ls new r × ((k : ℕ) → k < r → NoneAt base ls k)
 IsOutcome outcome.Unsure base ls new = new ≡ ls

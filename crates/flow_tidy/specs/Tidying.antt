@@ -2,7 +2,7 @@
 use Rattle.std.specs.Prelude.{◌≡◌, ℕ, zero, suc, Bool, true, false, Some, IsSome, slice_get, ◌+◌, ◌≤◌, ◌==◌, List, [], ◌∷◌, length, Option, None, if◌then◌else◌, ◌*◌}
 use Rattle.thumb_instr.specs.declared.instr.Instr.{Instr}
 use Rattle.thumb_instr.specs.declared.instr.Instr.TheVariants as instr
-use Rattle.thumb_model.specs.Listing.{Name, Mention, Op, Code, place_of, Line, code_of, is_call_instr, places_of}
+use Rattle.thumb_model.specs.Listing.{Name, Mention, Op, Code, place_of, ListingLine, code_of, is_call_instr, places_of}
 use Rattle.thumb_model.specs.Steps.{aim_of}
 use Rattle.thumb_model.specs.Layout.{Layable}
 use Rattle.thumb_model.specs.Replaced.{replaced_lines}
@@ -67,16 +67,16 @@ pub record Change : Type 0 where
 -- ---- lines ----
 
 -- the lines without the instruction at place p: its labels stay
-abbrev pub lines_without : Setting → ℕ → List Line → List Line
+abbrev pub lines_without : Setting → ℕ → List ListingLine → List ListingLine
 lines_without s p ls = replaced_lines (λ i. s.write i None) p 1 [] ls
 
-abbrev pub lines_by : Setting → ℕ → Cause → List Line → List Line
+abbrev pub lines_by : Setting → ℕ → Cause → List ListingLine → List ListingLine
 lines_by s p ToNext ls = lines_without s p ls
 lines_by s p (ToEnd label) ls = aimed_lines s.write p label ls
 lines_by s p Idle ls = lines_without s p ls
 
 -- the lines after a change
-abbrev pub lines_after : Setting → Change → List Line → List Line
+abbrev pub lines_after : Setting → Change → List ListingLine → List ListingLine
 lines_after s c ls = lines_by s c.place c.cause ls
 
 -- ---- where a change is possible ----
@@ -121,12 +121,12 @@ line_length [] = 0
 line_length (b ∷ bs) = if b == 10 then 0 else line_length bs + 1
 
 -- the change has its cause; afterwards each code label is one, the lines can be laid out, and they are within the limits
-pub record IsPossible (s : Setting) (c : Change) (ls : List Line) : Type 0 where
+pub record IsPossible (s : Setting) (c : Change) (ls : List ListingLine) : Type 0 where
   pub cause : HasCause (code_of ls) c.place c.cause
   pub labels_stay : (label : Name) → IsSome (place_of (code_of ls) label) → IsSome (place_of (code_of (lines_after s c ls)) label)
   pub layable : Layable s.base (lines_after s c ls)
   pub few : length (lines_after s c ls) ≤ s.most_lines
-  pub short : (k : ℕ) (l : Line) → slice_get (lines_after s c ls) k ≡ Some l → line_length l.text ≤ s.longest_line
+  pub short : (k : ℕ) (l : ListingLine) → slice_get (lines_after s c ls) k ≡ Some l → line_length l.text ≤ s.longest_line
 
 -- ---- tidying ----
 
@@ -137,22 +137,22 @@ rank (ToEnd label) = 1
 rank Idle = 2
 
 -- no other change comes before: at a lesser place, or for a cause that is tried sooner
-pub record IsFirst (s : Setting) (c : Change) (ls : List Line) : Type 0 where
+pub record IsFirst (s : Setting) (c : Change) (ls : List ListingLine) : Type 0 where
   pub possible : IsPossible s c ls
   pub least_place : (o : Change) → IsPossible s o ls → c.place ≤ o.place
   pub soonest : (o : Change) → IsPossible s o ls → o.place ≡ c.place → rank c.cause ≤ rank o.cause
 
 -- no change is possible any more
-abbrev pub NonePossible : Setting → List Line → Type 0
+abbrev pub NonePossible : Setting → List ListingLine → Type 0
 NonePossible s ls = (o : Change) → IsPossible s o ls → ⊥
 
 -- these changes, each the first that is possible, lead to lines in which none is
-abbrev pub AreTidied : Setting → List Line → List Change → List Line → Type 0
+abbrev pub AreTidied : Setting → List ListingLine → List Change → List ListingLine → Type 0
 AreTidied s ls [] new = NonePossible s ls × (new ≡ ls)
 AreTidied s ls (c ∷ cs) new = IsFirst s c ls × AreTidied s (lines_after s c ls) cs new
 
 -- each change was possible in the lines as they then were
-abbrev pub AllPossible : Setting → List Line → List Change → Type 0
+abbrev pub AllPossible : Setting → List ListingLine → List Change → Type 0
 AllPossible s ls [] = Unit {0}
 AllPossible s ls (c ∷ cs) = IsPossible s c ls × AllPossible s (lines_after s c ls) cs
 
@@ -163,18 +163,18 @@ abbrev pub setting : ℕ → Setting
 setting base = record { base = base; most_lines = most_lines; longest_line = longest_line; write = line_mentioning }
 
 -- these lines are the given ones tidied, by so many changes
-pub record AreTidiedBy (base : ℕ) (given new : List Line) (count : ℕ) : Type 0 where
+pub record AreTidiedBy (base : ℕ) (given new : List ListingLine) (count : ℕ) : Type 0 where
   pub changes : List Change
   pub are : AreTidied (setting base) given changes new
   pub counted : count ≡ length changes
 
 -- why the given lines are refused: the first of them that cannot be laid out, by what its first fault is
-abbrev pub IsRefusal : ℕ → List Line → TidyError → Type 0
+abbrev pub IsRefusal : ℕ → List ListingLine → TidyError → Type 0
 IsRefusal base lines (error.Line number k) = first_fault base lines ≡ Some (number, fault_of k)
 IsRefusal base lines error.Memory = Unit {0}
 
 -- how many places are visited at most, for what is reached in so many places and after each of so many changes
-abbrev pub tidying_cost : List Line → ℕ → ℕ
+abbrev pub tidying_cost : List ListingLine → ℕ → ℕ
 tidying_cost lines changes = (changes + 1) * (length (places_of lines) * (length (places_of lines) + 2))
 
 -- a layout's error as one of tidying

@@ -7,22 +7,22 @@ use Rattle.thumb_instr.specs.declared.within.General.{General}
 use Rattle.thumb_instr.specs.declared.within.Within.{Within}
 use Rattle.thumb_instr.specs.declared.operation.Condition.{Condition}
 use Rattle.thumb_instr.specs.declared.operation.ByteOperation.TheVariants as byte
-use Rattle.thumb_instr.specs.declared.operation.Hint.TheVariants as hint
-use Rattle.thumb_model.specs.Listing.{Name, Nothing, Runs, Line}
+use Rattle.thumb_instr.specs.declared.operation.HintOperation.TheVariants as hint
+use Rattle.thumb_model.specs.Listing.{Name, Nothing, Instruction, ListingLine}
 use Rattle.flow_tidy.specs.Tidying.{Setting, Change, Cause, ToNext, ToEnd, Idle, AreTidied}
 
 -- from address 0, with room enough; bytes are left out
 abbrev pub roomy : Setting
 roomy = record { base = 0; most_lines = 100; longest_line = 100; write = λ i mention. [] }
 
-abbrev pub labels : Name → Line
+abbrev pub labels : Name → ListingLine
 labels name = record { names = name ∷ []; statement = Nothing; text = []; front = [] }
 
-abbrev pub does : Instr → Line
-does i = record { names = []; statement = Runs i None; text = []; front = [] }
+abbrev pub does : Instr → ListingLine
+does i = record { names = []; statement = Instruction i None; text = []; front = [] }
 
-abbrev pub goes : Instr → Name → Line
-goes i name = record { names = []; statement = Runs i (Some (record { name = name; plus = 0 })); text = []; front = [] }
+abbrev pub goes : Instr → Name → ListingLine
+goes i name = record { names = []; statement = Instruction i (Some (record { name = name; plus = 0 })); text = []; front = [] }
 
 abbrev pub change : ℕ → Cause → Change
 change p cause = record { place = p; cause = cause }
@@ -41,7 +41,7 @@ abbrev pub f : Name
 f = 102 ∷ []
 
 -- f: beq a; movs; b e; nop; a: b c; e: bx lr; c: bx lr. The first branch gets c, and then the nop goes
-abbrev pub crossing : Condition → Distance 128 → Distance 1024 → Within 0 8 → Within 0 256 → General → List Line
+abbrev pub crossing : Condition → Distance 128 → Distance 1024 → Within 0 8 → Within 0 256 → General → List ListingLine
 crossing k near far d n lr =
     labels f
     ∷ goes (instr.BranchIf k near) a
@@ -56,7 +56,7 @@ crossing k near far d n lr =
     ∷ does (instr.Bx lr)
     ∷ []
 
-abbrev pub crossed : Condition → Distance 128 → Distance 1024 → Within 0 8 → Within 0 256 → General → List Line
+abbrev pub crossed : Condition → Distance 128 → Distance 1024 → Within 0 8 → Within 0 256 → General → List ListingLine
 crossed k near far d n lr =
     labels f
     ∷ goes (instr.BranchIf k near) c
@@ -71,15 +71,15 @@ crossed k near far d n lr =
     ∷ []
 
 -- a: b c; c: bx lr. The branch goes
-abbrev pub next_branch : Distance 1024 → General → List Line
+abbrev pub next_branch : Distance 1024 → General → List ListingLine
 next_branch far lr = labels a ∷ goes (instr.Branch far) c ∷ labels c ∷ does (instr.Bx lr) ∷ []
 
 -- a: b a
-abbrev pub loop : Distance 1024 → List Line
+abbrev pub loop : Distance 1024 → List ListingLine
 loop far = labels a ∷ goes (instr.Branch far) a ∷ []
 
 -- f: bx lr; bl f; bx lr. Nothing reaches the call, but it stays
-abbrev pub idle_call : Distance 8388608 → General → List Line
+abbrev pub idle_call : Distance 8388608 → General → List ListingLine
 idle_call farthest lr = labels f ∷ does (instr.Bx lr) ∷ goes (instr.Call farthest) f ∷ does (instr.Bx lr) ∷ []
 
 pub record SmallListings : Type 0 where

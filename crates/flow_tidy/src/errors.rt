@@ -1,5 +1,5 @@
 //! Tidying refuses nothing but a listing that can't be laid out as it was given.
-use label_layout::{Kind, LayoutError};
+use label_layout::{LayoutError, LayoutFault};
 use std::alloc::{AllocError, AllocFailed};
 use thiserror::Error;
 
@@ -9,7 +9,7 @@ pub enum TidyError {
     /// The first line of the given listing that cannot be laid out, by its number from 1, and why: what it mentions is out of its reach (`Range`), or not at a
     /// multiple of 4 (`Align`).
     #[error("line {number}: {kind:?}")]
-    Line { number: u64, kind: Kind },
+    Line { number: u64, kind: LayoutFault },
     /// Want of memory, of the process's or of the Code region of the system address map (0x00000000 to 0x1FFFFFFF).
     #[error("out of memory")]
     Memory,

@@ -8,7 +8,6 @@ mod drafted;
 mod due;
 mod errors;
 mod found;
-mod ground;
 pub mod laws;
 mod limits;
 mod marks;
@@ -18,6 +17,7 @@ mod searching;
 mod settling;
 mod tidied;
 mod tidying;
+mod widest_layout;
 
 pub use errors::TidyError;
 pub use tidied::Tidy;

@@ -11,7 +11,7 @@ ghost use Rattle.flow_tidy.specs.Quick.{counts_for, HaveRoom};
 use crate::chains::is_branch;
 use crate::found::Changed;
 use label_layout::{LayoutError, layout};
-use listing_parser::{Line, Listing, Memory, Statement};
+use listing_parser::{Listing, ListingLine, Memory, Statement};
 use std::alloc::Global;
 use thumb_instr::Instr;
 
@@ -42,7 +42,7 @@ fn is_short(text: &[u8]) -> bool
 }
 
 /// Whether no line is too long.
-fn are_short(lines: &[Line]) -> bool
+fn are_short(lines: &[ListingLine]) -> bool
     ensures { IsTrue result ↔ AreShort longest_line (map line_view lines.now) }
 {
     for line in lines {
@@ -54,7 +54,7 @@ fn are_short(lines: &[Line]) -> bool
 }
 
 /// Whether there are neither too many lines nor too long ones.
-fn are_within_limits(lines: &[Line]) -> bool
+fn are_within_limits(lines: &[ListingLine]) -> bool
     ensures { IsTrue result ↔ AreWithin most_lines longest_line (map line_view lines.now) }
 {
     lines.len() <= MOST_LINES && are_short(lines)
@@ -96,17 +96,17 @@ pub(crate) fn accepted(
 }
 
 /// How many lines a line counts for: two where it may leave one for its labels.
-fn counts_for(line: &Line) -> usize
+fn counts_for(line: &ListingLine) -> usize
     ensures { result ≡ counts_for (line_view line.now) }
 {
     match &line.statement {
-        Statement::Runs { .. } => { if line.names.is_empty() { 1 } else { 2 } }
+        Statement::Instruction { .. } => { if line.names.is_empty() { 1 } else { 2 } }
         _ => 1,
     }
 }
 
 /// Whether lines surely stay within the limits, whichever of their instructions go.
-pub(crate) fn leave_room(lines: &[Line]) -> bool
+pub(crate) fn leave_room(lines: &[ListingLine]) -> bool
     ensures { result ≡ true → HaveRoom most_lines longest_line (map line_view lines.now) }
 {
     let mut taken = 0;

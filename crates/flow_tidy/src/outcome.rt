@@ -2,7 +2,7 @@
 
 /// What became of a place, or of the first place at which a change is possible.
 #[derive(Clone, Copy, PartialEq, Eq)]
-pub(crate) enum Outcome {
+pub(crate) enum PlaceOutcome {
     /// No change is possible there.
     Nothing,
     /// A change was made.

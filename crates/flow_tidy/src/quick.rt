@@ -17,9 +17,9 @@ ghost use Rattle.flow_tidy.specs.Quick.{left, EndsAt, IsOutcome, IsOutcomeAt, Is
 use crate::chain_ends::{Ends, chain_end};
 use crate::drafted::{is_idle, is_next, lets_on, target};
 use crate::due::Due;
-use crate::ground::{Ground, is_beyond, reaches};
 use crate::limits::{is_short_branch, leave_room};
-use crate::outcome::{Outcome, Redirected};
+use crate::outcome::{PlaceOutcome, Redirected};
+use crate::widest_layout::{WidestLayout, is_beyond, reaches};
 use code_flow::Reached;
 use listing_draft::Draft;
 use listing_parser::{Listing, Memory};
@@ -73,15 +73,15 @@ fn remove(draft: &mut Draft, due: &mut Due, place: u32)
 fn sure_end(
     alloc: Global,
     draft: &Draft,
-    ground: &Ground,
+    widest: &WidestLayout,
     place: u32,
     last: u32,
 ) -> Result<Option<Vec<u8>>, Memory>
     requires within { place < length draft.now.gone }
     requires kept { is_gone draft.now.gone place ≡ false }
     requires end { EndsAt draft.now place last }
-    requires safe { IsSafe ground.now draft.now }
-    ensures { IfOk result (λ o. IfSome o (λ name. (name_in (stands draft.now last) ≡ Some name.items) × MayAim ground.now.base draft.now place name.items)) }
+    requires safe { IsSafe widest.now draft.now }
+    ensures { IfOk result (λ o. IfSome o (λ name. (name_in (stands draft.now last) ≡ Some name.items) × MayAim widest.now.base draft.now place name.items)) }
 {
     let Some(instr) = draft.instr(place) else {
         return Ok(None);
@@ -89,7 +89,7 @@ fn sure_end(
     let Some(name) = draft.name(last) else {
         return Ok(None);
     };
-    if !reaches(ground, draft.given(), place, &instr, name) {
+    if !reaches(widest, draft.given(), place, &instr, name) {
         return Ok(None);
     }
     if !is_short_branch(&instr, name) {
@@ -100,22 +100,22 @@ fn sure_end(
 }
 
 /// How many half-words lie before a place in the lines now, at least.
-fn halves_before(draft: &Draft, ground: &Ground, place: u32) -> u64
+fn halves_before(draft: &Draft, widest: &WidestLayout, place: u32) -> u64
     requires within { place < length draft.now.gone }
-    requires safe { IsSafe ground.now draft.now }
+    requires safe { IsSafe widest.now draft.now }
     ensures halves { result ≡ halves (places_of (lines_now draft.now)) (rank draft.now.gone place) }
     ensures few { result < 2 ^ 33 }
 {
-    draft.number(place) as u64 + ground.wide[place as usize] as u64
+    draft.number(place) as u64 + widest.wide[place as usize] as u64
 }
 
 /// Whether the branch at a kept place surely doesn't reach the end of its chain. The other place is that of the chain's last branch.
-fn is_out_of_reach(draft: &Draft, ground: &Ground, place: u32, last: u32) -> bool
+fn is_out_of_reach(draft: &Draft, widest: &WidestLayout, place: u32, last: u32) -> bool
     requires within { place < length draft.now.gone }
     requires kept { is_gone draft.now.gone place ≡ false }
     requires end { EndsAt draft.now place last }
-    requires safe { IsSafe ground.now draft.now }
-    ensures { result ≡ true → (label : Name) → IsPossible (setting ground.now.base) (change (rank draft.now.gone place) (ToEnd label)) (lines_now draft.now) → ⊥ }
+    requires safe { IsSafe widest.now draft.now }
+    ensures { result ≡ true → (label : Name) → IsPossible (setting widest.now.base) (change (rank draft.now.gone place) (ToEnd label)) (lines_now draft.now) → ⊥ }
 {
     let Some(instr) = draft.instr(place) else {
         return false;
@@ -129,8 +129,8 @@ fn is_out_of_reach(draft: &Draft, ground: &Ground, place: u32, last: u32) -> boo
     if label >= draft.place_count() {
         return false;
     }
-    let from = halves_before(draft, ground, place);
-    let to = halves_before(draft, ground, label);
+    let from = halves_before(draft, widest, place);
+    let to = halves_before(draft, widest, label);
     match instr {
         Instr::BranchIf { .. } => is_beyond(128, from, to),
         Instr::Branch { .. } => is_beyond(1024, from, to),
@@ -142,7 +142,7 @@ fn is_out_of_reach(draft: &Draft, ground: &Ground, place: u32, last: u32) -> boo
 fn retarget(
     alloc: Global,
     draft: &mut Draft,
-    ground: &Ground,
+    widest: &WidestLayout,
     place: u32,
     last: u32,
 ) -> Result<Redirected, Memory>
@@ -150,19 +150,19 @@ fn retarget(
     requires kept { is_gone draft.old.gone place ≡ false }
     requires later { GoesToNext (code_of (lines_now draft.old)) (rank draft.old.gone place) → ⊥ }
     requires end { EndsAt draft.old place last }
-    requires safe { IsSafe ground.now draft.old }
-    ensures redirected { IfOk result (λ o. IsRedirected o ground.now.base draft.old place draft.new) }
+    requires safe { IsSafe widest.now draft.old }
+    ensures redirected { IfOk result (λ o. IsRedirected o widest.now.base draft.old place draft.new) }
     ensures quick { OnOk result ((marks dues : List Bool) → IsQuick draft.old marks dues → IsQuick draft.new marks dues) }
-    ensures safe { OnOk result (IsSafe ground.now draft.new) }
+    ensures safe { OnOk result (IsSafe widest.now draft.new) }
     ensures ends { OnOk result ((known : List Known) → AreEnds draft.old known → AreEnds draft.new known) }
 {
-    match sure_end(alloc, draft, ground, place, last)? {
+    match sure_end(alloc, draft, widest, place, last)? {
         Some(label) => {
             draft.aim(place, label);
             Ok(Redirected::Made)
         }
         None => {
-            if is_out_of_reach(draft, ground, place, last) {
+            if is_out_of_reach(draft, widest, place, last) {
                 Ok(Redirected::Refused)
             } else {
                 Ok(Redirected::Unsure)
@@ -177,32 +177,32 @@ fn change_idle(
     due: &mut Due,
     ends: &mut Ends,
     reached: &Reached,
-    ground: &Ground,
+    widest: &WidestLayout,
     place: u32,
     is_refused: bool,
-) -> Outcome
+) -> PlaceOutcome
     requires within { place < length draft.old.gone }
     requires kept { is_gone draft.old.gone place ≡ false }
     requires later { GoesToNext (code_of (lines_now draft.old)) (rank draft.old.gone place) → ⊥ }
-    requires refused { (label : Name) → IsPossible (setting ground.now.base) (change (rank draft.old.gone place) (ToEnd label)) (lines_now draft.old) → ⊥ }
+    requires refused { (label : Name) → IsPossible (setting widest.now.base) (change (rank draft.old.gone place) (ToEnd label)) (lines_now draft.old) → ⊥ }
     requires end { is_refused ≡ false → HasEnd (code_of (lines_now draft.old)) (rank draft.old.gone place) → ⊥ }
     requires quick { IsQuick draft.old reached.now due.old }
-    requires safe { IsSafe ground.now draft.old }
+    requires safe { IsSafe widest.now draft.old }
     requires ends { AreEnds draft.old ends.old }
-    ensures outcome { IsOutcomeAt result ground.now.base draft.old place draft.new }
+    ensures outcome { IsOutcomeAt result widest.now.base draft.old place draft.new }
     ensures quick { IsQuick draft.new reached.now due.new }
-    ensures safe { IsSafe ground.now draft.new }
+    ensures safe { IsSafe widest.now draft.new }
     ensures ends { AreEnds draft.new ends.new }
 {
     if is_idle(draft, reached, place) {
         remove(draft, due, place);
         ends.forget();
-        return Outcome::Made;
+        return PlaceOutcome::Made;
     }
     if !is_refused {
         due.take(place);
     }
-    Outcome::Nothing
+    PlaceOutcome::Nothing
 }
 
 /// Makes the change at a kept place that is tried soonest, if it surely can be made.
@@ -212,35 +212,35 @@ fn change_at(
     due: &mut Due,
     ends: &mut Ends,
     reached: &Reached,
-    ground: &Ground,
+    widest: &WidestLayout,
     place: u32,
-) -> Result<Outcome, Memory>
+) -> Result<PlaceOutcome, Memory>
     requires within { place < length draft.old.gone }
     requires kept { is_gone draft.old.gone place ≡ false }
     requires quick { IsQuick draft.old reached.now due.old }
-    requires safe { IsSafe ground.now draft.old }
+    requires safe { IsSafe widest.now draft.old }
     requires ends { AreEnds draft.old ends.old }
-    ensures outcome { IfOk result (λ o. IsOutcomeAt o ground.now.base draft.old place draft.new) }
+    ensures outcome { IfOk result (λ o. IsOutcomeAt o widest.now.base draft.old place draft.new) }
     ensures quick { OnOk result (IsQuick draft.new reached.now due.new) }
-    ensures safe { OnOk result (IsSafe ground.now draft.new) }
+    ensures safe { OnOk result (IsSafe widest.now draft.new) }
     ensures ends { OnOk result (AreEnds draft.new ends.new) }
 {
     let Some(to) = target(draft, place) else {
-        return Ok(change_idle(draft, due, ends, reached, ground, place, false));
+        return Ok(change_idle(draft, due, ends, reached, widest, place, false));
     };
     if is_next(draft, place, to) {
         remove(draft, due, place);
         ends.forget();
-        return Ok(Outcome::Made);
+        return Ok(PlaceOutcome::Made);
     }
     let Some(last) = chain_end(draft, ends, place, to) else {
-        return Ok(change_idle(draft, due, ends, reached, ground, place, false));
+        return Ok(change_idle(draft, due, ends, reached, widest, place, false));
     };
-    let redirected = retarget(alloc, draft, ground, place, last)?;
+    let redirected = retarget(alloc, draft, widest, place, last)?;
     match redirected {
-        Redirected::Refused => Ok(change_idle(draft, due, ends, reached, ground, place, true)),
-        Redirected::Made => Ok(Outcome::Made),
-        Redirected::Unsure => Ok(Outcome::Unsure),
+        Redirected::Refused => Ok(change_idle(draft, due, ends, reached, widest, place, true)),
+        Redirected::Made => Ok(PlaceOutcome::Made),
+        Redirected::Unsure => Ok(PlaceOutcome::Unsure),
     }
 }
 
@@ -251,25 +251,25 @@ fn change_if_due(
     due: &mut Due,
     ends: &mut Ends,
     reached: &Reached,
-    ground: &Ground,
+    widest: &WidestLayout,
     place: u32,
-) -> Result<Outcome, Memory>
+) -> Result<PlaceOutcome, Memory>
     requires within { place < length draft.old.gone }
     requires quick { IsQuick draft.old reached.now due.old }
-    requires safe { IsSafe ground.now draft.old }
+    requires safe { IsSafe widest.now draft.old }
     requires ends { AreEnds draft.old ends.old }
-    ensures outcome { IfOk result (λ o. IsOutcomeAt o ground.now.base draft.old place draft.new) }
+    ensures outcome { IfOk result (λ o. IsOutcomeAt o widest.now.base draft.old place draft.new) }
     ensures quick { OnOk result (IsQuick draft.new reached.now due.new) }
-    ensures safe { OnOk result (IsSafe ground.now draft.new) }
+    ensures safe { OnOk result (IsSafe widest.now draft.new) }
     ensures ends { OnOk result (AreEnds draft.new ends.new) }
 {
     if draft.is_gone(place) {
-        return Ok(Outcome::Nothing);
+        return Ok(PlaceOutcome::Nothing);
     }
     if !due.has(place) {
-        return Ok(Outcome::Nothing);
+        return Ok(PlaceOutcome::Nothing);
     }
-    change_at(alloc, draft, due, ends, reached, ground, place)
+    change_at(alloc, draft, due, ends, reached, widest, place)
 }
 
 /// What becomes of the first place at which a change is possible. Places that are gone or not due are leapt over.
@@ -279,29 +279,29 @@ pub(crate) fn first_change(
     due: &mut Due,
     ends: &mut Ends,
     reached: &Reached,
-    ground: &Ground,
-) -> Result<Outcome, Memory>
+    widest: &WidestLayout,
+) -> Result<PlaceOutcome, Memory>
     requires quick { IsQuick draft.old reached.now due.old }
-    requires safe { IsSafe ground.now draft.old }
+    requires safe { IsSafe widest.now draft.old }
     requires ends { AreEnds draft.old ends.old }
-    ensures outcome { IfOk result (λ o. IsOutcome o ground.now.base (lines_now draft.old) (lines_now draft.new)) }
+    ensures outcome { IfOk result (λ o. IsOutcome o widest.now.base (lines_now draft.old) (lines_now draft.new)) }
     ensures quick { OnOk result (IsQuick draft.new reached.now due.new) }
-    ensures safe { OnOk result (IsSafe ground.now draft.new) }
+    ensures safe { OnOk result (IsSafe widest.now draft.new) }
     ensures ends { OnOk result (AreEnds draft.new ends.new) }
 {
     let places = draft.place_count();
     let from = due.least() as u32;
     let mut place = draft.node(from);
     while place < places {
-        let outcome = change_if_due(alloc, draft, due, ends, reached, ground, place)?;
+        let outcome = change_if_due(alloc, draft, due, ends, reached, widest, place)?;
         match outcome {
-            Outcome::Nothing => {
+            PlaceOutcome::Nothing => {
                 let next = due.next(place + 1);
                 place = draft.node(next);
             }
-            Outcome::Made => return Ok(Outcome::Made),
-            Outcome::Unsure => return Ok(Outcome::Unsure),
+            PlaceOutcome::Made => return Ok(PlaceOutcome::Made),
+            PlaceOutcome::Unsure => return Ok(PlaceOutcome::Unsure),
         }
     }
-    Ok(Outcome::Nothing)
+    Ok(PlaceOutcome::Nothing)
 }

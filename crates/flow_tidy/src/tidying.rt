@@ -8,20 +8,20 @@ ghost use Rattle.code_flow.specs.Marks.{AreMarks};
 ghost use Rattle.label_layout.specs.Addresses.{AreAddresses};
 ghost use Rattle.listing_draft.specs.Drafted.{lines_now};
 ghost use Rattle.flow_tidy.specs.Due.{AreDue};
-ghost use Rattle.flow_tidy.specs.Ground.{IsGround};
+ghost use Rattle.flow_tidy.specs.WidestLayout.{IsWidestLayout};
 ghost use Rattle.flow_tidy.specs.Quick.{left, IsSure};
 ghost use Rattle.flow_tidy.specs.Tidying.{tidying_cost, AreTidiedBy, IsRefusal};
 
 use crate::chain_ends::Ends;
 use crate::due::Due;
 use crate::errors::TidyError;
-use crate::ground::{Ground, ground_of};
 use crate::marks::Marks;
-use crate::outcome::Outcome;
+use crate::outcome::PlaceOutcome;
 use crate::quick::{first_change as first_sure, is_sure};
 use crate::searching::first_change;
 use crate::settling::{laid_out, settle};
 use crate::tidied::Tidy;
+use crate::widest_layout::{WidestLayout, widest_layout_of};
 use code_flow::{Reached, reached};
 use label_layout::{Layout, layout};
 use listing_draft::Draft;
@@ -66,37 +66,37 @@ fn tidied_on(alloc: Global, draft: Draft, base: u32, reached: &Reached) -> Resul
 }
 
 /// What is left of a listing that surely can be laid out whichever of its instructions go: by places that stay, until it is not sure whether a branch may go elsewhere.
-/// The ground is the listing's, and each place at which a change has its cause is due.
+/// The widest layout is the listing's, and each place at which a change has its cause is due.
 fn tidied_by_places(
     alloc: Global,
     listing: Listing,
-    ground: &Ground,
+    widest: &WidestLayout,
     mut due: Due,
     reached: &Reached,
 ) -> Result<Tidy, Memory>
-    requires sure { IsSure ground.now.base listing }
-    requires ground { IsGround listing ground.now }
+    requires sure { IsSure widest.now.base listing }
+    requires widest { IsWidestLayout listing widest.now }
     requires due { AreDue (code_of listing) due }
     requires reached { AreMarks (code_of listing) reached.now }
-    ensures { IfOk result (λ new. AreTidiedBy ground.now.base listing new.listing new.changes) }
+    ensures { IfOk result (λ new. AreTidiedBy widest.now.base listing new.listing new.changes) }
 {
     let mut draft = Draft::new(alloc, listing)?;
     let places = draft.place_count();
     let mut ends = Ends::none(alloc, places)?;
     let mut count = 0;
     loop {
-        let outcome = first_sure(alloc, &mut draft, &mut due, &mut ends, reached, ground)?;
+        let outcome = first_sure(alloc, &mut draft, &mut due, &mut ends, reached, widest)?;
         match outcome {
-            Outcome::Made => count += 1,
-            Outcome::Nothing => {
+            PlaceOutcome::Made => count += 1,
+            PlaceOutcome::Nothing => {
                 let listing = draft.into_listing(alloc)?;
                 return Ok(Tidy {
                     listing,
                     changes: count,
                 });
             }
-            Outcome::Unsure => {
-                let Tidy { listing, changes } = tidied_on(alloc, draft, ground.base, reached)?;
+            PlaceOutcome::Unsure => {
+                let Tidy { listing, changes } = tidied_on(alloc, draft, widest.base, reached)?;
                 return Ok(Tidy {
                     listing,
                     changes: count + changes,
@@ -124,8 +124,8 @@ pub fn tidy<L: Ledger>(
 {
     if is_sure(alloc, &listing, base)? {
         let reached = reached(alloc, &listing, steps)?;
-        let (ground, due) = ground_of(alloc, &listing, base, &reached)?;
-        let left = tidied_by_places(alloc, listing, &ground, due, &reached)?;
+        let (widest, due) = widest_layout_of(alloc, &listing, base, &reached)?;
+        let left = tidied_by_places(alloc, listing, &widest, due, &reached)?;
         return Ok(left);
     }
     let laid = layout(alloc, &listing, base)?;

@@ -6,19 +6,19 @@ use Rattle.std.proofs.lemmas.Bool.{and_parts, cases_Bool}
 use Rattle.thumb_instr.specs.declared.instr.Instr.{Instr}
 use Rattle.thumb_instr.specs.declared.instr.Instr.TheVariants as instr
 use Rattle.thumb_instr.specs.Window.{is_in_window}
-use Rattle.thumb_model.specs.Listing.{Name, Mention, Value, Statement, Nothing, Runs, Words, Aligns, Sets, Line, Word, places_in, places_of}
+use Rattle.thumb_model.specs.Listing.{Name, Mention, Value, Statement, Nothing, Instruction, Words, Aligns, Sets, ListingLine, Word, places_in, places_of}
 use Rattle.thumb_model.specs.Layout.{cleared, instr_size, is_among, set_address}
 use Rattle.thumb_model.specs.Replaced.{is_op, labels_kept, new_line, replaced_lines, without}
 use Rattle.thumb_model.proofs.Lists.{drop_back, length_map}
-use Rattle.window_runs.specs.declared.rows.Row.{Row}
+use Rattle.window_runs.specs.declared.rows.WindowPlace.{WindowPlace}
 use Rattle.window_runs.specs.Rows.{is_unlabelled, letter_of, rows_of, rows_from, stays_joined}
 use Rattle.window_runs.specs.Windows.{IsWindow}
 use Rattle.window_runs.proofs.Joined.{window_fits, Fits, no_place as not_first}
 use Rattle.window_runs.proofs.Lengths.{rows_length}
-use Rattle.kept_layout.specs.declared.stretch.Target.{Target}
-use Rattle.kept_layout.specs.declared.stretch.Head.TheVariants as head
-use Rattle.kept_layout.specs.Stretches.{lessen, total_places, Shape}
-use Rattle.kept_layout.specs.Kept.{behind_first, behind_first_part, bytes_in, bytes_of, first_head, first_names, head_of, is_fixed, joined, part_of, target_at, target_in, AllBegin, AreBare, AreCut, AreShapesOf, IsShapeOf}
+use Rattle.kept_layout.specs.declared.block.NameLocation.{NameLocation}
+use Rattle.kept_layout.specs.declared.block.Head.TheVariants as head
+use Rattle.kept_layout.specs.Blocks.{lessen, total_places, Footprint}
+use Rattle.kept_layout.specs.Kept.{behind_first, behind_first_part, bytes_in, bytes_of, first_head, first_names, head_of, is_fixed, joined, part_of, target_at, target_in, AllBegin, AreBare, AreCut, AreFootprintsOf, IsFootprintOf}
 use Rattle.kept_layout.proofs.SetsKept.{sets_kept}
 use Rattle.thumb_model.proofs.LinesReplaced.{kept_places}
 use Rattle.kept_layout.proofs.BuildingParts.{bare_behind, bare_plain as bare_head, fixed_plain as plain_head}
@@ -36,12 +36,12 @@ least_size (instr.Mov d m) = omega arith
 least_size i = omega arith
 
 statement_size : (s : Statement) → 2 * length (places_in s) ≤ bytes_in s
-statement_size (Runs i m) = let h = least_size i in omega arith
+statement_size (Instruction i m) = let h = least_size i in omega arith
 statement_size (Words vs) = omega (arith, length_map Word vs)
 statement_size s = omega arith
 
 -- each place takes two bytes or more
-lines_size : (ls : List Line) → 2 * length (places_of ls) ≤ bytes_of ls
+lines_size : (ls : List ListingLine) → 2 * length (places_of ls) ≤ bytes_of ls
 lines_size [] = omega arith
 lines_size (l ∷ ls) = omega (arith, length-append (places_in l.statement) (places_of ls), statement_size l.statement, lines_size ls)
 
@@ -61,32 +61,32 @@ letter_plain i k None e = go (is_in_window k) refl e
     go false w e = absurd (cc)
 
 -- whether what stands behind lines is joined to them
-abbrev still_joined : Bool → List Line → Bool
+abbrev still_joined : Bool → List ListingLine → Bool
 still_joined j [] = j
 still_joined j (l ∷ ls) = still_joined (stays_joined (j && is_unlabelled l.names) l.statement) ls
 
-rows_append : (j : Bool) (xs ys : List Line) → rows_from j (xs ++ ys) ≡ rows_from j xs ++ rows_from (still_joined j xs) ys
+rows_append : (j : Bool) (xs ys : List ListingLine) → rows_from j (xs ++ ys) ≡ rows_from j xs ++ rows_from (still_joined j xs) ys
 rows_append j [] ys = refl
 rows_append j (l ∷ ls) ys =
-    let rows : List Row = rows_of (j && is_unlabelled l.names) l.statement in
+    let rows : List WindowPlace = rows_of (j && is_unlabelled l.names) l.statement in
     let k : Bool = stays_joined (j && is_unlabelled l.names) l.statement in
     ap (λ rs. rows ++ rs) (rows_append k ls ys) ∙ sym (append_assoc rows (rows_from k ls) (rows_from (still_joined k ls) ys))
 
 -- nothing goes on in the rows
-abbrev EndsBefore : List Row → Type 0
+abbrev EndsBefore : List WindowPlace → Type 0
 EndsBefore rows = (i : Instr) (is : List Instr) → Fits false (i ∷ is) rows → ⊥
 
-fits_front : (is : List Instr) (xs ys : List Row) → EndsBefore ys → Fits false is (xs ++ ys) → Fits false is xs
+fits_front : (is : List Instr) (xs ys : List WindowPlace) → EndsBefore ys → Fits false is (xs ++ ys) → Fits false is xs
 fits_front [] xs ys e f = tt
 fits_front (i ∷ is) [] ys e f = e i is f
 fits_front (i ∷ is) (x ∷ xs) ys e f = (f.0, f.1, fits_front is xs ys e f.2)
 
-fits_within : (i : Instr) (is : List Instr) (p : ℕ) (xs ys : List Row) → EndsBefore ys → p < length xs → Fits true (i ∷ is) (drop p (xs ++ ys)) → Fits true (i ∷ is) (drop p xs)
+fits_within : (i : Instr) (is : List Instr) (p : ℕ) (xs ys : List WindowPlace) → EndsBefore ys → p < length xs → Fits true (i ∷ is) (drop p (xs ++ ys)) → Fits true (i ∷ is) (drop p xs)
 fits_within i is p [] ys e h f = absurd (omega arith)
 fits_within i is zero (x ∷ xs) ys e h f = (f.0, f.1, fits_front is xs ys e f.2)
 fits_within i is (suc p) (x ∷ xs) ys e h f = fits_within i is p xs ys e (omega arith) f
 
-fits_less : (first : Bool) (is : List Instr) (rows : List Row) → Fits first is rows → length is ≤ length rows
+fits_less : (first : Bool) (is : List Instr) (rows : List WindowPlace) → Fits first is rows → length is ≤ length rows
 fits_less first [] rows f = omega arith
 fits_less first (i ∷ is) [] f = absurd f
 fits_less first (i ∷ is) (r ∷ rs) f = let h = fits_less false is rs f.2 in omega arith
@@ -95,34 +95,34 @@ none_fits : (i : Instr) (is : List Instr) (p : ℕ) → Fits true (i ∷ is) (dr
 none_fits i is zero f = f
 none_fits i is (suc p) f = f
 
-pub fits_end : (i : Instr) (is : List Instr) (p : ℕ) (rows : List Row) → Fits true (i ∷ is) (drop p rows) → p + length (i ∷ is) ≤ length rows
+pub fits_end : (i : Instr) (is : List Instr) (p : ℕ) (rows : List WindowPlace) → Fits true (i ∷ is) (drop p rows) → p + length (i ∷ is) ≤ length rows
 fits_end i is p [] f = absurd (none_fits i is p f)
 fits_end i is zero (r ∷ rs) f = let h = fits_less true (i ∷ is) (r ∷ rs) f in omega arith
 fits_end i is (suc p) (r ∷ rs) f = let h = fits_end i is p rs f in omega arith
 
 -- ---- where a part begins ----
 
-statement_apart : (s : Statement) (ls : List Line) → EndsBefore (rows_from false ls) → EndsBefore (rows_of false s ++ rows_from (stays_joined false s) ls)
+statement_apart : (s : Statement) (ls : List ListingLine) → EndsBefore (rows_from false ls) → EndsBefore (rows_of false s ++ rows_from (stays_joined false s) ls)
 statement_apart Nothing ls e i is f = e i is f
-statement_apart (Runs k m) ls e i is f = let g = f.0 in absurd (cc)
+statement_apart (Instruction k m) ls e i is f = let g = f.0 in absurd (cc)
 statement_apart (Words []) ls e i is f = e i is f
 statement_apart (Words (v ∷ vs)) ls e i is f = let g = f.0 in absurd (cc)
 statement_apart (Aligns size most) ls e i is f = e i is f
 statement_apart (Sets name address) ls e i is f = e i is f
 
 -- what isn't joined to what stands before it doesn't go on
-apart : (ls : List Line) → EndsBefore (rows_from false ls)
+apart : (ls : List ListingLine) → EndsBefore (rows_from false ls)
 apart [] i is f = f
 apart (l ∷ ls) i is f = statement_apart l.statement ls (apart ls) i is f
 
-line_apart : (j : Bool) (names : List Name) (s : Statement) (ls : List Line) → (not (is_unlabelled names) || not (is_fixed s)) ≡ true → EndsBefore (rows_of (j && is_unlabelled names) s ++ rows_from (stays_joined (j && is_unlabelled names) s) ls)
+line_apart : (j : Bool) (names : List Name) (s : Statement) (ls : List ListingLine) → (not (is_unlabelled names) || not (is_fixed s)) ≡ true → EndsBefore (rows_of (j && is_unlabelled names) s ++ rows_from (stays_joined (j && is_unlabelled names) s) ls)
 line_apart true (n ∷ ns) s ls e i is f = statement_apart s ls (apart ls) i is f
 line_apart false (n ∷ ns) s ls e i is f = statement_apart s ls (apart ls) i is f
-line_apart j [] (Runs k (Some m)) ls e i is f = let g = f.1 in absurd (cc)
+line_apart j [] (Instruction k (Some m)) ls e i is f = let g = f.1 in absurd (cc)
 line_apart j [] (Aligns size most) ls e i is f = apart ls i is f
 line_apart j [] s ls e i is f = absurd (true≢false (sym e))
 
-parts_apart : (j : Bool) (ps : List (List Line)) → AllBegin ps → EndsBefore (rows_from j (joined ps))
+parts_apart : (j : Bool) (ps : List (List ListingLine)) → AllBegin ps → EndsBefore (rows_from j (joined ps))
 parts_apart j [] b i is f = f
 parts_apart j ([] ∷ ps) b i is f = absurd b
 parts_apart j ((l ∷ ls) ∷ ps) b i is f = line_apart j l.names l.statement (ls ++ joined ps) b.0 i is f
@@ -130,31 +130,31 @@ parts_apart j ((l ∷ ls) ∷ ps) b i is f = line_apart j l.names l.statement (l
 -- ---- lines without some of their instructions ----
 
 -- so many places of two bytes fewer
-record IsLess (gone : ℕ) (old new : List Line) : Type 0 where
+record IsLess (gone : ℕ) (old new : List ListingLine) : Type 0 where
   bytes : bytes_of new + 2 * gone ≡ bytes_of old
   places : length (places_of new) + gone ≡ length (places_of old)
 
-less_none : (ls : List Line) → IsLess 0 ls ls
+less_none : (ls : List ListingLine) → IsLess 0 ls ls
 less_none ls = record { bytes = omega arith; places = omega arith }
 
-less_cons : (gone : ℕ) (l : Line) (old new : List Line) → IsLess gone old new → IsLess gone (l ∷ old) (l ∷ new)
+less_cons : (gone : ℕ) (l : ListingLine) (old new : List ListingLine) → IsLess gone old new → IsLess gone (l ∷ old) (l ∷ new)
 less_cons gone l old new h = record {
   bytes = let b = h.bytes in omega arith;
   places = omega (arith, h.places, length-append (places_in l.statement) (places_of old), length-append (places_in l.statement) (places_of new));
 }
 
 -- the lines of a window behind its first, and whatever stands behind them
-record IsInner (n : ℕ) (ls : List Line) : Type 0 where
+record IsInner (n : ℕ) (ls : List ListingLine) : Type 0 where
   less : IsLess n ls (without n ls)
-  back : (ys : List Line) → without n (ls ++ ys) ≡ without n ls ++ ys
+  back : (ys : List ListingLine) → without n (ls ++ ys) ≡ without n ls ++ ys
 
-inner_none : (ls : List Line) → IsInner 0 ls
+inner_none : (ls : List ListingLine) → IsInner 0 ls
 inner_none ls = record {
   less = subst (IsLess 0 ls) (sym (without_none ls)) (less_none ls);
   back = λ ys. without_none (ls ++ ys) ∙ ap (λ x. x ++ ys) (sym (without_none ls));
 }
 
-inner_gone : (n : ℕ) (l : Line) (i : Instr) (ls : List Line) → l.statement ≡ Runs i None → instr_size i ≡ 2 → IsInner n ls → IsInner (suc n) (l ∷ ls)
+inner_gone : (n : ℕ) (l : ListingLine) (i : Instr) (ls : List ListingLine) → l.statement ≡ Instruction i None → instr_size i ≡ 2 → IsInner n ls → IsInner (suc n) (l ∷ ls)
 inner_gone n l i ls e two k =
     let size : bytes_in l.statement ≡ 2 = rw e two in
     let one : length (places_in l.statement) ≡ 1 = rw e refl in
@@ -167,7 +167,7 @@ inner_gone n l i ls e two k =
       back = λ ys. rw e (k.back ys);
     }
 
-inner_kept : (n : ℕ) (l : Line) (ls : List Line) → is_op l.statement ≡ false → IsInner (suc n) ls → IsInner (suc n) (l ∷ ls)
+inner_kept : (n : ℕ) (l : ListingLine) (ls : List ListingLine) → is_op l.statement ≡ false → IsInner (suc n) ls → IsInner (suc n) (l ∷ ls)
 inner_kept n l ls e k =
     let kept : without (suc n) (l ∷ ls) ≡ l ∷ without (suc n) ls = rw e refl in
     record {
@@ -175,22 +175,22 @@ inner_kept n l ls e k =
       back = λ ys. rw e (ap (λ x. l ∷ x) (k.back ys));
     }
 
-inner_step : (i : Instr) (is : List Instr) (l : Line) (s : Statement) (ls : List Line) (j : Bool) → l.statement ≡ s → ((b : Bool) → Fits false is (rows_from b ls) → IsInner (length is) ls) → ((b : Bool) → Fits false (i ∷ is) (rows_from b ls) → IsInner (suc (length is)) ls)
+inner_step : (i : Instr) (is : List Instr) (l : ListingLine) (s : Statement) (ls : List ListingLine) (j : Bool) → l.statement ≡ s → ((b : Bool) → Fits false is (rows_from b ls) → IsInner (length is) ls) → ((b : Bool) → Fits false (i ∷ is) (rows_from b ls) → IsInner (suc (length is)) ls)
     → Fits false (i ∷ is) (rows_of j s ++ rows_from (stays_joined j s) ls) → IsInner (suc (length is)) (l ∷ ls)
-inner_step i is l (Runs k m) ls j e next same f =
+inner_step i is l (Instruction k m) ls j e next same f =
     let p = letter_plain i k m f.1 in
-    inner_gone (length is) l k ls (e ∙ ap (λ o. Runs k o) p.alone) p.size (next true f.2)
+    inner_gone (length is) l k ls (e ∙ ap (λ o. Instruction k o) p.alone) p.size (next true f.2)
 inner_step i is l (Words (v ∷ vs)) ls j e next same f = let g = f.0 in absurd (cc)
 inner_step i is l s ls j e next same f = inner_kept (length is) l ls (rw e refl) (same (stays_joined j s) f)
 
-inner : (is : List Instr) (ls : List Line) (j : Bool) → Fits false is (rows_from j ls) → IsInner (length is) ls
+inner : (is : List Instr) (ls : List ListingLine) (j : Bool) → Fits false is (rows_from j ls) → IsInner (length is) ls
 inner [] ls j f = inner_none ls
 inner (i ∷ is) [] j f = absurd f
 inner (i ∷ is) (l ∷ ls) j f = inner_step i is l l.statement ls (j && is_unlabelled l.names) refl (inner is ls) (inner (i ∷ is) ls) f
 
 -- ---- lines in which a window gives way ----
 
-new_bytes : (write : Instr → List ℕ) (is : List Instr) (ls : List Line) → list_all is_in_window is ≡ true → bytes_of (map (new_line write) is ++ ls) ≡ 2 * length is + bytes_of ls
+new_bytes : (write : Instr → List ℕ) (is : List Instr) (ls : List ListingLine) → list_all is_in_window is ≡ true → bytes_of (map (new_line write) is ++ ls) ≡ 2 * length is + bytes_of ls
 new_bytes write [] ls h = omega arith
 new_bytes write (i ∷ is) ls h =
     let p = and_parts (is_in_window i) (list_all is_in_window is) h in
@@ -198,26 +198,26 @@ new_bytes write (i ∷ is) ls h =
     let r = new_bytes write is ls p.1 in
     omega arith
 
-new_places : (write : Instr → List ℕ) (is : List Instr) (ls : List Line) → length (places_of (map (new_line write) is ++ ls)) ≡ length is + length (places_of ls)
+new_places : (write : Instr → List ℕ) (is : List Instr) (ls : List ListingLine) → length (places_of (map (new_line write) is ++ ls)) ≡ length is + length (places_of ls)
 new_places write [] ls = omega arith
 new_places write (i ∷ is) ls = let r = new_places write is ls in omega arith
 
-kept_bytes : (l : Line) (names : List Name) (ls : List Line) → bytes_of (labels_kept l names ++ ls) ≡ bytes_of ls
+kept_bytes : (l : ListingLine) (names : List Name) (ls : List ListingLine) → bytes_of (labels_kept l names ++ ls) ≡ bytes_of ls
 kept_bytes l [] ls = refl
 kept_bytes l (n ∷ ns) ls = omega arith
 
 -- the window gives way to the new instructions, and whatever stands behind the lines stays
-record IsGiven (write : Instr → List ℕ) (p count : ℕ) (new : List Instr) (ls : List Line) : Type 0 where
+record IsGiven (write : Instr → List ℕ) (p count : ℕ) (new : List Instr) (ls : List ListingLine) : Type 0 where
   less : IsLess (count - length new) ls (replaced_lines write p count new ls)
-  back : (ys : List Line) → replaced_lines write p count new (ls ++ ys) ≡ replaced_lines write p count new ls ++ ys
+  back : (ys : List ListingLine) → replaced_lines write p count new (ls ++ ys) ≡ replaced_lines write p count new ls ++ ys
 
-lines_here : (write : Instr → List ℕ) (n : ℕ) (new : List Instr) (l : Line) (i : Instr) (ls : List Line) → l.statement ≡ Runs i None → replaced_lines write 0 (suc n) new (l ∷ ls) ≡ labels_kept l l.names ++ (map (new_line write) new ++ without n ls)
+lines_here : (write : Instr → List ℕ) (n : ℕ) (new : List Instr) (l : ListingLine) (i : Instr) (ls : List ListingLine) → l.statement ≡ Instruction i None → replaced_lines write 0 (suc n) new (l ∷ ls) ≡ labels_kept l l.names ++ (map (new_line write) new ++ without n ls)
 lines_here write n new l i ls e = rw e (ap (λ m. labels_kept l l.names ++ (map (new_line write) new ++ without m ls)) (let z : suc n - 1 ≡ n = omega arith in z))
 
-given_here : (write : Instr → List ℕ) (n : ℕ) (new : List Instr) (l : Line) (i : Instr) (ls : List Line) → l.statement ≡ Runs i None → instr_size i ≡ 2 → length new ≤ suc n → list_all is_in_window new ≡ true → IsInner n ls → IsGiven write 0 (suc n) new (l ∷ ls)
+given_here : (write : Instr → List ℕ) (n : ℕ) (new : List Instr) (l : ListingLine) (i : Instr) (ls : List ListingLine) → l.statement ≡ Instruction i None → instr_size i ≡ 2 → length new ≤ suc n → list_all is_in_window new ≡ true → IsInner n ls → IsGiven write 0 (suc n) new (l ∷ ls)
 given_here write n new l i ls e two short letters k =
-    let labels : List Line = labels_kept l l.names in
-    let lines : List Line = map (new_line write) new in
+    let labels : List ListingLine = labels_kept l l.names in
+    let lines : List ListingLine = map (new_line write) new in
     let size : bytes_in l.statement ≡ 2 = rw e two in
     let one : length (places_in l.statement) ≡ 1 = rw e refl in
     record {
@@ -237,30 +237,30 @@ given_here write n new l i ls e two short letters k =
           ∙ ap (λ x. x ++ ys) (sym (lines_here write n new l i ls e));
     }
 
-given_behind : (write : Instr → List ℕ) (p m count : ℕ) (new : List Instr) (l : Line) (ls : List Line) → (is_op l.statement && (p == 0)) ≡ false → p - length (places_in l.statement) ≡ m → IsGiven write m count new ls → IsGiven write p count new (l ∷ ls)
+given_behind : (write : Instr → List ℕ) (p m count : ℕ) (new : List Instr) (l : ListingLine) (ls : List ListingLine) → (is_op l.statement && (p == 0)) ≡ false → p - length (places_in l.statement) ≡ m → IsGiven write m count new ls → IsGiven write p count new (l ∷ ls)
 given_behind write p m count new l ls t e k =
-    let kept : (xs : List Line) → replaced_lines write p count new (l ∷ xs) ≡ l ∷ replaced_lines write m count new xs = λ xs. rw t (ap (λ q. l ∷ replaced_lines write q count new xs) e) in
+    let kept : (xs : List ListingLine) → replaced_lines write p count new (l ∷ xs) ≡ l ∷ replaced_lines write m count new xs = λ xs. rw t (ap (λ q. l ∷ replaced_lines write q count new xs) e) in
     record {
       less = subst (IsLess (count - length new) (l ∷ ls)) (sym (kept ls)) (less_cons (count - length new) l ls (replaced_lines write m count new ls) k.less);
       back = λ ys. kept (ls ++ ys) ∙ ap (λ x. l ∷ x) (k.back ys) ∙ ap (λ x. x ++ ys) (sym (kept ls));
     }
 
-abbrev word_row : Value → Row
+abbrev word_row : Value → WindowPlace
 word_row v = record { letter = None; is_joined = false }
 
 -- a window doesn't begin among words
-past_words : (vs : List Value) (p : ℕ) (rows : List Row) (i : Instr) (is : List Instr) → Fits true (i ∷ is) (drop p (map word_row vs ++ rows)) → (m : ℕ) × (p ≡ length vs + m) × Fits true (i ∷ is) (drop m rows)
+past_words : (vs : List Value) (p : ℕ) (rows : List WindowPlace) (i : Instr) (is : List Instr) → Fits true (i ∷ is) (drop p (map word_row vs ++ rows)) → (m : ℕ) × (p ≡ length vs + m) × Fits true (i ∷ is) (drop m rows)
 past_words [] p rows i is f = (p, omega arith, f)
 past_words (v ∷ vs) zero rows i is f = let g = f.1 in absurd (cc)
 past_words (v ∷ vs) (suc p) rows i is f = let r = past_words vs p rows i is f in let e = r.1 in (r.0, omega arith, r.2)
 
-given_step : (write : Instr → List ℕ) (i : Instr) (is new : List Instr) → length new ≤ suc (length is) → list_all is_in_window new ≡ true → (l : Line) (s : Statement) (ls : List Line) (j : Bool) (p : ℕ) → l.statement ≡ s
+given_step : (write : Instr → List ℕ) (i : Instr) (is new : List Instr) → length new ≤ suc (length is) → list_all is_in_window new ≡ true → (l : ListingLine) (s : Statement) (ls : List ListingLine) (j : Bool) (p : ℕ) → l.statement ≡ s
     → ((b : Bool) (q : ℕ) → Fits true (i ∷ is) (drop q (rows_from b ls)) → IsGiven write q (suc (length is)) new ls)
     → Fits true (i ∷ is) (drop p (rows_of j s ++ rows_from (stays_joined j s) ls)) → IsGiven write p (suc (length is)) new (l ∷ ls)
-given_step write i is new short letters l (Runs k m) ls j zero e rec f =
+given_step write i is new short letters l (Instruction k m) ls j zero e rec f =
     let a = letter_plain i k m f.1 in
-    given_here write (length is) new l k ls (e ∙ ap (λ o. Runs k o) a.alone) a.size short letters (inner is ls true f.2)
-given_step write i is new short letters l (Runs k m) ls j (suc p) e rec f =
+    given_here write (length is) new l k ls (e ∙ ap (λ o. Instruction k o) a.alone) a.size short letters (inner is ls true f.2)
+given_step write i is new short letters l (Instruction k m) ls j (suc p) e rec f =
     let one : length (places_in l.statement) ≡ 1 = rw e refl in
     given_behind write (suc p) p (suc (length is)) new l ls (rw e (not_first p)) (omega (arith, one)) (rec true p f)
 given_step write i is new short letters l (Words vs) ls j p e rec f =
@@ -272,13 +272,13 @@ given_step write i is new short letters l s ls j p e rec f =
     let none : length (places_in l.statement) ≡ 0 = rw e refl in
     given_behind write p p (suc (length is)) new l ls (rw e refl) (omega (arith, none)) (rec (stays_joined j s) p f)
 
-given : (write : Instr → List ℕ) (i : Instr) (is new : List Instr) → length new ≤ suc (length is) → list_all is_in_window new ≡ true → (ls : List Line) (j : Bool) (p : ℕ) → Fits true (i ∷ is) (drop p (rows_from j ls)) → IsGiven write p (suc (length is)) new ls
+given : (write : Instr → List ℕ) (i : Instr) (is new : List Instr) → length new ≤ suc (length is) → list_all is_in_window new ≡ true → (ls : List ListingLine) (j : Bool) (p : ℕ) → Fits true (i ∷ is) (drop p (rows_from j ls)) → IsGiven write p (suc (length is)) new ls
 given write i is new short letters [] j p f = absurd (none_fits i is p f)
 given write i is new short letters (l ∷ ls) j p f = given_step write i is new short letters l l.statement ls (j && is_unlabelled l.names) p refl (given write i is new short letters ls) f
 
 -- ---- bare lines ----
 
-bare_append : (xs ys : List Line) → AreBare xs → AreBare ys → AreBare (xs ++ ys)
+bare_append : (xs ys : List ListingLine) → AreBare xs → AreBare ys → AreBare (xs ++ ys)
 bare_append [] ys a b = b
 bare_append (x ∷ xs) ys a b = (a.0, a.1, bare_append xs ys a.2 b)
 
@@ -286,7 +286,7 @@ bare_new : (write : Instr → List ℕ) (is : List Instr) → AreBare (map (new_
 bare_new write [] = tt
 bare_new write (i ∷ is) = (refl, refl, bare_new write is)
 
-bare_without : (n : ℕ) (ls : List Line) → AreBare ls → AreBare (without n ls)
+bare_without : (n : ℕ) (ls : List ListingLine) → AreBare ls → AreBare (without n ls)
 bare_without n [] b = tt
 bare_without zero (l ∷ ls) b = b
 bare_without (suc n) (l ∷ ls) b = elim (cases_Bool (is_op l.statement)) [
@@ -294,30 +294,30 @@ bare_without (suc n) (l ∷ ls) b = elim (cases_Bool (is_op l.statement)) [
   | inr h ↦ rw h (b.0, b.1, bare_without (suc n) ls b.2)
 ]
 
-bare_given : (write : Instr → List ℕ) (n : ℕ) (is : List Instr) (ls : List Line) → AreBare ls → AreBare (map (new_line write) is ++ without n ls)
+bare_given : (write : Instr → List ℕ) (n : ℕ) (is : List Instr) (ls : List ListingLine) → AreBare ls → AreBare (map (new_line write) is ++ without n ls)
 bare_given write n is ls b = bare_append (map (new_line write) is) (without n ls) (bare_new write is) (bare_without n ls b)
 
-bare_replaced : (write : Instr → List ℕ) (p count : ℕ) (is : List Instr) (ls : List Line) → AreBare ls → AreBare (replaced_lines write p count is ls)
+bare_replaced : (write : Instr → List ℕ) (p count : ℕ) (is : List Instr) (ls : List ListingLine) → AreBare ls → AreBare (replaced_lines write p count is ls)
 bare_replaced write p count is [] b = tt
 bare_replaced write p count is (l ∷ ls) b = elim (cases_Bool (is_op l.statement && (p == 0))) [
   | inl h ↦ rw (h, b.0) (bare_given write (count - 1) is ls b.2)
   | inr h ↦ rw h (b.0, b.1, bare_replaced write (p - length (places_in l.statement)) count is ls b.2)
 ]
 
-bare_names : (ls : List Line) → AreBare ls → first_names ls ≡ []
+bare_names : (ls : List ListingLine) → AreBare ls → first_names ls ≡ []
 bare_names [] b = refl
 bare_names (l ∷ ls) b = b.0
 
 -- ---- a part ----
 
 -- lines that begin alike, and of which the first alone isn't bare
-record BeginsAlike (old new : List Line) : Type 0 where
+record BeginsAlike (old new : List ListingLine) : Type 0 where
   names : first_names new ≡ first_names old
-  head : (find : Name → Option Target) → first_head find new ≡ first_head find old
+  head : (find : Name → Option NameLocation) → first_head find new ≡ first_head find old
   bare : AreBare (behind_first new)
   begin : AllBegin (old ∷ []) → AllBegin (new ∷ [])
 
-alike_here : (l : Line) (names : List Name) (ls rest : List Line) → l.names ≡ names → is_fixed l.statement ≡ true → AreBare rest → BeginsAlike (l ∷ ls) (labels_kept l names ++ rest)
+alike_here : (l : ListingLine) (names : List Name) (ls rest : List ListingLine) → l.names ≡ names → is_fixed l.statement ≡ true → AreBare rest → BeginsAlike (l ∷ ls) (labels_kept l names ++ rest)
 alike_here l [] ls rest e fixed b = record {
   names = bare_names rest b ∙ sym e;
   head = λ find. bare_head find rest b ∙ sym (plain_head find l.statement fixed);
@@ -326,25 +326,25 @@ alike_here l [] ls rest e fixed b = record {
 }
 alike_here l (n ∷ ns) ls rest e fixed b = record { names = sym e; head = λ find. sym (plain_head find l.statement fixed); bare = b; begin = λ h. (refl, tt) }
 
-alike_same : (l : Line) (ls news : List Line) → AreBare news → BeginsAlike (l ∷ ls) (l ∷ news)
+alike_same : (l : ListingLine) (ls news : List ListingLine) → AreBare news → BeginsAlike (l ∷ ls) (l ∷ news)
 alike_same l ls news b = record { names = refl; head = λ find. refl; bare = b; begin = λ h. h }
 
 -- where a window begins, nothing is mentioned
-fixed_first : (s : Statement) (ls : List Line) (j : Bool) (p : ℕ) (i : Instr) (is : List Instr) → (is_op s && (p == 0)) ≡ true → Fits true (i ∷ is) (drop p (rows_of j s ++ rows_from (stays_joined j s) ls)) → is_fixed s ≡ true
-fixed_first (Runs k (Some m)) ls j zero i is t f = let g = f.1 in absurd (cc)
-fixed_first (Runs k (Some m)) ls j (suc p) i is t f = absurd (true≢false (sym t ∙ not_first p))
+fixed_first : (s : Statement) (ls : List ListingLine) (j : Bool) (p : ℕ) (i : Instr) (is : List Instr) → (is_op s && (p == 0)) ≡ true → Fits true (i ∷ is) (drop p (rows_of j s ++ rows_from (stays_joined j s) ls)) → is_fixed s ≡ true
+fixed_first (Instruction k (Some m)) ls j zero i is t f = let g = f.1 in absurd (cc)
+fixed_first (Instruction k (Some m)) ls j (suc p) i is t f = absurd (true≢false (sym t ∙ not_first p))
 fixed_first (Aligns size most) ls j p i is t f = absurd (true≢false (sym t))
 fixed_first s ls j p i is t f = refl
 
-alike_given : (write : Instr → List ℕ) (p count : ℕ) (new : List Instr) (ls : List Line) (j : Bool) (i : Instr) (is : List Instr) → AreBare (behind_first ls) → Fits true (i ∷ is) (drop p (rows_from j ls)) → BeginsAlike ls (replaced_lines write p count new ls)
+alike_given : (write : Instr → List ℕ) (p count : ℕ) (new : List Instr) (ls : List ListingLine) (j : Bool) (i : Instr) (is : List Instr) → AreBare (behind_first ls) → Fits true (i ∷ is) (drop p (rows_from j ls)) → BeginsAlike ls (replaced_lines write p count new ls)
 alike_given write p count new [] j i is b f = absurd (none_fits i is p f)
 alike_given write p count new (l ∷ ls) j i is b f = elim (cases_Bool (is_op l.statement && (p == 0))) [
   | inl t ↦ rw t (alike_here l l.names ls (map (new_line write) new ++ without (count - 1) ls) refl (fixed_first l.statement ls (j && is_unlabelled l.names) p i is t f) (bare_given write (count - 1) new ls b))
   | inr t ↦ rw t (alike_same l ls (replaced_lines write (p - length (places_in l.statement)) count new ls) (bare_replaced write (p - length (places_in l.statement)) count new ls b))
 ]
 
-shape_less : (find : Name → Option Target) (gone : ℕ) (old new : List Line) (s : Shape) → BeginsAlike old new → IsLess gone old new → IsShapeOf find old s → IsShapeOf find new (record { head = s.head; bytes = s.bytes - 2 * gone; places = s.places - gone })
-shape_less find gone old new s a h k = record {
+footprint_less : (find : Name → Option NameLocation) (gone : ℕ) (old new : List ListingLine) (s : Footprint) → BeginsAlike old new → IsLess gone old new → IsFootprintOf find old s → IsFootprintOf find new (record { head = s.head; bytes = s.bytes - 2 * gone; places = s.places - gone })
+footprint_less find gone old new s a h k = record {
   head = k.head ∙ sym (a.head find);
   bare = a.bare;
   bytes = let b = h.bytes in let c = k.bytes in omega arith;
@@ -353,84 +353,84 @@ shape_less find gone old new s a h k = record {
 
 -- ---- where names lie ----
 
-head_same : (f g : Name → Option Target) → ((name : Name) → f name ≡ g name) → (s : Statement) → head_of f s ≡ head_of g s
-head_same f g h (Runs i (Some m)) = ap (λ to. head.Aims (record { instr = i; to = to; plus = m.plus })) (h m.name)
+head_same : (f g : Name → Option NameLocation) → ((name : Name) → f name ≡ g name) → (s : Statement) → head_of f s ≡ head_of g s
+head_same f g h (Instruction i (Some m)) = ap (λ to. head.Aims (record { instr = i; to = to; plus = m.plus })) (h m.name)
 head_same f g h s = refl
 
-first_same : (f g : Name → Option Target) → ((name : Name) → f name ≡ g name) → (ls : List Line) → first_head f ls ≡ first_head g ls
+first_same : (f g : Name → Option NameLocation) → ((name : Name) → f name ≡ g name) → (ls : List ListingLine) → first_head f ls ≡ first_head g ls
 first_same f g h [] = refl
 first_same f g h (l ∷ ls) = head_same f g h l.statement
 
-shapes_same : (f g : Name → Option Target) → ((name : Name) → f name ≡ g name) → (ps : List (List Line)) (ss : List Shape) → AreShapesOf f ps ss → AreShapesOf g ps ss
-shapes_same f g h [] [] a = tt
-shapes_same f g h [] (s ∷ ss) a = absurd a
-shapes_same f g h (p ∷ ps) [] a = absurd a
-shapes_same f g h (p ∷ ps) (s ∷ ss) a =
+footprints_same : (f g : Name → Option NameLocation) → ((name : Name) → f name ≡ g name) → (ps : List (List ListingLine)) (ss : List Footprint) → AreFootprintsOf f ps ss → AreFootprintsOf g ps ss
+footprints_same f g h [] [] a = tt
+footprints_same f g h [] (s ∷ ss) a = absurd a
+footprints_same f g h (p ∷ ps) [] a = absurd a
+footprints_same f g h (p ∷ ps) (s ∷ ss) a =
     let k = a.0 in
-    (record { head = k.head ∙ first_same f g h p; bare = k.bare; bytes = k.bytes; places = k.places }, shapes_same f g h ps ss a.1)
+    (record { head = k.head ∙ first_same f g h p; bare = k.bare; bytes = k.bytes; places = k.places }, footprints_same f g h ps ss a.1)
 
 -- ---- parts ----
 
 past_line : (s : Statement) (p : ℕ) → length (places_in s) ≤ p → (is_op s && (p == 0)) ≡ false
-past_line (Runs i m) zero h = absurd (omega arith)
-past_line (Runs i m) (suc p) h = not_first p
+past_line (Instruction i m) zero h = absurd (omega arith)
+past_line (Instruction i m) (suc p) h = not_first p
 past_line s p h = refl
 
 -- lines before the place stay
-past_lines : (write : Instr → List ℕ) (count : ℕ) (is : List Instr) (xs ys : List Line) (p m : ℕ) → p ≡ length (places_of xs) + m → replaced_lines write p count is (xs ++ ys) ≡ xs ++ replaced_lines write m count is ys
+past_lines : (write : Instr → List ℕ) (count : ℕ) (is : List Instr) (xs ys : List ListingLine) (p m : ℕ) → p ≡ length (places_of xs) + m → replaced_lines write p count is (xs ++ ys) ≡ xs ++ replaced_lines write m count is ys
 past_lines write count is [] ys p m e = ap (λ q. replaced_lines write q count is ys) (let z : p ≡ m = omega arith in z)
 past_lines write count is (l ∷ ls) ys p m e =
     let size = length-append (places_in l.statement) (places_of ls) in
     rw (past_line l.statement p (omega (arith, size)))
     (ap (λ x. l ∷ x) (past_lines write count is ls ys (p - length (places_in l.statement)) m (omega (arith, size))))
 
-begin_parts : (p : List Line) (ps : List (List Line)) → AllBegin (p ∷ ps) → AllBegin (p ∷ []) × AllBegin ps
+begin_parts : (p : List ListingLine) (ps : List (List ListingLine)) → AllBegin (p ∷ ps) → AllBegin (p ∷ []) × AllBegin ps
 begin_parts [] ps b = absurd b
 begin_parts (l ∷ ls) ps b = ((b.0, tt), b.1)
 
-begin_cons : (p : List Line) (ps : List (List Line)) → AllBegin (p ∷ []) → AllBegin ps → AllBegin (p ∷ ps)
+begin_cons : (p : List ListingLine) (ps : List (List ListingLine)) → AllBegin (p ∷ []) → AllBegin ps → AllBegin (p ∷ ps)
 begin_cons [] ps a b = absurd a
 begin_cons (l ∷ ls) ps a b = (a.0, b)
 
 -- parts of the lines in which the window gave way, of which the k-th alone takes fewer bytes and has fewer places
-record AreGiven (write : Instr → List ℕ) (p count : ℕ) (new : List Instr) (find : Name → Option Target) (k : ℕ) (parts : List (List Line)) (shapes : List Shape) : Type 0 where
-  news : List (List Line)
+record AreGiven (write : Instr → List ℕ) (p count : ℕ) (new : List Instr) (find : Name → Option NameLocation) (k : ℕ) (parts : List (List ListingLine)) (footprints : List Footprint) : Type 0 where
+  news : List (List ListingLine)
   lines : replaced_lines write p count new (joined parts) ≡ joined news
   names : (name : Name) (n : ℕ) → part_of name n news ≡ part_of name n parts
-  shapes_are : AreShapesOf find news (lessen k (2 * (count - length new)) (count - length new) shapes)
+  footprints_are : AreFootprintsOf find news (lessen k (2 * (count - length new)) (count - length new) footprints)
   begin : AllBegin parts → AllBegin news
   behind : AllBegin (behind_first_part parts) → AllBegin (behind_first_part news)
 
-given_first : (write : Instr → List ℕ) (p count : ℕ) (new : List Instr) (find : Name → Option Target) (part : List Line) (ps : List (List Line)) (s : Shape) (ss : List Shape) → IsGiven write p count new part → BeginsAlike part (replaced_lines write p count new part)
-    → AreShapesOf find (part ∷ ps) (s ∷ ss) → AreGiven write p count new find 0 (part ∷ ps) (s ∷ ss)
+given_first : (write : Instr → List ℕ) (p count : ℕ) (new : List Instr) (find : Name → Option NameLocation) (part : List ListingLine) (ps : List (List ListingLine)) (s : Footprint) (ss : List Footprint) → IsGiven write p count new part → BeginsAlike part (replaced_lines write p count new part)
+    → AreFootprintsOf find (part ∷ ps) (s ∷ ss) → AreGiven write p count new find 0 (part ∷ ps) (s ∷ ss)
 given_first write p count new find part ps s ss g a h = record {
   news = replaced_lines write p count new part ∷ ps;
   lines = g.back (joined ps);
   names = λ name n. ap (λ names. if is_among name names then Some n else part_of name (n + 1) ps) a.names;
-  shapes_are = (shape_less find (count - length new) part (replaced_lines write p count new part) s a g.less h.0, h.1);
+  footprints_are = (footprint_less find (count - length new) part (replaced_lines write p count new part) s a g.less h.0, h.1);
   begin = λ b. let c = begin_parts part ps b in begin_cons (replaced_lines write p count new part) ps (a.begin c.0) c.1;
   behind = λ b. b;
 }
 
-given_later : (write : Instr → List ℕ) (p m count : ℕ) (new : List Instr) (find : Name → Option Target) (k : ℕ) (part : List Line) (ps : List (List Line)) (s : Shape) (ss : List Shape) → p ≡ length (places_of part) + m → IsShapeOf find part s
+given_later : (write : Instr → List ℕ) (p m count : ℕ) (new : List Instr) (find : Name → Option NameLocation) (k : ℕ) (part : List ListingLine) (ps : List (List ListingLine)) (s : Footprint) (ss : List Footprint) → p ≡ length (places_of part) + m → IsFootprintOf find part s
     → AreGiven write m count new find k ps ss → AreGiven write p count new find (suc k) (part ∷ ps) (s ∷ ss)
 given_later write p m count new find k part ps s ss e h r = record {
   news = part ∷ r.news;
   lines = past_lines write count new part (joined ps) p m e ∙ ap (λ x. part ++ x) r.lines;
   names = λ name n. ap (λ o. if is_among name (first_names part) then Some n else o) (r.names name (n + 1));
-  shapes_are = (h, r.shapes_are);
+  footprints_are = (h, r.footprints_are);
   begin = λ b. let c = begin_parts part ps b in begin_cons part r.news c.0 (r.begin c.1);
   behind = r.begin;
 }
 
--- where a window begins in the part of that shape, it stands in it, and gives way there
-record StandsIn (write : Instr → List ℕ) (p : ℕ) (window new : List Instr) (find : Name → Option Target) (k : ℕ) (parts : List (List Line)) (shapes : List Shape) (s : Shape) : Type 0 where
-  within : (p - total_places (take k shapes)) + length window ≤ s.places
+-- where a window begins in the part of that footprint, it stands in it, and gives way there
+record StandsIn (write : Instr → List ℕ) (p : ℕ) (window new : List Instr) (find : Name → Option NameLocation) (k : ℕ) (parts : List (List ListingLine)) (footprints : List Footprint) (s : Footprint) : Type 0 where
+  within : (p - total_places (take k footprints)) + length window ≤ s.places
   bytes : 2 * length window ≤ s.bytes
-  given : AreGiven write p (length window) new find k parts shapes
+  given : AreGiven write p (length window) new find k parts footprints
 
-stands_first : (write : Instr → List ℕ) (i : Instr) (is new : List Instr) → length new ≤ suc (length is) → list_all is_in_window new ≡ true → (find : Name → Option Target) (part : List Line) (ps : List (List Line)) (s : Shape) (ss : List Shape) (j : Bool) (p : ℕ)
-    → AreShapesOf find (part ∷ ps) (s ∷ ss) → AllBegin ps → p < s.places → Fits true (i ∷ is) (drop p (rows_from j (part ++ joined ps))) → StandsIn write p (i ∷ is) new find 0 (part ∷ ps) (s ∷ ss) s
+stands_first : (write : Instr → List ℕ) (i : Instr) (is new : List Instr) → length new ≤ suc (length is) → list_all is_in_window new ≡ true → (find : Name → Option NameLocation) (part : List ListingLine) (ps : List (List ListingLine)) (s : Footprint) (ss : List Footprint) (j : Bool) (p : ℕ)
+    → AreFootprintsOf find (part ∷ ps) (s ∷ ss) → AllBegin ps → p < s.places → Fits true (i ∷ is) (drop p (rows_from j (part ++ joined ps))) → StandsIn write p (i ∷ is) new find 0 (part ∷ ps) (s ∷ ss) s
 stands_first write i is new short letters find part ps s ss j p h b less f =
     let rows = rows_length j part in
     let places = h.0.places in
@@ -446,20 +446,20 @@ stands_first write i is new short letters find part ps s ss j p h b less f =
     }
 
 -- rows behind a part
-fits_behind : (i : Instr) (is : List Instr) (j : Bool) (part rest : List Line) (p m : ℕ) → p ≡ length (places_of part) + m → Fits true (i ∷ is) (drop p (rows_from j (part ++ rest))) → Fits true (i ∷ is) (drop m (rows_from (still_joined j part) rest))
+fits_behind : (i : Instr) (is : List Instr) (j : Bool) (part rest : List ListingLine) (p m : ℕ) → p ≡ length (places_of part) + m → Fits true (i ∷ is) (drop p (rows_from j (part ++ rest))) → Fits true (i ∷ is) (drop m (rows_from (still_joined j part) rest))
 fits_behind i is j part rest p m e f =
     let rows = rows_length j part in
     subst (λ rs. Fits true (i ∷ is) rs) (ap (drop p) (rows_append j part rest) ∙ drop_back (rows_from j part) (rows_from (still_joined j part) rest) p m (omega arith)) f
 
-stands_in : (write : Instr → List ℕ) (i : Instr) (is new : List Instr) → length new ≤ suc (length is) → list_all is_in_window new ≡ true → (find : Name → Option Target) (k : ℕ) (parts : List (List Line)) (shapes : List Shape) (s : Shape) (j : Bool) (p : ℕ)
-    → AreShapesOf find parts shapes → AllBegin (behind_first_part parts) → slice_get shapes k ≡ Some s → total_places (take k shapes) ≤ p → p < total_places (take k shapes) + s.places
-    → Fits true (i ∷ is) (drop p (rows_from j (joined parts))) → StandsIn write p (i ∷ is) new find k parts shapes s
+stands_in : (write : Instr → List ℕ) (i : Instr) (is new : List Instr) → length new ≤ suc (length is) → list_all is_in_window new ≡ true → (find : Name → Option NameLocation) (k : ℕ) (parts : List (List ListingLine)) (footprints : List Footprint) (s : Footprint) (j : Bool) (p : ℕ)
+    → AreFootprintsOf find parts footprints → AllBegin (behind_first_part parts) → slice_get footprints k ≡ Some s → total_places (take k footprints) ≤ p → p < total_places (take k footprints) + s.places
+    → Fits true (i ∷ is) (drop p (rows_from j (joined parts))) → StandsIn write p (i ∷ is) new find k parts footprints s
 stands_in write i is new short letters find k [] [] s j p h b e from until f = absurd (cc)
 stands_in write i is new short letters find k [] (t ∷ ss) s j p h b e from until f = absurd h
 stands_in write i is new short letters find k (part ∷ ps) [] s j p h b e from until f = absurd h
 stands_in write i is new short letters find zero (part ∷ ps) (t ∷ ss) s j p h b e from until f =
     let same : t ≡ s = cc in
-    let places = ap (λ (x : Shape). x.places) same in
+    let places = ap (λ (x : Footprint). x.places) same in
     subst (λ x. StandsIn write p (i ∷ is) new find 0 (part ∷ ps) (t ∷ ss) x) same (stands_first write i is new short letters find part ps t ss j p h b (omega arith) f)
 stands_in write i is new short letters find (suc k) (part ∷ ps) (t ∷ ss) s j p h b e from until f =
     let places = h.0.places in
@@ -469,55 +469,55 @@ stands_in write i is new short letters find (suc k) (part ∷ ps) (t ∷ ss) s j
     let within = r.within in
     record { within = omega arith; bytes = r.bytes; given = given_later write p m (suc (length is)) new find k part ps t ss ahead h.0 r.given }
   where
-    behind_begin : (ps : List (List Line)) → AllBegin ps → AllBegin (behind_first_part ps)
+    behind_begin : (ps : List (List ListingLine)) → AllBegin ps → AllBegin (behind_first_part ps)
     behind_begin [] b = tt
     behind_begin (q ∷ ps) b = (begin_parts q ps b).1
 
 -- ---- cuts ----
 
 -- a window that begins in a part
-pub record BeginsIn (lines : List Line) (shapes : List Shape) (here first place : ℕ) (s : Shape) (window : List Instr) : Type 0 where
-  pub cut : AreCut lines shapes
-  pub is_shape : slice_get shapes here ≡ Some s
-  pub first_is : first ≡ total_places (take here shapes)
+pub record BeginsIn (lines : List ListingLine) (footprints : List Footprint) (here first place : ℕ) (s : Footprint) (window : List Instr) : Type 0 where
+  pub cut : AreCut lines footprints
+  pub is_footprint : slice_get footprints here ≡ Some s
+  pub first_is : first ≡ total_places (take here footprints)
   pub from : first ≤ place
   pub until : place < first + s.places
   pub is_window : IsWindow lines place window
   pub some : 0 < length window
 
-window_stands : (write : Instr → List ℕ) (lines : List Line) (shapes : List Shape) (here first place : ℕ) (s : Shape) (window new : List Instr) → length new ≤ length window → list_all is_in_window new ≡ true → (b : BeginsIn lines shapes here first place s window)
-    → StandsIn write place window new (target_in b.cut.parts) here b.cut.parts shapes s
-window_stands write lines shapes here first place s [] new short letters b = absurd (let h = b.some in omega arith)
-window_stands write lines shapes here first place s (i ∷ is) new short letters b =
+window_stands : (write : Instr → List ℕ) (lines : List ListingLine) (footprints : List Footprint) (here first place : ℕ) (s : Footprint) (window new : List Instr) → length new ≤ length window → list_all is_in_window new ≡ true → (b : BeginsIn lines footprints here first place s window)
+    → StandsIn write place window new (target_in b.cut.parts) here b.cut.parts footprints s
+window_stands write lines footprints here first place s [] new short letters b = absurd (let h = b.some in omega arith)
+window_stands write lines footprints here first place s (i ∷ is) new short letters b =
     let from = b.from in
     let until = b.until in
     let first_is = b.first_is in
     let fits = subst (λ ls. Fits true (i ∷ is) (drop place (rows_from false ls))) b.cut.is (window_fits lines place (i ∷ is) (omega arith) b.is_window) in
-    stands_in write i is new short letters (target_in b.cut.parts) here b.cut.parts shapes s false place b.cut.shapes_are b.cut.begin b.is_shape (omega arith) (omega arith) fits
+    stands_in write i is new short letters (target_in b.cut.parts) here b.cut.parts footprints s false place b.cut.footprints_are b.cut.begin b.is_footprint (omega arith) (omega arith) fits
 
-target_same : (old new : List (List Line)) (name : Name) → part_of name 0 new ≡ part_of name 0 old → set_address name (joined old) ≡ set_address name (joined new) → target_in old name ≡ target_in new name
+target_same : (old new : List (List ListingLine)) (name : Name) → part_of name 0 new ≡ part_of name 0 old → set_address name (joined old) ≡ set_address name (joined new) → target_in old name ≡ target_in new name
 target_same old new name part set = ap (λ o. target_at o (cleared (set_address name (joined old)))) (sym part) ∙ ap (λ a. target_at (part_of name 0 new) (cleared a)) set
 
 -- it stands within that part, which takes two bytes for each of its instructions
-pub window_within : (lines : List Line) (shapes : List Shape) (here first place : ℕ) (s : Shape) (window : List Instr) → BeginsIn lines shapes here first place s window → ((place - first) + length window ≤ s.places) × (2 * length window ≤ s.bytes)
-window_within lines shapes here first place s window b =
-    let r = window_stands (λ i. []) lines shapes here first place s window [] (omega arith) refl b in
+pub window_within : (lines : List ListingLine) (footprints : List Footprint) (here first place : ℕ) (s : Footprint) (window : List Instr) → BeginsIn lines footprints here first place s window → ((place - first) + length window ≤ s.places) × (2 * length window ≤ s.bytes)
+window_within lines footprints here first place s window b =
+    let r = window_stands (λ i. []) lines footprints here first place s window [] (omega arith) refl b in
     let within = r.within in
     let first_is = b.first_is in
     (omega arith, r.bytes)
 
 -- where it gives way to fewer instructions, the lines are cut into the same parts, of which that one takes fewer bytes and has fewer places
-pub window_gives_way : (write : Instr → List ℕ) (lines : List Line) (shapes : List Shape) (here first place : ℕ) (s : Shape) (window new : List Instr) → length new ≤ length window → list_all is_in_window new ≡ true → BeginsIn lines shapes here first place s window
-    → AreCut (replaced_lines write place (length window) new lines) (lessen here (2 * (length window - length new)) (length window - length new) shapes)
-window_gives_way write lines shapes here first place s window new short letters b =
-    let parts : List (List Line) = b.cut.parts in
-    let g = (window_stands write lines shapes here first place s window new short letters b).given in
-    let news : List (List Line) = g.news in
+pub window_gives_way : (write : Instr → List ℕ) (lines : List ListingLine) (footprints : List Footprint) (here first place : ℕ) (s : Footprint) (window new : List Instr) → length new ≤ length window → list_all is_in_window new ≡ true → BeginsIn lines footprints here first place s window
+    → AreCut (replaced_lines write place (length window) new lines) (lessen here (2 * (length window - length new)) (length window - length new) footprints)
+window_gives_way write lines footprints here first place s window new short letters b =
+    let parts : List (List ListingLine) = b.cut.parts in
+    let g = (window_stands write lines footprints here first place s window new short letters b).given in
+    let news : List (List ListingLine) = g.news in
     let sets : (name : Name) → set_address name (joined parts) ≡ set_address name (joined news) = λ name. sets_kept write place (length window) new (joined parts) name ∙ ap (set_address name) g.lines in
     let same : (name : Name) → target_in parts name ≡ target_in news name = λ name. target_same parts news name (g.names name 0) (sets name) in
     record {
       parts = news;
       is = ap (replaced_lines write place (length window) new) b.cut.is ∙ g.lines;
-      shapes_are = shapes_same (target_in parts) (target_in news) same news (lessen here (2 * (length window - length new)) (length window - length new) shapes) g.shapes_are;
+      footprints_are = footprints_same (target_in parts) (target_in news) same news (lessen here (2 * (length window - length new)) (length window - length new) footprints) g.footprints_are;
       begin = g.behind b.cut.begin;
     }

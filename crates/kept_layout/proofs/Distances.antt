@@ -4,7 +4,7 @@ use Rattle.std.specs.Prelude.{nat_le, nat_lt}
 use Rattle.std.proofs.lemmas.Bool.{cases_Bool, cases_lt, and_parts, ltb-true, leb-true, eqb-true, lt-ltb, le-leb, eq-eqb}
 use Rattle.thumb_instr.specs.declared.instr.Instr.{Instr}
 use Rattle.thumb_instr.specs.declared.instr.Instr.TheVariants as instr
-use Rattle.kept_layout.specs.Stretches.{is_literal, Divides}
+use Rattle.kept_layout.specs.Blocks.{is_literal, Divides}
 use Rattle.thumb_model.specs.Layout.{literal_base, branch_fault, literal_fault, aim_fault}
 
 -- ---- within reach ----

@@ -1,5 +1,5 @@
 pub mod BuildingCallers
-pub mod BuildingGrains
+pub mod BuildingAlignments
 pub mod BuildingLaid
 pub mod BuildingParts
 pub mod BuildingSteps

@@ -6,13 +6,13 @@ use Rattle.std.proofs.lemmas.Option.{slice_get_read, slice_get_within}
 use Rattle.thumb_model.specs.Layout.{aim_fault}
 use Rattle.thumb_model.proofs.Lists.{present_at}
 use Rattle.kept_layout.specs.declared.kept.KeptLayout.{KeptLayout}
-use Rattle.kept_layout.specs.declared.stretch.Head.{Head}
-use Rattle.kept_layout.specs.declared.stretch.Head.TheVariants as head
-use Rattle.kept_layout.specs.declared.stretch.Stretch.{Stretch}
-use Rattle.kept_layout.specs.declared.stretch.Target.{Target}
-use Rattle.kept_layout.specs.declared.stretch.Target.TheVariants as target
-use Rattle.kept_layout.specs.declared.grains.Loose.TheVariants as sort
-use Rattle.kept_layout.specs.Stretches.{head_fault, is_loose, is_loose_to, HasSlack, HasSlackTo}
+use Rattle.kept_layout.specs.declared.block.Head.{Head}
+use Rattle.kept_layout.specs.declared.block.Head.TheVariants as head
+use Rattle.kept_layout.specs.declared.block.Block.{Block}
+use Rattle.kept_layout.specs.declared.block.NameLocation.{NameLocation}
+use Rattle.kept_layout.specs.declared.block.NameLocation.TheVariants as location
+use Rattle.kept_layout.specs.declared.alignments.Loose.TheVariants as sort
+use Rattle.kept_layout.specs.Blocks.{head_fault, is_loose, is_loose_to, HasSlack, HasSlackTo}
 use Rattle.kept_layout.specs.Kept.{IsLaid}
 use Rattle.kept_layout.specs.Moves.{end_of, has_slack, moved_starts, starts_of, AreSlack, IsMove}
 use Rattle.kept_layout.proofs.ShrinkingPlaces.{count_of, moved_before, moved_behind}
@@ -25,10 +25,10 @@ slack_none starts at head.Plain e = tt
 slack_none starts at (head.Pads size most) e = tt
 slack_none starts at (head.Aims a) e = go a.to e
   where
-    go : (to : Option Target) → head_fault starts at (head.Aims (record a { to = to })) ≡ None → HasSlackTo 0 at a.instr to a.plus
+    go : (to : Option NameLocation) → head_fault starts at (head.Aims (record a { to = to })) ≡ None → HasSlackTo 0 at a.instr to a.plus
     go None f = tt
-    go (Some (target.Stretch t)) f = tt
-    go (Some (target.Address to)) f = λ d l m. subst (λ n. aim_fault n a.instr (Some to) a.plus ≡ None) (let same : at ≡ at - d = omega arith in same) f
+    go (Some (location.Block t)) f = tt
+    go (Some (location.Address to)) f = λ d l m. subst (λ n. aim_fault n a.instr (Some to) a.plus ≡ None) (let same : at ≡ at - d = omega arith in same) f
 
 -- and fewer bytes than it has
 pub slack_fewer : (n m at : ℕ) (h : Head) → m ≤ n → HasSlack n at h → HasSlack m at h
@@ -36,10 +36,10 @@ slack_fewer n m at head.Plain l s = tt
 slack_fewer n m at (head.Pads size most) l s = tt
 slack_fewer n m at (head.Aims a) l s = go a.to s
   where
-    go : (to : Option Target) → HasSlackTo n at a.instr to a.plus → HasSlackTo m at a.instr to a.plus
+    go : (to : Option NameLocation) → HasSlackTo n at a.instr to a.plus → HasSlackTo m at a.instr to a.plus
     go None r = tt
-    go (Some (target.Stretch t)) r = tt
-    go (Some (target.Address to)) r = λ d x y. r d (omega arith) y
+    go (Some (location.Block t)) r = tt
+    go (Some (location.Address to)) r = λ d x y. r d (omega arith) y
 
 -- it has less where it came nearer
 slack_moves : (n by at : ℕ) (h : Head) → by ≤ n → by ≤ at → HasSlack n at h → HasSlack (n - by) (at - by) h
@@ -47,10 +47,10 @@ slack_moves n by at head.Plain l m s = tt
 slack_moves n by at (head.Pads size most) l m s = tt
 slack_moves n by at (head.Aims a) l m s = go a.to s
   where
-    go : (to : Option Target) → HasSlackTo n at a.instr to a.plus → HasSlackTo (n - by) (at - by) a.instr to a.plus
+    go : (to : Option NameLocation) → HasSlackTo n at a.instr to a.plus → HasSlackTo (n - by) (at - by) a.instr to a.plus
     go None r = tt
-    go (Some (target.Stretch t)) r = tt
-    go (Some (target.Address to)) r = λ d x y. subst (λ p. aim_fault p a.instr (Some to) a.plus ≡ None) (let same : at - (by + d) ≡ at - by - d = omega arith in same) (r (by + d) (omega arith) (omega arith))
+    go (Some (location.Block t)) r = tt
+    go (Some (location.Address to)) r = λ d x y. subst (λ p. aim_fault p a.instr (Some to) a.plus ≡ None) (let same : at - (by + d) ≡ at - by - d = omega arith in same) (r (by + d) (omega arith) (omega arith))
 
 -- ---- all of them ----
 
@@ -60,14 +60,14 @@ slack_other n at j head.Plain e = tt
 slack_other n at j (head.Pads size most) e = tt
 slack_other n at j (head.Aims a) e = go a.to e
   where
-    go : (to : Option Target) → is_loose_to sort.Address j a.instr to ≡ false → HasSlackTo n at a.instr to a.plus
+    go : (to : Option NameLocation) → is_loose_to sort.Address j a.instr to ≡ false → HasSlackTo n at a.instr to a.plus
     go None f = tt
-    go (Some (target.Stretch t)) f = tt
-    go (Some (target.Address to)) f = absurd (true≢false f)
+    go (Some (location.Block t)) f = tt
+    go (Some (location.Address to)) f = absurd (true≢false f)
 
--- by so many bytes what a stretch begins with may come nearer then
+-- by so many bytes what a block begins with may come nearer then
 abbrev pub HasOwn : KeptLayout → List ℕ → ℕ → ℕ → ℕ → Type 0
-HasOwn k new by slack j = (at : ℕ) (s : Stretch) → slice_get k.stretches.items j ≡ Some s → slice_get (moved_starts k new by) j ≡ Some at → HasSlack slack at s.head
+HasOwn k new by slack j = (at : ℕ) (s : Block) → slice_get k.blocks.items j ≡ Some s → slice_get (moved_starts k new by) j ≡ Some at → HasSlack slack at s.head
 
 own_fewer : (k : KeptLayout) (new : List ℕ) (by n m j : ℕ) → m ≤ n → HasOwn k new by n j → HasOwn k new by m j
 own_fewer k new by n m j l h at s e f = slack_fewer n m at s.head l (h at s e f)
@@ -95,7 +95,7 @@ left_all k new by number slack l m enough h left j at s from e f =
     let parts = and_parts (nat_le by k.slack) (nat_le k.slack_from k.here) enough in
     let most = leb-true by k.slack parts.0 in
     let count = count_of k in
-    let old = present_at (starts_of k) j (let w = slice_get_within k.stretches.items j s e in omega arith) in
+    let old = present_at (starts_of k) j (let w = slice_get_within k.blocks.items j s e in omega arith) in
     let had = l.slack j old.0 s from e old.1 in
     elim (cases_lt k.here j) [
       | inr before ↦

@@ -1,27 +1,27 @@
--- What is noted of stretches once they moved.
+-- What is noted of blocks once they moved.
 use Rattle.std.proofs.Common.{◌≡◌, ◌∙◌, inl, inr, ℕ, zero, suc, ◌+◌, ◌-◌, ◌<◌, ◌≤◌, true, List, [], ◌∷◌, length, map, take, drop, Some, refl, sym, ap, subst, arith}
 use Rattle.std.specs.Prelude.{nat_eq, nat_le, slice_get, slice_set, Contains}
 use Rattle.std.proofs.lemmas.Bool.{and_parts, cases_lt, eqb-true, leb-true}
 use Rattle.std.proofs.lemmas.List.{length-set}
 use Rattle.std.proofs.lemmas.Option.{slice_get_within}
 use Rattle.thumb_model.proofs.Lists.{length_map, present_at}
-use Rattle.kept_layout.specs.declared.grains.Loose.TheVariants as sort
+use Rattle.kept_layout.specs.declared.alignments.Loose.TheVariants as sort
 use Rattle.kept_layout.specs.declared.kept.KeptLayout.{KeptLayout}
-use Rattle.kept_layout.specs.declared.stretch.Aim.{Aim}
-use Rattle.kept_layout.specs.declared.stretch.Head.{Head}
-use Rattle.kept_layout.specs.declared.stretch.Head.TheVariants as head
+use Rattle.kept_layout.specs.declared.block.Aim.{Aim}
+use Rattle.kept_layout.specs.declared.block.Head.{Head}
+use Rattle.kept_layout.specs.declared.block.Head.TheVariants as head
 use Rattle.kept_layout.specs.declared.lag.Lag.{Lag}
-use Rattle.kept_layout.specs.declared.stretch.Stretch.{Stretch}
-use Rattle.kept_layout.specs.declared.stretch.Target.TheVariants as target
-use Rattle.kept_layout.specs.Stretches.{addresses, end_from, is_calm, is_loose, lag_of, lessen, literal_last, located, shape_of, shapes_of, starts_from, total_places, AllReach, AreWalls, Divides, HasSlack, IsGrain, Shape}
+use Rattle.kept_layout.specs.declared.block.Block.{Block}
+use Rattle.kept_layout.specs.declared.block.NameLocation.TheVariants as location
+use Rattle.kept_layout.specs.Blocks.{addresses, end_from, is_calm, is_loose, lag_of, lessen, literal_last, located, footprint_of, footprints_of, starts_from, total_places, AllReach, AreWalls, Divides, HasSlack, IsAlignment, Footprint}
 use Rattle.kept_layout.specs.Kept.{AreRooms, IsLaid}
 use Rattle.kept_layout.specs.Moves.{keeps_gap, moved_starts, news, starts_of, unplaced, wall_of, AreNoted, AreNotedIn, AreSlack, IsLagAfter, IsMove, IsMoved, IsNote}
-use Rattle.kept_layout.proofs.MovingPlaces.{shape_at}
-use Rattle.kept_layout.proofs.ShrinkingPlaces.{addresses_are, get_map, lag_before, lag_behind, lag_gap, lies_at, moved_among, moved_before, moved_behind, shapes_length}
+use Rattle.kept_layout.proofs.MovingPlaces.{footprint_at}
+use Rattle.kept_layout.proofs.ShrinkingPlaces.{addresses_are, get_map, lag_before, lag_behind, lag_gap, lies_at, moved_among, moved_before, moved_behind, footprints_length}
 use Rattle.kept_layout.proofs.Walls.{bounds, end_news, few_low, news_behind, news_calm}
-use Rattle.kept_layout.proofs.ShrinkingStarts.{grain_lessen, lessen_at, lessen_length, places_lessen, starts_length}
+use Rattle.kept_layout.proofs.ShrinkingStarts.{alignment_lessen, lessen_at, lessen_length, places_lessen, starts_length}
 
--- ---- one stretch ----
+-- ---- one block ----
 
 pub set_here : {A : Type 0} (xs : List A) (p : ℕ) (x : A) → p < length xs → slice_get (slice_set xs p x) p ≡ Some x
 set_here [] p x h = absurd (omega arith)
@@ -36,7 +36,7 @@ set_else (y ∷ xs) (suc p) zero x d = refl
 set_else (y ∷ xs) (suc p) (suc q) x d = set_else xs p q x (λ e. d (ap suc e))
 
 -- another address of one of them leaves all else
-pub same_set : (ss : List Stretch) (n : ℕ) (s t : Stretch) → slice_get ss n ≡ Some s → unplaced t ≡ unplaced s → map unplaced (slice_set ss n t) ≡ map unplaced ss
+pub same_set : (ss : List Block) (n : ℕ) (s t : Block) → slice_get ss n ≡ Some s → unplaced t ≡ unplaced s → map unplaced (slice_set ss n t) ≡ map unplaced ss
 same_set [] n s t e f = absurd (cc)
 same_set (x ∷ ss) zero s t e f = let same : x ≡ s = cc in ap (λ y. y ∷ map unplaced ss) (f ∙ ap unplaced (sym same))
 same_set (x ∷ ss) (suc n) s t e f = ap (λ ys. unplaced x ∷ ys) (same_set ss n s t e f)
@@ -46,10 +46,10 @@ same_set (x ∷ ss) (suc n) s t e f = ap (λ ys. unplaced x ∷ ys) (same_set ss
 pub map_length : {A B : Type 0} (f : A → B) (xs ys : List A) → map f xs ≡ map f ys → length xs ≡ length ys
 map_length f xs ys e = sym (length_map f xs) ∙ ap length e ∙ length_map f ys
 
-pub notes_begin : (k : KeptLayout) (bytes : ℕ) (new : List ℕ) (by : ℕ) (lag : Lag) (from : ℕ) → AreNotedIn k bytes new by lag from from k.stretches.items
+pub notes_begin : (k : KeptLayout) (bytes : ℕ) (new : List ℕ) (by : ℕ) (lag : Lag) (from : ℕ) → AreNotedIn k bytes new by lag from from k.blocks.items
 notes_begin k bytes new by lag from = record { same = refl; notes = λ j s d h m. absurd (omega arith); low = λ j h. refl; rest = λ j h. refl }
 
--- it is told of a layout that stands at the same stretch
+-- it is told of a layout that stands at the same block
 note_alike : (l k : KeptLayout) (bytes : ℕ) (new : List ℕ) (by : ℕ) (lag : Lag) (j old note : ℕ) → l.here ≡ k.here → wall_of l ≡ wall_of k → IsNote l bytes new by lag j old note → IsNote k bytes new by lag j old note
 note_alike l k bytes new by lag j old note here wall n = record {
   before = λ h. n.before (omega arith);
@@ -58,13 +58,13 @@ note_alike l k bytes new by lag j old note here wall n = record {
   behind = λ h m. n.behind (omega arith) (omega arith);
 }
 
-pub note_from : (k l : KeptLayout) (bytes : ℕ) (new : List ℕ) (by : ℕ) (lag : Lag) (j at note : ℕ) → l ≡ (record k { stretches = l.stretches }) → IsNote l bytes new by lag j (located l.lag j at) note → IsNote k bytes new by lag j (located k.lag j at) note
+pub note_from : (k l : KeptLayout) (bytes : ℕ) (new : List ℕ) (by : ℕ) (lag : Lag) (j at note : ℕ) → l ≡ (record k { blocks = l.blocks }) → IsNote l bytes new by lag j (located l.lag j at) note → IsNote k bytes new by lag j (located k.lag j at) note
 note_from k l bytes new by lag j at note fields n =
     subst (λ x. IsNote k bytes new by lag j x note) (ap (λ (x : KeptLayout). located x.lag j at) fields)
     (note_alike l k bytes new by lag j (located l.lag j at) note (ap (λ (x : KeptLayout). x.here) fields) (ap (λ (x : KeptLayout). wall_of x) fields) n)
 
-pub notes_on : (k l : KeptLayout) (bytes : ℕ) (new : List ℕ) (by : ℕ) (lag : Lag) (from number following : ℕ) (more : List Stretch) → from ≤ number → l ≡ (record k { stretches = l.stretches }) → AreNotedIn k bytes new by lag from number l.stretches.items → map unplaced more ≡ map unplaced l.stretches.items
-    → ((j : ℕ) → (j ≡ number → ⊥) → slice_get more j ≡ slice_get l.stretches.items j) → ((s d : Stretch) → slice_get l.stretches.items number ≡ Some s → slice_get more number ≡ Some d → IsNote l bytes new by lag number (located l.lag number s.at) d.at) → following ≡ suc number
+pub notes_on : (k l : KeptLayout) (bytes : ℕ) (new : List ℕ) (by : ℕ) (lag : Lag) (from number following : ℕ) (more : List Block) → from ≤ number → l ≡ (record k { blocks = l.blocks }) → AreNotedIn k bytes new by lag from number l.blocks.items → map unplaced more ≡ map unplaced l.blocks.items
+    → ((j : ℕ) → (j ≡ number → ⊥) → slice_get more j ≡ slice_get l.blocks.items j) → ((s d : Block) → slice_get l.blocks.items number ≡ Some s → slice_get more number ≡ Some d → IsNote l bytes new by lag number (located l.lag number s.at) d.at) → following ≡ suc number
     → AreNotedIn k bytes new by lag from following more
 notes_on k l bytes new by lag from number following more past fields n same others note f = record {
   same = same ∙ n.same;
@@ -72,7 +72,7 @@ notes_on k l bytes new by lag from number following more past fields n same othe
     | inl h ↦ n.notes j s d low h e (sym (others j (λ x. omega arith)) ∙ g)
     | inr h ↦
         let here : number ≡ j = omega arith in
-        let found : slice_get l.stretches.items number ≡ Some s = n.rest number (omega arith) ∙ ap (slice_get k.stretches.items) here ∙ e in
+        let found : slice_get l.blocks.items number ≡ Some s = n.rest number (omega arith) ∙ ap (slice_get k.blocks.items) here ∙ e in
         subst (λ i. IsNote k bytes new by lag i (located k.lag i s.at) d.at) here (note_from k l bytes new by lag number s.at d.at fields (note s d found (ap (slice_get more) here ∙ g)))
   ];
   low = λ j h. others j (λ x. omega arith) ∙ n.low j h;
@@ -92,7 +92,7 @@ still_noted k bytes new by lag j at moves low is before calm behind = record {
 }
 
 -- what moves together behind the border
-still_behind : (k : KeptLayout) (bytes : ℕ) (new : List ℕ) (by : ℕ) (lag : Lag) (j : ℕ) (s : Stretch) → IsLaid k → IsMove k (news k bytes new) by → IsLagAfter k bytes new by lag → wall_of k + length new ≤ j → k.lag.border ≤ j → slice_get k.stretches.items j ≡ Some s → IsNote k bytes new by lag j (located k.lag j s.at) s.at
+still_behind : (k : KeptLayout) (bytes : ℕ) (new : List ℕ) (by : ℕ) (lag : Lag) (j : ℕ) (s : Block) → IsLaid k → IsMove k (news k bytes new) by → IsLagAfter k bytes new by lag → wall_of k + length new ≤ j → k.lag.border ≤ j → slice_get k.blocks.items j ≡ Some s → IsNote k bytes new by lag j (located k.lag j s.at) s.at
 still_behind k bytes new by lag j s l m a h b e =
     let from = (bounds k l).from in
     let end = end_news k bytes new l in
@@ -105,7 +105,7 @@ still_behind k bytes new by lag j s l m a h b e =
     still_noted k bytes new by lag j s.at by (omega arith) (omega arith) (λ x. absurd (omega arith)) (λ x y. absurd (omega arith)) (λ x y. (h, refl))
 
 -- what doesn't move, before all that lies before its note
-still_before : (k : KeptLayout) (bytes : ℕ) (new : List ℕ) (by : ℕ) (lag : Lag) (j : ℕ) (s : Stretch) → IsLaid k → IsLagAfter k bytes new by lag → j ≤ k.here → j < k.lag.from → j < k.lag.border → slice_get k.stretches.items j ≡ Some s → IsNote k bytes new by lag j (located k.lag j s.at) s.at
+still_before : (k : KeptLayout) (bytes : ℕ) (new : List ℕ) (by : ℕ) (lag : Lag) (j : ℕ) (s : Block) → IsLaid k → IsLagAfter k bytes new by lag → j ≤ k.here → j < k.lag.from → j < k.lag.border → slice_get k.blocks.items j ≡ Some s → IsNote k bytes new by lag j (located k.lag j s.at) s.at
 still_before k bytes new by lag j s l a h f b e =
     let from = (bounds k l).from in
     let border = a.border in
@@ -115,7 +115,7 @@ still_before k bytes new by lag j s l a h f b e =
     still_noted k bytes new by lag j s.at 0 (omega arith) (omega arith) (λ x. refl) (λ x y. absurd (omega arith)) (λ x y. absurd (omega arith))
 
 -- the calm ones that lay before their notes already
-still_calm : (k : KeptLayout) (bytes : ℕ) (new : List ℕ) (by : ℕ) (lag : Lag) (j : ℕ) (s : Stretch) → IsLaid k → ((s : Shape) → slice_get (shapes_of k.stretches.items) k.here ≡ Some s → bytes ≤ s.bytes) → IsLagAfter k bytes new by lag → keeps_gap k ≡ true → k.here < j → k.lag.from ≤ j → j < wall_of k → slice_get k.stretches.items j ≡ Some s
+still_calm : (k : KeptLayout) (bytes : ℕ) (new : List ℕ) (by : ℕ) (lag : Lag) (j : ℕ) (s : Block) → IsLaid k → ((s : Footprint) → slice_get (footprints_of k.blocks.items) k.here ≡ Some s → bytes ≤ s.bytes) → IsLagAfter k bytes new by lag → keeps_gap k ≡ true → k.here < j → k.lag.from ≤ j → j < wall_of k → slice_get k.blocks.items j ≡ Some s
     → IsNote k bytes new by lag j (located k.lag j s.at) s.at
 still_calm k bytes new by lag j s l few a keeps h f w e =
     let parts = and_parts (nat_eq k.lag.until (wall_of k)) (nat_le (wall_of k) k.lag.border) keeps in
@@ -156,21 +156,21 @@ note_value k bytes new by lag j old note x l m is n e =
     ]
 
 -- all of them, where each one is noted so
-noted_all : (k : KeptLayout) (bytes : ℕ) (new : List ℕ) (by : ℕ) (lag : Lag) (ss : List Stretch) → IsLaid k → IsMove k (news k bytes new) by → map unplaced ss ≡ map unplaced k.stretches.items
-    → ((j : ℕ) (s d : Stretch) → slice_get k.stretches.items j ≡ Some s → slice_get ss j ≡ Some d → IsNote k bytes new by lag j (located k.lag j s.at) d.at) → AreNoted k (news k bytes new) by lag ss
+noted_all : (k : KeptLayout) (bytes : ℕ) (new : List ℕ) (by : ℕ) (lag : Lag) (ss : List Block) → IsLaid k → IsMove k (news k bytes new) by → map unplaced ss ≡ map unplaced k.blocks.items
+    → ((j : ℕ) (s d : Block) → slice_get k.blocks.items j ≡ Some s → slice_get ss j ≡ Some d → IsNote k bytes new by lag j (located k.lag j s.at) d.at) → AreNoted k (news k bytes new) by lag ss
 noted_all k bytes new by lag ss l m same notes = record {
   same = same;
   lies = λ j x d e f.
-      let len = map_length unplaced ss k.stretches.items same in
-      let there = present_at k.stretches.items j (let w = slice_get_within ss j d e in omega arith) in
+      let len = map_length unplaced ss k.blocks.items same in
+      let there = present_at k.blocks.items j (let w = slice_get_within ss j d e in omega arith) in
       note_value k bytes new by lag j (located k.lag j there.0.at) d.at x l m (lies_at k j there.0 l there.1) (notes j there.0 d there.1 e) f;
 }
 
-at_same : (k : KeptLayout) (bytes : ℕ) (new : List ℕ) (by : ℕ) (lag : Lag) (j : ℕ) (s d : Stretch) → s ≡ d → IsNote k bytes new by lag j (located k.lag j s.at) s.at → IsNote k bytes new by lag j (located k.lag j s.at) d.at
-at_same k bytes new by lag j s d one n = subst (λ (x : Stretch). IsNote k bytes new by lag j (located k.lag j s.at) x.at) one n
+at_same : (k : KeptLayout) (bytes : ℕ) (new : List ℕ) (by : ℕ) (lag : Lag) (j : ℕ) (s d : Block) → s ≡ d → IsNote k bytes new by lag j (located k.lag j s.at) s.at → IsNote k bytes new by lag j (located k.lag j s.at) d.at
+at_same k bytes new by lag j s d one n = subst (λ (x : Block). IsNote k bytes new by lag j (located k.lag j s.at) x.at) one n
 
 -- where all were noted from the first one on that moved or moves up to the last one
-pub noted_most : (k : KeptLayout) (bytes : ℕ) (new : List ℕ) (by : ℕ) (lag : Lag) (from until : ℕ) (ss : List Stretch) → IsLaid k → IsMove k (news k bytes new) by → IsLagAfter k bytes new by lag → from ≤ suc k.here → from ≤ k.lag.from → from ≤ k.lag.border → wall_of k + length new ≤ until → k.lag.border ≤ until
+pub noted_most : (k : KeptLayout) (bytes : ℕ) (new : List ℕ) (by : ℕ) (lag : Lag) (from until : ℕ) (ss : List Block) → IsLaid k → IsMove k (news k bytes new) by → IsLagAfter k bytes new by lag → from ≤ suc k.here → from ≤ k.lag.from → from ≤ k.lag.border → wall_of k + length new ≤ until → k.lag.border ≤ until
     → AreNotedIn k bytes new by lag from until ss → AreNoted k (news k bytes new) by lag ss
 noted_most k bytes new by lag from until ss l m a h f b o u n = noted_all k bytes new by lag ss l m n.same (λ j s d e g. elim (cases_lt j from) [
   | inl before ↦ at_same k bytes new by lag j s d (let r = n.low j before in cc) (still_before k bytes new by lag j s l a (omega arith) (omega arith) (omega arith) e)
@@ -181,12 +181,12 @@ noted_most k bytes new by lag from until ss l m a h f b o u n = noted_all k byte
 ])
 
 -- where calm ones keep their notes
-pub noted_few : (k middle : KeptLayout) (bytes : ℕ) (new : List ℕ) (by : ℕ) (lag : Lag) (from until end : ℕ) (ss : List Stretch) → IsLaid k → IsMove k (news k bytes new) by → ((s : Shape) → slice_get (shapes_of k.stretches.items) k.here ≡ Some s → bytes ≤ s.bytes) → IsLagAfter k bytes new by lag → keeps_gap k ≡ true
-    → from ≤ suc k.here → from ≤ k.lag.from → until ≤ wall_of k → ((j : ℕ) → until ≤ j → j < wall_of k → (k.here < j) × (k.lag.from ≤ j)) → wall_of k + length new ≤ end → k.lag.border ≤ end → middle ≡ (record k { stretches = middle.stretches })
-    → AreNotedIn k bytes new by lag from until middle.stretches.items → AreNotedIn middle bytes new by lag (wall_of k) end ss → AreNoted k (news k bytes new) by lag ss
+pub noted_few : (k middle : KeptLayout) (bytes : ℕ) (new : List ℕ) (by : ℕ) (lag : Lag) (from until end : ℕ) (ss : List Block) → IsLaid k → IsMove k (news k bytes new) by → ((s : Footprint) → slice_get (footprints_of k.blocks.items) k.here ≡ Some s → bytes ≤ s.bytes) → IsLagAfter k bytes new by lag → keeps_gap k ≡ true
+    → from ≤ suc k.here → from ≤ k.lag.from → until ≤ wall_of k → ((j : ℕ) → until ≤ j → j < wall_of k → (k.here < j) × (k.lag.from ≤ j)) → wall_of k + length new ≤ end → k.lag.border ≤ end → middle ≡ (record k { blocks = middle.blocks })
+    → AreNotedIn k bytes new by lag from until middle.blocks.items → AreNotedIn middle bytes new by lag (wall_of k) end ss → AreNoted k (news k bytes new) by lag ss
 noted_few k middle bytes new by lag from until end ss l m few a keeps h f w calm o u fields first rest = noted_all k bytes new by lag ss l m (rest.same ∙ first.same) (λ j s d e g. elim (cases_lt j (wall_of k)) [
   | inl before ↦
-      let there : slice_get middle.stretches.items j ≡ Some d = sym (rest.low j before) ∙ g in
+      let there : slice_get middle.blocks.items j ≡ Some d = sym (rest.low j before) ∙ g in
       elim (cases_lt j from) [
         | inl low ↦ at_same k bytes new by lag j s d (let r = first.low j low in cc) (still_before k bytes new by lag j s l a (omega arith) (omega arith) (let past = leb-true (wall_of k) k.lag.border (and_parts (nat_eq k.lag.until (wall_of k)) (nat_le (wall_of k) k.lag.border) keeps).1 in omega arith) e)
         | inr not ↦ elim (cases_lt j until) [
@@ -195,7 +195,7 @@ noted_few k middle bytes new by lag from until end ss l m few a keeps h f w calm
         ]
       ]
   | inr not ↦
-      let there : slice_get middle.stretches.items j ≡ Some s = first.rest j (omega arith) ∙ e in
+      let there : slice_get middle.blocks.items j ≡ Some s = first.rest j (omega arith) ∙ e in
       elim (cases_lt j end) [
         | inl within ↦ note_from k middle bytes new by lag j s.at d.at fields (rest.notes j s d (omega arith) within there g)
         | inr behind ↦ at_same k bytes new by lag j s d (let r = rest.rest j (omega arith) in cc) (still_behind k bytes new by lag j s l m a (omega arith) (omega arith) e)
@@ -205,43 +205,43 @@ noted_few k middle bytes new by lag from until end ss l m few a keeps h f w calm
 -- ---- one that takes fewer bytes ----
 
 -- one of them, but for its bytes and places
-record IsOne (k : KeptLayout) (new : List ℕ) (by : ℕ) (lag : Lag) (j : ℕ) (d : Stretch) : Type 0 where
-  s : Stretch
-  is : slice_get k.stretches.items j ≡ Some s
+record IsOne (k : KeptLayout) (new : List ℕ) (by : ℕ) (lag : Lag) (j : ℕ) (d : Block) : Type 0 where
+  s : Block
+  is : slice_get k.blocks.items j ≡ Some s
   head : d.head ≡ s.head
   callers : d.callers.items ≡ s.callers.items
-  grain : d.grain ≡ s.grain
+  alignment : d.alignment ≡ s.alignment
   note : (x : ℕ) → slice_get (moved_starts k new by) j ≡ Some x → d.at ≡ x + lag_of lag j
 
--- a stretch with so many bytes and places fewer
-pub record HasLess (bytes gone : ℕ) (s t : Stretch) : Type 0 where
+-- a block with so many bytes and places fewer
+pub record HasLess (bytes gone : ℕ) (s t : Block) : Type 0 where
   pub at : t.at ≡ s.at
   pub head : t.head ≡ s.head
   pub bytes_are : t.bytes ≡ s.bytes - bytes
   pub places_are : t.places ≡ s.places - gone
   pub callers : t.callers.items ≡ s.callers.items
-  pub grain : t.grain ≡ s.grain
+  pub alignment : t.alignment ≡ s.alignment
 
-one_noted : (k : KeptLayout) (new : List ℕ) (by : ℕ) (lag : Lag) (ss : List Stretch) (j : ℕ) (d : Stretch) → AreNoted k new by lag ss → slice_get ss j ≡ Some d → IsOne k new by lag j d
+one_noted : (k : KeptLayout) (new : List ℕ) (by : ℕ) (lag : Lag) (ss : List Block) (j : ℕ) (d : Block) → AreNoted k new by lag ss → slice_get ss j ≡ Some d → IsOne k new by lag j d
 one_noted k new by lag ss j d n e =
-    let len = map_length unplaced ss k.stretches.items n.same in
+    let len = map_length unplaced ss k.blocks.items n.same in
     let within = slice_get_within ss j d e in
-    let there = present_at k.stretches.items j (omega arith) in
-    let s : Stretch = there.0 in
+    let there = present_at k.blocks.items j (omega arith) in
+    let s : Block = there.0 in
     let left = get_map unplaced ss j d e in
-    let right = get_map unplaced k.stretches.items j s there.1 in
-    let both : slice_get (map unplaced ss) j ≡ slice_get (map unplaced k.stretches.items) j = ap (λ (xs : List Stretch). slice_get xs j) n.same in
+    let right = get_map unplaced k.blocks.items j s there.1 in
+    let both : slice_get (map unplaced ss) j ≡ slice_get (map unplaced k.blocks.items) j = ap (λ (xs : List Block). slice_get xs j) n.same in
     let same : unplaced d ≡ unplaced s = cc in
     record {
       s = s;
       is = there.1;
-      head = ap (λ (x : Stretch). x.head) same;
-      callers = ap (λ (x : Stretch). x.callers.items) same;
-      grain = ap (λ (x : Stretch). x.grain) same;
+      head = ap (λ (x : Block). x.head) same;
+      callers = ap (λ (x : Block). x.callers.items) same;
+      alignment = ap (λ (x : Block). x.alignment) same;
       note = λ x f. n.lies j x d e f;
     }
 
-one_less : (k : KeptLayout) (new : List ℕ) (by : ℕ) (lag : Lag) (ss : List Stretch) (bytes gone j : ℕ) (s t d : Stretch) → AreNoted k new by lag ss → slice_get ss k.here ≡ Some s → HasLess bytes gone s t → slice_get (slice_set ss k.here t) j ≡ Some d → IsOne k new by lag j d
+one_less : (k : KeptLayout) (new : List ℕ) (by : ℕ) (lag : Lag) (ss : List Block) (bytes gone j : ℕ) (s t d : Block) → AreNoted k new by lag ss → slice_get ss k.here ≡ Some s → HasLess bytes gone s t → slice_get (slice_set ss k.here t) j ≡ Some d → IsOne k new by lag j d
 one_less k new by lag ss bytes gone j s t d n e h f = elim (cases_lt j k.here) [
   | inl l ↦ one_noted k new by lag ss j d n (sym (set_else ss k.here j t (λ x. omega arith)) ∙ f)
   | inr l ↦ elim (cases_lt k.here j) [
@@ -254,43 +254,43 @@ one_less k new by lag ss bytes gone j s t d n e h f = elim (cases_lt j k.here) [
         record {
           s = was.s;
           is = was.is;
-          head = ap (λ (x : Stretch). x.head) (sym one) ∙ h.head ∙ was.head;
-          callers = ap (λ (x : Stretch). x.callers.items) (sym one) ∙ h.callers ∙ was.callers;
-          grain = ap (λ (x : Stretch). x.grain) (sym one) ∙ h.grain ∙ was.grain;
-          note = λ x f. let v = was.note x f in let at = sym h.at ∙ ap (λ (x : Stretch). x.at) one in omega arith;
+          head = ap (λ (x : Block). x.head) (sym one) ∙ h.head ∙ was.head;
+          callers = ap (λ (x : Block). x.callers.items) (sym one) ∙ h.callers ∙ was.callers;
+          alignment = ap (λ (x : Block). x.alignment) (sym one) ∙ h.alignment ∙ was.alignment;
+          note = λ x f. let v = was.note x f in let at = sym h.at ∙ ap (λ (x : Block). x.at) one in omega arith;
         }
   ]
 ]
 
--- ---- their shapes ----
+-- ---- their footprints ----
 
-shapes_unplaced : (ss : List Stretch) → map shape_of (map unplaced ss) ≡ shapes_of ss
-shapes_unplaced [] = refl
-shapes_unplaced (s ∷ ss) = ap (λ (xs : List Shape). shape_of s ∷ xs) (shapes_unplaced ss)
+footprints_unplaced : (ss : List Block) → map footprint_of (map unplaced ss) ≡ footprints_of ss
+footprints_unplaced [] = refl
+footprints_unplaced (s ∷ ss) = ap (λ (xs : List Footprint). footprint_of s ∷ xs) (footprints_unplaced ss)
 
-shapes_same : (xs ys : List Stretch) → map unplaced xs ≡ map unplaced ys → shapes_of xs ≡ shapes_of ys
-shapes_same xs ys e = sym (shapes_unplaced xs) ∙ ap (map shape_of) e ∙ shapes_unplaced ys
+footprints_same : (xs ys : List Block) → map unplaced xs ≡ map unplaced ys → footprints_of xs ≡ footprints_of ys
+footprints_same xs ys e = sym (footprints_unplaced xs) ∙ ap (map footprint_of) e ∙ footprints_unplaced ys
 
-shape_less : (bytes gone : ℕ) (s t : Stretch) → HasLess bytes gone s t → shape_of t ≡ (record { head = s.head; bytes = s.bytes - bytes; places = s.places - gone })
-shape_less bytes gone s t h =
-    ap (λ (x : Head). let y : Shape = record { head = x; bytes = t.bytes; places = t.places } in y) h.head
-    ∙ ap (λ x. let y : Shape = record { head = s.head; bytes = x; places = t.places } in y) h.bytes_are
-    ∙ ap (λ x. let y : Shape = record { head = s.head; bytes = s.bytes - bytes; places = x } in y) h.places_are
+footprint_less : (bytes gone : ℕ) (s t : Block) → HasLess bytes gone s t → footprint_of t ≡ (record { head = s.head; bytes = s.bytes - bytes; places = s.places - gone })
+footprint_less bytes gone s t h =
+    ap (λ (x : Head). let y : Footprint = record { head = x; bytes = t.bytes; places = t.places } in y) h.head
+    ∙ ap (λ x. let y : Footprint = record { head = s.head; bytes = x; places = t.places } in y) h.bytes_are
+    ∙ ap (λ x. let y : Footprint = record { head = s.head; bytes = s.bytes - bytes; places = x } in y) h.places_are
 
-shapes_set : (ss : List Stretch) (n bytes gone : ℕ) (s t : Stretch) → slice_get ss n ≡ Some s → HasLess bytes gone s t → shapes_of (slice_set ss n t) ≡ lessen n bytes gone (shapes_of ss)
-shapes_set [] n bytes gone s t e h = absurd (cc)
-shapes_set (x ∷ ss) zero bytes gone s t e h =
+footprints_set : (ss : List Block) (n bytes gone : ℕ) (s t : Block) → slice_get ss n ≡ Some s → HasLess bytes gone s t → footprints_of (slice_set ss n t) ≡ lessen n bytes gone (footprints_of ss)
+footprints_set [] n bytes gone s t e h = absurd (cc)
+footprints_set (x ∷ ss) zero bytes gone s t e h =
     let same : s ≡ x = cc in
-    ap (λ (y : Shape). y ∷ shapes_of ss) (shape_less bytes gone s t h ∙ ap (λ (z : Stretch). let y : Shape = record { head = z.head; bytes = z.bytes - bytes; places = z.places - gone } in y) same)
-shapes_set (x ∷ ss) (suc n) bytes gone s t e h = ap (λ (xs : List Shape). shape_of x ∷ xs) (shapes_set ss n bytes gone s t e h)
+    ap (λ (y : Footprint). y ∷ footprints_of ss) (footprint_less bytes gone s t h ∙ ap (λ (z : Block). let y : Footprint = record { head = z.head; bytes = z.bytes - bytes; places = z.places - gone } in y) same)
+footprints_set (x ∷ ss) (suc n) bytes gone s t e h = ap (λ (xs : List Footprint). footprint_of x ∷ xs) (footprints_set ss n bytes gone s t e h)
 
-pub shapes_less : (k : KeptLayout) (new : List ℕ) (by : ℕ) (lag : Lag) (ss : List Stretch) (bytes gone : ℕ) (s t : Stretch) → AreNoted k new by lag ss → slice_get ss k.here ≡ Some s → HasLess bytes gone s t → shapes_of (slice_set ss k.here t) ≡ lessen k.here bytes gone (shapes_of k.stretches.items)
-shapes_less k new by lag ss bytes gone s t n e h = shapes_set ss k.here bytes gone s t e h ∙ ap (lessen k.here bytes gone) (shapes_same ss k.stretches.items n.same)
+pub footprints_less : (k : KeptLayout) (new : List ℕ) (by : ℕ) (lag : Lag) (ss : List Block) (bytes gone : ℕ) (s t : Block) → AreNoted k new by lag ss → slice_get ss k.here ≡ Some s → HasLess bytes gone s t → footprints_of (slice_set ss k.here t) ≡ lessen k.here bytes gone (footprints_of k.blocks.items)
+footprints_less k new by lag ss bytes gone s t n e h = footprints_set ss k.here bytes gone s t e h ∙ ap (lessen k.here bytes gone) (footprints_same ss k.blocks.items n.same)
 
 -- ---- the layout ----
 
--- a layout of these stretches
-pub record IsAfter (k : KeptLayout) (new : List ℕ) (by bytes gone : ℕ) (ss : List Stretch) (after : KeptLayout) : Type 0 where
+-- a layout of these blocks
+pub record IsAfter (k : KeptLayout) (new : List ℕ) (by bytes gone : ℕ) (ss : List Block) (after : KeptLayout) : Type 0 where
   pub base : after.base ≡ k.base
   pub here : after.here ≡ k.here
   pub first : after.first ≡ k.first
@@ -299,84 +299,84 @@ pub record IsAfter (k : KeptLayout) (new : List ℕ) (by bytes gone : ℕ) (ss :
   pub slack : AreSlack k (news k bytes new) by after.slack_from after.slack
   pub lag : IsLagAfter k bytes new by after.lag
   pub noted : AreNoted k (news k bytes new) by after.lag ss
-  pub s : Stretch
-  pub t : Stretch
+  pub s : Block
+  pub t : Block
   pub is : slice_get ss k.here ≡ Some s
   pub less : HasLess bytes gone s t
-  pub stretches : after.stretches.items ≡ slice_set ss k.here t
-  pub rooms : AreRooms after.rooms.items (lessen k.here bytes gone (shapes_of k.stretches.items))
+  pub blocks : after.blocks.items ≡ slice_set ss k.here t
+  pub rooms : AreRooms after.rooms.items (lessen k.here bytes gone (footprints_of k.blocks.items))
   pub walls : after.walls.items ≡ k.walls.items
 
-laid_at : (k : KeptLayout) (new : List ℕ) (by bytes gone : ℕ) (ss : List Stretch) (after : KeptLayout) (j : ℕ) (d : Stretch) → IsAfter k new by bytes gone ss after → slice_get after.stretches.items j ≡ Some d → IsOne k (news k bytes new) by after.lag j d
-laid_at k new by bytes gone ss after j d a e = one_less k (news k bytes new) by after.lag ss bytes gone j a.s a.t d a.noted a.is a.less (ap (λ (xs : List Stretch). slice_get xs j) (sym a.stretches) ∙ e)
+laid_at : (k : KeptLayout) (new : List ℕ) (by bytes gone : ℕ) (ss : List Block) (after : KeptLayout) (j : ℕ) (d : Block) → IsAfter k new by bytes gone ss after → slice_get after.blocks.items j ≡ Some d → IsOne k (news k bytes new) by after.lag j d
+laid_at k new by bytes gone ss after j d a e = one_less k (news k bytes new) by after.lag ss bytes gone j a.s a.t d a.noted a.is a.less (ap (λ (xs : List Block). slice_get xs j) (sym a.blocks) ∙ e)
 
-laid_shapes : (k : KeptLayout) (new : List ℕ) (by bytes gone : ℕ) (ss : List Stretch) (after : KeptLayout) → IsAfter k new by bytes gone ss after → shapes_of after.stretches.items ≡ lessen k.here bytes gone (shapes_of k.stretches.items)
-laid_shapes k new by bytes gone ss after a = ap shapes_of a.stretches ∙ shapes_less k (news k bytes new) by after.lag ss bytes gone a.s a.t a.noted a.is a.less
+laid_footprints : (k : KeptLayout) (new : List ℕ) (by bytes gone : ℕ) (ss : List Block) (after : KeptLayout) → IsAfter k new by bytes gone ss after → footprints_of after.blocks.items ≡ lessen k.here bytes gone (footprints_of k.blocks.items)
+laid_footprints k new by bytes gone ss after a = ap footprints_of a.blocks ∙ footprints_less k (news k bytes new) by after.lag ss bytes gone a.s a.t a.noted a.is a.less
 
-laid_length : (k : KeptLayout) (new : List ℕ) (by bytes gone : ℕ) (ss : List Stretch) (after : KeptLayout) → IsAfter k new by bytes gone ss after → length after.stretches.items ≡ length k.stretches.items
-laid_length k new by bytes gone ss after a = ap length a.stretches ∙ length-set ss k.here a.t ∙ map_length unplaced ss k.stretches.items a.noted.same
+laid_length : (k : KeptLayout) (new : List ℕ) (by bytes gone : ℕ) (ss : List Block) (after : KeptLayout) → IsAfter k new by bytes gone ss after → length after.blocks.items ≡ length k.blocks.items
+laid_length k new by bytes gone ss after a = ap length a.blocks ∙ length-set ss k.here a.t ∙ map_length unplaced ss k.blocks.items a.noted.same
 
-moved_count : (k : KeptLayout) (new : List ℕ) (by bytes gone : ℕ) → IsMoved k bytes new by → length (moved_starts k (news k bytes new) by) ≡ length k.stretches.items
+moved_count : (k : KeptLayout) (new : List ℕ) (by bytes gone : ℕ) → IsMoved k bytes new by → length (moved_starts k (news k bytes new) by) ≡ length k.blocks.items
 moved_count k new by bytes gone m =
-    ap length (sym (m.starts gone)) ∙ starts_length k.base (lessen k.here bytes gone (shapes_of k.stretches.items)) ∙ lessen_length k.here bytes gone (shapes_of k.stretches.items) ∙ shapes_length k.stretches.items
+    ap length (sym (m.starts gone)) ∙ starts_length k.base (lessen k.here bytes gone (footprints_of k.blocks.items)) ∙ lessen_length k.here bytes gone (footprints_of k.blocks.items) ∙ footprints_length k.blocks.items
 
 -- where they begin
-laid_lies : (k : KeptLayout) (new : List ℕ) (by bytes gone : ℕ) (ss : List Stretch) (after : KeptLayout) → IsMoved k bytes new by → IsAfter k new by bytes gone ss after → (j : ℕ) (d : Stretch) → slice_get after.stretches.items j ≡ Some d → (x : ℕ) × (slice_get (moved_starts k (news k bytes new) by) j ≡ Some x) × (d.at ≡ x + lag_of after.lag j)
+laid_lies : (k : KeptLayout) (new : List ℕ) (by bytes gone : ℕ) (ss : List Block) (after : KeptLayout) → IsMoved k bytes new by → IsAfter k new by bytes gone ss after → (j : ℕ) (d : Block) → slice_get after.blocks.items j ≡ Some d → (x : ℕ) × (slice_get (moved_starts k (news k bytes new) by) j ≡ Some x) × (d.at ≡ x + lag_of after.lag j)
 laid_lies k new by bytes gone ss after m a j d e =
     let count = moved_count k new by bytes gone m in
     let len = laid_length k new by bytes gone ss after a in
-    let there = present_at (moved_starts k (news k bytes new) by) j (let w = slice_get_within after.stretches.items j d e in omega arith) in
+    let there = present_at (moved_starts k (news k bytes new) by) j (let w = slice_get_within after.blocks.items j d e in omega arith) in
     (there.0, there.1, (laid_at k new by bytes gone ss after j d a e).note there.0 there.1)
 
-laid_starts : (k : KeptLayout) (new : List ℕ) (by bytes gone : ℕ) (ss : List Stretch) (after : KeptLayout) → IsMoved k bytes new by → IsAfter k new by bytes gone ss after → addresses after.lag 0 after.stretches.items ≡ moved_starts k (news k bytes new) by
+laid_starts : (k : KeptLayout) (new : List ℕ) (by bytes gone : ℕ) (ss : List Block) (after : KeptLayout) → IsMoved k bytes new by → IsAfter k new by bytes gone ss after → addresses after.lag 0 after.blocks.items ≡ moved_starts k (news k bytes new) by
 laid_starts k new by bytes gone ss after m a =
-    addresses_are after.lag after.stretches.items (moved_starts k (news k bytes new) by) (moved_count k new by bytes gone m ∙ sym (laid_length k new by bytes gone ss after a))
+    addresses_are after.lag after.blocks.items (moved_starts k (news k bytes new) by) (moved_count k new by bytes gone m ∙ sym (laid_length k new by bytes gone ss after a))
     (λ n d e. let r = laid_lies k new by bytes gone ss after m a n d e in let v = r.2 in r.1 ∙ ap (λ x. Some x) (let same : r.0 ≡ d.at - lag_of after.lag n = omega arith in same))
 
 -- who mentions a label
-laid_callers : (k : KeptLayout) (new : List ℕ) (by bytes gone : ℕ) (ss : List Stretch) (after : KeptLayout) → IsLaid k → IsAfter k new by bytes gone ss after
-    → (i t : ℕ) (s d : Stretch) (aim : Aim) → slice_get after.stretches.items i ≡ Some s → s.head ≡ head.Aims aim → aim.to ≡ Some (target.Stretch t) → slice_get after.stretches.items t ≡ Some d → Contains d.callers.items i
+laid_callers : (k : KeptLayout) (new : List ℕ) (by bytes gone : ℕ) (ss : List Block) (after : KeptLayout) → IsLaid k → IsAfter k new by bytes gone ss after
+    → (i t : ℕ) (s d : Block) (aim : Aim) → slice_get after.blocks.items i ≡ Some s → s.head ≡ head.Aims aim → aim.to ≡ Some (location.Block t) → slice_get after.blocks.items t ≡ Some d → Contains d.callers.items i
 laid_callers k new by bytes gone ss after l a i t s d aim e f g h =
     let from = laid_at k new by bytes gone ss after i s a e in
     let to = laid_at k new by bytes gone ss after t d a h in
     subst (λ xs. Contains xs i) (sym to.callers) (l.callers i t from.s to.s aim from.is (sym from.head ∙ f) g to.is)
 
 -- the same ones are calm
-walls_lessen : (walls : List ℕ) (n bytes gone : ℕ) (shapes : List Shape) → AreWalls walls shapes → AreWalls walls (lessen n bytes gone shapes)
-walls_lessen walls n bytes gone shapes are i wall e =
+walls_lessen : (walls : List ℕ) (n bytes gone : ℕ) (footprints : List Footprint) → AreWalls walls footprints → AreWalls walls (lessen n bytes gone footprints)
+walls_lessen walls n bytes gone footprints are i wall e =
     let is = are i wall e in
-    let count = lessen_length n bytes gone shapes in
+    let count = lessen_length n bytes gone footprints in
     let within = is.within in
     record {
       from = is.from;
       within = omega arith;
       calm = λ j h m. let calm = is.calm j h m in record {
-        own = λ s f. let was = lessen_at n bytes gone shapes j s f in subst (λ (x : Head). is_calm x ≡ true) was.head (calm.own was.shape was.is);
-        label = λ o s a f g t. let was = lessen_at n bytes gone shapes o s f in calm.label o was.shape a was.is (was.head ∙ g) t;
+        own = λ s f. let was = lessen_at n bytes gone footprints j s f in subst (λ (x : Head). is_calm x ≡ true) was.head (calm.own was.footprint was.is);
+        label = λ o s a f g t. let was = lessen_at n bytes gone footprints o s f in calm.label o was.footprint a was.is (was.head ∙ g) t;
       };
     }
 
 -- it is a layout
-pub laid_after : (k : KeptLayout) (new : List ℕ) (by bytes gone : ℕ) (ss : List Stretch) (after : KeptLayout) → IsLaid k → IsMoved k bytes new by → AllReach k.base (lessen k.here bytes gone (shapes_of k.stretches.items)) → IsAfter k new by bytes gone ss after → IsLaid after
+pub laid_after : (k : KeptLayout) (new : List ℕ) (by bytes gone : ℕ) (ss : List Block) (after : KeptLayout) → IsLaid k → IsMoved k bytes new by → AllReach k.base (lessen k.here bytes gone (footprints_of k.blocks.items)) → IsAfter k new by bytes gone ss after → IsLaid after
 laid_after k new by bytes gone ss after l m r a =
     let base = a.base in
-    let shapes = laid_shapes k new by bytes gone ss after a in
+    let footprints = laid_footprints k new by bytes gone ss after a in
     let count = laid_length k new by bytes gone ss after a in
-    let all : end_from after.base (shapes_of after.stretches.items) ≡ end_from k.base (lessen k.here bytes gone (shapes_of k.stretches.items)) = ap (λ x. end_from x (shapes_of after.stretches.items)) base ∙ ap (end_from k.base) shapes in
-    let begins : starts_from after.base (shapes_of after.stretches.items) ≡ starts_from k.base (lessen k.here bytes gone (shapes_of k.stretches.items)) = ap (λ x. starts_from x (shapes_of after.stretches.items)) base ∙ ap (starts_from k.base) shapes in
+    let all : end_from after.base (footprints_of after.blocks.items) ≡ end_from k.base (lessen k.here bytes gone (footprints_of k.blocks.items)) = ap (λ x. end_from x (footprints_of after.blocks.items)) base ∙ ap (end_from k.base) footprints in
+    let begins : starts_from after.base (footprints_of after.blocks.items) ≡ starts_from k.base (lessen k.here bytes gone (footprints_of k.blocks.items)) = ap (λ x. starts_from x (footprints_of after.blocks.items)) base ∙ ap (starts_from k.base) footprints in
     record {
       in_code = let c = m.in_code gone in omega arith;
       starts = laid_starts k new by bytes gone ss after m a ∙ sym (m.starts gone) ∙ sym begins;
       border = let w = m.move.within in let b = a.lag.border in let end = end_news k bytes new l in omega arith;
       noted = λ j d e. let r = laid_lies k new by bytes gone ss after m a j d e in let v = r.2 in omega arith;
-      grains = λ j d e.
+      alignments = λ j d e.
           let o = laid_at k new by bytes gone ss after j d a e in
-          subst (λ g. IsGrain g (drop j (shapes_of after.stretches.items))) (sym o.grain) (subst (λ (xs : List Shape). IsGrain o.s.grain (drop j xs)) (sym shapes) (grain_lessen o.s.grain k.here bytes gone j (shapes_of k.stretches.items) (l.grains j o.s o.is)));
+          subst (λ g. IsAlignment g (drop j (footprints_of after.blocks.items))) (sym o.alignment) (subst (λ (xs : List Footprint). IsAlignment o.s.alignment (drop j xs)) (sym footprints) (alignment_lessen o.s.alignment k.here bytes gone j (footprints_of k.blocks.items) (l.alignments j o.s o.is)));
       literals = λ i j s d e f h.
           let o = laid_at k new by bytes gone ss after j d a f in
-          let was = lessen_at k.here bytes gone (shapes_of k.stretches.items) i s (subst (λ (xs : List Shape). slice_get xs i ≡ Some s) shapes e) in
-          subst (Divides 4) (sym o.grain) (l.literals i j was.shape o.s was.is o.is (subst (λ (x : Head). j ≤ literal_last i x) (sym was.head) h));
-      reach = subst (λ x. AllReach x (shapes_of after.stretches.items)) (sym base) (subst (AllReach k.base) (sym shapes) r);
+          let was = lessen_at k.here bytes gone (footprints_of k.blocks.items) i s (subst (λ (xs : List Footprint). slice_get xs i ≡ Some s) footprints e) in
+          subst (Divides 4) (sym o.alignment) (l.literals i j was.footprint o.s was.is o.is (subst (λ (x : Head). j ≤ literal_last i x) (sym was.head) h));
+      reach = subst (λ x. AllReach x (footprints_of after.blocks.items)) (sym base) (subst (AllReach k.base) (sym footprints) r);
       targets = λ i t s aim e f g. let o = laid_at k new by bytes gone ss after i s a e in let w = l.targets i t o.s aim o.is (sym o.head ∙ f) g in omega arith;
       callers = laid_callers k new by bytes gone ss after l a;
       called = λ t i d e c. let o = laid_at k new by bytes gone ss after t d a e in let w = l.called t i o.s o.is (subst (λ xs. Contains xs i) o.callers c) in omega arith;
@@ -390,39 +390,39 @@ laid_after k new by bytes gone ss after l m r a =
       loose_within = λ j c. let w = l.loose_within j (subst (λ xs. Contains xs j) a.loose c) in omega arith;
       here = let h = a.here in let w = l.here in omega arith;
       first =
-          a.first ∙ l.first ∙ ap total_places (sym (places_lessen k.here bytes gone (shapes_of k.stretches.items)))
-          ∙ ap (λ (xs : List Shape). total_places (take k.here xs)) (sym shapes) ∙ ap (λ n. total_places (take n (shapes_of after.stretches.items))) (sym a.here);
-      rooms = subst (AreRooms after.rooms.items) (sym shapes) a.rooms;
-      walls = subst (AreWalls after.walls.items) (sym shapes) (walls_lessen after.walls.items k.here bytes gone (shapes_of k.stretches.items) (subst (λ (xs : List ℕ). AreWalls xs (shapes_of k.stretches.items)) (sym a.walls) l.walls));
+          a.first ∙ l.first ∙ ap total_places (sym (places_lessen k.here bytes gone (footprints_of k.blocks.items)))
+          ∙ ap (λ (xs : List Footprint). total_places (take k.here xs)) (sym footprints) ∙ ap (λ n. total_places (take n (footprints_of after.blocks.items))) (sym a.here);
+      rooms = subst (AreRooms after.rooms.items) (sym footprints) a.rooms;
+      walls = subst (AreWalls after.walls.items) (sym footprints) (walls_lessen after.walls.items k.here bytes gone (footprints_of k.blocks.items) (subst (λ (xs : List ℕ). AreWalls xs (footprints_of k.blocks.items)) (sym a.walls) l.walls));
     }
 
--- the shape of one that is noted
-pub noted_shape : (k : KeptLayout) (ss : List Stretch) (n : ℕ) (s : Stretch) → map unplaced ss ≡ map unplaced k.stretches.items → slice_get ss n ≡ Some s → slice_get (shapes_of k.stretches.items) n ≡ Some (shape_of s)
-noted_shape k ss n s e f = ap (λ (xs : List Shape). slice_get xs n) (sym (shapes_same ss k.stretches.items e)) ∙ shape_at ss n s f
+-- the footprint of one that is noted
+pub noted_footprint : (k : KeptLayout) (ss : List Block) (n : ℕ) (s : Block) → map unplaced ss ≡ map unplaced k.blocks.items → slice_get ss n ≡ Some s → slice_get (footprints_of k.blocks.items) n ≡ Some (footprint_of s)
+noted_footprint k ss n s e f = ap (λ (xs : List Footprint). slice_get xs n) (sym (footprints_same ss k.blocks.items e)) ∙ footprint_at ss n s f
 
-less_from : (bytes gone : ℕ) (s t : Stretch) → t ≡ (record s { bytes = s.bytes - bytes; places = s.places - gone }) → HasLess bytes gone s t
+less_from : (bytes gone : ℕ) (s t : Block) → t ≡ (record s { bytes = s.bytes - bytes; places = s.places - gone }) → HasLess bytes gone s t
 less_from bytes gone s t e = record {
-  at = ap (λ (x : Stretch). x.at) e;
-  head = ap (λ (x : Stretch). x.head) e;
-  bytes_are = ap (λ (x : Stretch). x.bytes) e;
-  places_are = ap (λ (x : Stretch). x.places) e;
-  callers = ap (λ (x : Stretch). x.callers.items) e;
-  grain = ap (λ (x : Stretch). x.grain) e;
+  at = ap (λ (x : Block). x.at) e;
+  head = ap (λ (x : Block). x.head) e;
+  bytes_are = ap (λ (x : Block). x.bytes) e;
+  places_are = ap (λ (x : Block). x.places) e;
+  callers = ap (λ (x : Block). x.callers.items) e;
+  alignment = ap (λ (x : Block). x.alignment) e;
 }
 
--- a layout of which the stretches were noted anew, and one takes fewer bytes
-pub record HasShrunk (k l : KeptLayout) (new : List ℕ) (by bytes gone : ℕ) (lag : Lag) (s t : Stretch) : Type 0 where
-  pub fields : l ≡ (record k { stretches = l.stretches })
-  pub noted : AreNoted k (news k bytes new) by lag l.stretches.items
-  pub is : slice_get l.stretches.items l.here ≡ Some s
+-- a layout of which the blocks were noted anew, and one takes fewer bytes
+pub record HasShrunk (k l : KeptLayout) (new : List ℕ) (by bytes gone : ℕ) (lag : Lag) (s t : Block) : Type 0 where
+  pub fields : l ≡ (record k { blocks = l.blocks })
+  pub noted : AreNoted k (news k bytes new) by lag l.blocks.items
+  pub is : slice_get l.blocks.items l.here ≡ Some s
   pub less : t ≡ (record s { bytes = s.bytes - bytes; places = s.places - gone })
 
-same_here : (k l : KeptLayout) (new : List ℕ) (by bytes gone : ℕ) (lag : Lag) (s t : Stretch) → HasShrunk k l new by bytes gone lag s t → l.here ≡ k.here
+same_here : (k l : KeptLayout) (new : List ℕ) (by bytes gone : ℕ) (lag : Lag) (s t : Block) → HasShrunk k l new by bytes gone lag s t → l.here ≡ k.here
 same_here k l new by bytes gone lag s t h = ap (λ (x : KeptLayout). x.here) h.fields
 
-pub after_shrinking : (k l : KeptLayout) (new : List ℕ) (by bytes gone : ℕ) (lag : Lag) (s t : Stretch) (after : KeptLayout) → HasShrunk k l new by bytes gone lag s t → after.base ≡ l.base → after.here ≡ l.here → after.first ≡ l.first → after.loose.items ≡ l.loose.items → after.absolute.items ≡ l.absolute.items → AreSlack k (news k bytes new) by after.slack_from after.slack
-    → after.lag ≡ lag → IsLagAfter k bytes new by lag → after.stretches.items ≡ slice_set l.stretches.items l.here t → AreRooms after.rooms.items (lessen k.here bytes gone (shapes_of k.stretches.items)) → after.walls.items ≡ l.walls.items → IsAfter k new by bytes gone l.stretches.items after
-after_shrinking k l new by bytes gone lag s t after h base here first near absolute slack is_lag lags stretches rooms walls =
+pub after_shrinking : (k l : KeptLayout) (new : List ℕ) (by bytes gone : ℕ) (lag : Lag) (s t : Block) (after : KeptLayout) → HasShrunk k l new by bytes gone lag s t → after.base ≡ l.base → after.here ≡ l.here → after.first ≡ l.first → after.loose.items ≡ l.loose.items → after.absolute.items ≡ l.absolute.items → AreSlack k (news k bytes new) by after.slack_from after.slack
+    → after.lag ≡ lag → IsLagAfter k bytes new by lag → after.blocks.items ≡ slice_set l.blocks.items l.here t → AreRooms after.rooms.items (lessen k.here bytes gone (footprints_of k.blocks.items)) → after.walls.items ≡ l.walls.items → IsAfter k new by bytes gone l.blocks.items after
+after_shrinking k l new by bytes gone lag s t after h base here first near absolute slack is_lag lags blocks rooms walls =
     let same : l.here ≡ k.here = same_here k l new by bytes gone lag s t h in
     record {
       base = base ∙ ap (λ (x : KeptLayout). x.base) h.fields;
@@ -432,17 +432,17 @@ after_shrinking k l new by bytes gone lag s t after h base here first near absol
       absolute = absolute ∙ ap (λ (x : KeptLayout). x.absolute.items) h.fields;
       slack = slack;
       lag = subst (IsLagAfter k bytes new by) (sym is_lag) lags;
-      noted = subst (λ x. AreNoted k (news k bytes new) by x l.stretches.items) (sym is_lag) h.noted;
+      noted = subst (λ x. AreNoted k (news k bytes new) by x l.blocks.items) (sym is_lag) h.noted;
       s = s;
       t = t;
-      is = ap (slice_get l.stretches.items) (sym same) ∙ h.is;
+      is = ap (slice_get l.blocks.items) (sym same) ∙ h.is;
       less = less_from bytes gone s t h.less;
-      stretches = stretches ∙ ap (λ n. slice_set l.stretches.items n t) same;
+      blocks = blocks ∙ ap (λ n. slice_set l.blocks.items n t) same;
       rooms = rooms;
       walls = walls ∙ ap (λ (x : KeptLayout). x.walls.items) h.fields;
     }
 
-pub shapes_after : (k l : KeptLayout) (new : List ℕ) (by bytes gone : ℕ) (lag : Lag) (s t : Stretch) → HasShrunk k l new by bytes gone lag s t → shapes_of (slice_set l.stretches.items l.here t) ≡ lessen k.here bytes gone (shapes_of k.stretches.items)
-shapes_after k l new by bytes gone lag s t h =
+pub footprints_after : (k l : KeptLayout) (new : List ℕ) (by bytes gone : ℕ) (lag : Lag) (s t : Block) → HasShrunk k l new by bytes gone lag s t → footprints_of (slice_set l.blocks.items l.here t) ≡ lessen k.here bytes gone (footprints_of k.blocks.items)
+footprints_after k l new by bytes gone lag s t h =
     let same : l.here ≡ k.here = same_here k l new by bytes gone lag s t h in
-    ap (λ n. shapes_of (slice_set l.stretches.items n t)) same ∙ shapes_less k (news k bytes new) by lag l.stretches.items bytes gone s t h.noted (ap (slice_get l.stretches.items) (sym same) ∙ h.is) (less_from bytes gone s t h.less)
+    ap (λ n. footprints_of (slice_set l.blocks.items n t)) same ∙ footprints_less k (news k bytes new) by lag l.blocks.items bytes gone s t h.noted (ap (slice_get l.blocks.items) (sym same) ∙ h.is) (less_from bytes gone s t h.less)

@@ -1,4 +1,4 @@
--- Where stretches lie by what is noted, and where they lie once those behind one moved.
+-- Where blocks lie by what is noted, and where they lie once those behind one moved.
 use Rattle.std.proofs.Common.{◌≡◌, ◌∙◌, inl, inr, ℕ, zero, suc, ◌+◌, ◌-◌, ◌<◌, ◌≤◌, List, [], ◌∷◌, ◌++◌, length, map, take, drop, Some, refl, sym, ap, subst, arith}
 use Rattle.std.specs.Prelude.{nat_le, nat_lt, slice_get}
 use Rattle.std.proofs.lemmas.Bool.{le-leb, leb-true, lt-ltb, ltb-true, cases_Bool}
@@ -6,8 +6,8 @@ use Rattle.std.proofs.lemmas.Option.{slice_get_within}
 use Rattle.thumb_model.proofs.Lists.{get_back, get_drop, get_front, get_take, present_at, take_all}
 use Rattle.kept_layout.specs.declared.kept.KeptLayout.{KeptLayout}
 use Rattle.kept_layout.specs.declared.lag.Lag.{Lag}
-use Rattle.kept_layout.specs.declared.stretch.Stretch.{Stretch}
-use Rattle.kept_layout.specs.Stretches.{addresses, lag_of, located, shapes_of}
+use Rattle.kept_layout.specs.declared.block.Block.{Block}
+use Rattle.kept_layout.specs.Blocks.{addresses, lag_of, located, footprints_of}
 use Rattle.kept_layout.specs.Kept.{IsLaid}
 use Rattle.kept_layout.specs.Moves.{end_of, moved_starts, starts_of, IsMove}
 use Rattle.kept_layout.proofs.ShrinkingStarts.{starts_length}
@@ -29,15 +29,15 @@ lag_behind l n h = elim (cases_Bool (nat_lt n l.border)) [
   | inr f ↦ rw f refl
 ]
 
-address_from : (l : Lag) (first : ℕ) (ss : List Stretch) (n : ℕ) (s : Stretch) → slice_get ss n ≡ Some s → slice_get (addresses l first ss) n ≡ Some (located l (first + n) s.at)
+address_from : (l : Lag) (first : ℕ) (ss : List Block) (n : ℕ) (s : Block) → slice_get ss n ≡ Some s → slice_get (addresses l first ss) n ≡ Some (located l (first + n) s.at)
 address_from l first [] n s e = absurd (cc)
-address_from l first (t ∷ ss) zero s e = let same : t ≡ s = cc in ap (λ (x : Stretch). Some (located l first x.at)) same ∙ ap (λ n. Some (located l n s.at)) (let zero : first ≡ first + 0 = omega arith in zero)
+address_from l first (t ∷ ss) zero s e = let same : t ≡ s = cc in ap (λ (x : Block). Some (located l first x.at)) same ∙ ap (λ n. Some (located l n s.at)) (let zero : first ≡ first + 0 = omega arith in zero)
 address_from l first (t ∷ ss) (suc n) s e = address_from l (suc first) ss n s e ∙ ap (λ n. Some (located l n s.at)) (let next : suc first + n ≡ first + suc n = omega arith in next)
 
-pub address_at : (l : Lag) (ss : List Stretch) (n : ℕ) (s : Stretch) → slice_get ss n ≡ Some s → slice_get (addresses l 0 ss) n ≡ Some (located l n s.at)
+pub address_at : (l : Lag) (ss : List Block) (n : ℕ) (s : Block) → slice_get ss n ≡ Some s → slice_get (addresses l 0 ss) n ≡ Some (located l n s.at)
 address_at l ss n s e = address_from l 0 ss n s e ∙ ap (λ n. Some (located l n s.at)) (let same : 0 + n ≡ n = omega arith in same)
 
-pub addresses_length : (l : Lag) (n : ℕ) (ss : List Stretch) → length (addresses l n ss) ≡ length ss
+pub addresses_length : (l : Lag) (n : ℕ) (ss : List Block) → length (addresses l n ss) ≡ length ss
 addresses_length l n [] = refl
 addresses_length l n (s ∷ ss) = ap suc (addresses_length l (suc n) ss)
 
@@ -52,7 +52,7 @@ lists_same (x ∷ xs) (y ∷ ys) l h =
     ap (λ z. z ∷ xs) first ∙ ap (λ z. y ∷ z) rest
 
 -- each lies where it is told
-pub addresses_are : (lag : Lag) (ss : List Stretch) (xs : List ℕ) → length xs ≡ length ss → ((n : ℕ) (s : Stretch) → slice_get ss n ≡ Some s → slice_get xs n ≡ Some (located lag n s.at)) → addresses lag 0 ss ≡ xs
+pub addresses_are : (lag : Lag) (ss : List Block) (xs : List ℕ) → length xs ≡ length ss → ((n : ℕ) (s : Block) → slice_get ss n ≡ Some s → slice_get xs n ≡ Some (located lag n s.at)) → addresses lag 0 ss ≡ xs
 addresses_are lag ss xs l h = sym (lists_same xs (addresses lag 0 ss) (l ∙ sym (addresses_length lag 0 ss)) (λ n a e.
     let within = slice_get_within (addresses lag 0 ss) n a e in
     let len = addresses_length lag 0 ss in
@@ -61,18 +61,18 @@ addresses_are lag ss xs l h = sym (lists_same xs (addresses lag 0 ss) (l ∙ sym
     let same : a ≡ located lag n there.0.at = cc in
     h n there.0 there.1 ∙ ap (λ m. Some m) (sym same)))
 
--- where a stretch of a layout lies
-pub lies_at : (k : KeptLayout) (n : ℕ) (s : Stretch) → IsLaid k → slice_get k.stretches.items n ≡ Some s → slice_get (starts_of k) n ≡ Some (located k.lag n s.at)
-lies_at k n s l e = subst (λ xs. slice_get xs n ≡ Some (located k.lag n s.at)) l.starts (address_at k.lag k.stretches.items n s e)
+-- where a block of a layout lies
+pub lies_at : (k : KeptLayout) (n : ℕ) (s : Block) → IsLaid k → slice_get k.blocks.items n ≡ Some s → slice_get (starts_of k) n ≡ Some (located k.lag n s.at)
+lies_at k n s l e = subst (λ xs. slice_get xs n ≡ Some (located k.lag n s.at)) l.starts (address_at k.lag k.blocks.items n s e)
 
 -- ---- once they moved ----
 
-pub shapes_length : (ss : List Stretch) → length (shapes_of ss) ≡ length ss
-shapes_length [] = refl
-shapes_length (s ∷ ss) = ap suc (shapes_length ss)
+pub footprints_length : (ss : List Block) → length (footprints_of ss) ≡ length ss
+footprints_length [] = refl
+footprints_length (s ∷ ss) = ap suc (footprints_length ss)
 
-pub count_of : (k : KeptLayout) → length (starts_of k) ≡ length k.stretches.items
-count_of k = starts_length k.base (shapes_of k.stretches.items) ∙ shapes_length k.stretches.items
+pub count_of : (k : KeptLayout) → length (starts_of k) ≡ length k.blocks.items
+count_of k = starts_length k.base (footprints_of k.blocks.items) ∙ footprints_length k.blocks.items
 
 pub get_map : {A B : Type 0} (f : A → B) (xs : List A) (n : ℕ) (x : A) → slice_get xs n ≡ Some x → slice_get (map f xs) n ≡ Some (f x)
 get_map f [] n x e = absurd (cc)
@@ -107,7 +107,7 @@ moved_behind k new by j a m h e =
     ∙ get_back new (map (λ a. a - by) rest) (j - end_of k new) (j - suc k.here) (omega arith)
     ∙ get_map (λ a. a - by) rest (j - end_of k new) a there
 
-pub address_is : (k : KeptLayout) (n a : ℕ) → IsLaid k → n < length k.stretches.items → ((s : Stretch) → slice_get k.stretches.items n ≡ Some s → a ≡ located k.lag n s.at) → slice_get (starts_of k) n ≡ Some a
+pub address_is : (k : KeptLayout) (n a : ℕ) → IsLaid k → n < length k.blocks.items → ((s : Block) → slice_get k.blocks.items n ≡ Some s → a ≡ located k.lag n s.at) → slice_get (starts_of k) n ≡ Some a
 address_is k n a l h f =
-    let there = present_at k.stretches.items n h in
+    let there = present_at k.blocks.items n h in
     lies_at k n there.0 l there.1 ∙ ap (λ m. Some m) (sym (f there.0 there.1))

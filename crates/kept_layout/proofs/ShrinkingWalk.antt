@@ -1,51 +1,51 @@
--- Walking over the stretches behind one that takes fewer bytes.
+-- Walking over the blocks behind one that takes fewer bytes.
 use Rattle.std.proofs.Common.{◌≡◌, ◌∙◌, ℕ, zero, suc, ◌+◌, ◌-◌, ◌<◌, ◌≤◌, ◌^◌, List, [], ◌∷◌, ◌++◌, length, map, take, drop, Some, refl, sym, ap, arith, append_assoc, length-append}
 use Rattle.std.specs.Prelude.{slice_get}
 use Rattle.kept_layout.specs.declared.kept.KeptLayout.{KeptLayout}
-use Rattle.kept_layout.specs.declared.stretch.Stretch.{Stretch}
-use Rattle.kept_layout.specs.Stretches.{end_from, padding_of, shape_of, shapes_of, starts_from, Divides, IsGrain, Shape}
+use Rattle.kept_layout.specs.declared.block.Block.{Block}
+use Rattle.kept_layout.specs.Blocks.{end_from, padding_of, footprint_of, footprints_of, starts_from, Divides, IsAlignment, Footprint}
 use Rattle.kept_layout.specs.Kept.{IsLaid}
 use Rattle.kept_layout.specs.Moves.{end_of, starts_of, IsMovedTo, IsWalked}
-use Rattle.kept_layout.proofs.MovingPlaces.{shape_at}
-use Rattle.kept_layout.proofs.ShrinkingPlaces.{count_of, shapes_length}
+use Rattle.kept_layout.proofs.MovingPlaces.{footprint_at}
+use Rattle.kept_layout.proofs.ShrinkingPlaces.{count_of, footprints_length}
 use Rattle.kept_layout.proofs.ShrinkingStarts.{behind_low, drop_one, end_drop, end_lessen, starts_drop, starts_lessen, starts_order}
 use Rattle.kept_layout.proofs.Together.{divides_on, end_moves, starts_move}
 
--- no stretch begins behind the Code region
-pub start_in_code : (k : KeptLayout) (j : ℕ) (s : Stretch) (a : ℕ) → IsLaid k → slice_get k.stretches.items j ≡ Some s → slice_get (starts_of k) j ≡ Some a → a ≤ 2 ^ 29
+-- no block begins behind the Code region
+pub start_in_code : (k : KeptLayout) (j : ℕ) (s : Block) (a : ℕ) → IsLaid k → slice_get k.blocks.items j ≡ Some s → slice_get (starts_of k) j ≡ Some a → a ≤ 2 ^ 29
 start_in_code k j s a l e f =
-    let low = behind_low k.base (shapes_of k.stretches.items) j (shape_of s) a (shape_at k.stretches.items j s e) f in
+    let low = behind_low k.base (footprints_of k.blocks.items) j (footprint_of s) a (footprint_at k.blocks.items j s e) f in
     let h = l.in_code in
     omega arith
 
-pub walk_begin : (k : KeptLayout) (bytes : ℕ) (s : Stretch) (a at next : ℕ) → IsLaid k → slice_get k.stretches.items k.here ≡ Some s → slice_get (starts_of k) k.here ≡ Some a → at ≡ a + (padding_of s.head a + (s.bytes - bytes)) → at ≤ 2 ^ 29 → next ≡ suc k.here → IsWalked k bytes [] at next
+pub walk_begin : (k : KeptLayout) (bytes : ℕ) (s : Block) (a at next : ℕ) → IsLaid k → slice_get k.blocks.items k.here ≡ Some s → slice_get (starts_of k) k.here ≡ Some a → at ≡ a + (padding_of s.head a + (s.bytes - bytes)) → at ≤ 2 ^ 29 → next ≡ suc k.here → IsWalked k bytes [] at next
 walk_begin k bytes s a at next l e f g h n =
     let within = l.here in
-    let shape = shape_at k.stretches.items k.here s e in
+    let footprint = footprint_at k.blocks.items k.here s e in
     record {
       count = omega arith;
       within = omega arith;
       in_code = h;
-      starts = λ gone. starts_lessen k.base (shapes_of k.stretches.items) k.here bytes gone (shape_of s) a shape f
-          ∙ ap (λ (xs : List ℕ). take (suc k.here) (starts_of k) ++ xs) (ap (λ x. starts_from x (drop (suc k.here) (shapes_of k.stretches.items))) (sym g) ∙ ap (λ x. starts_from at (drop x (shapes_of k.stretches.items))) (sym n));
-      ends = λ gone. end_lessen k.base (shapes_of k.stretches.items) k.here bytes gone (shape_of s) a shape f
-          ∙ (ap (λ x. end_from x (drop (suc k.here) (shapes_of k.stretches.items))) (sym g) ∙ ap (λ x. end_from at (drop x (shapes_of k.stretches.items))) (sym n));
+      starts = λ gone. starts_lessen k.base (footprints_of k.blocks.items) k.here bytes gone (footprint_of s) a footprint f
+          ∙ ap (λ (xs : List ℕ). take (suc k.here) (starts_of k) ++ xs) (ap (λ x. starts_from x (drop (suc k.here) (footprints_of k.blocks.items))) (sym g) ∙ ap (λ x. starts_from at (drop x (footprints_of k.blocks.items))) (sym n));
+      ends = λ gone. end_lessen k.base (footprints_of k.blocks.items) k.here bytes gone (footprint_of s) a footprint f
+          ∙ (ap (λ x. end_from x (drop (suc k.here) (footprints_of k.blocks.items))) (sym g) ∙ ap (λ x. end_from at (drop x (footprints_of k.blocks.items))) (sym n));
     }
 
-pub walk_on : (k : KeptLayout) (bytes : ℕ) (new : List ℕ) (at next : ℕ) (s : Stretch) (end following : ℕ) → IsWalked k bytes new at next → slice_get k.stretches.items next ≡ Some s → next < length k.stretches.items → end ≡ at + (padding_of s.head at + s.bytes) → end ≤ 2 ^ 29 → following ≡ suc next
+pub walk_on : (k : KeptLayout) (bytes : ℕ) (new : List ℕ) (at next : ℕ) (s : Block) (end following : ℕ) → IsWalked k bytes new at next → slice_get k.blocks.items next ≡ Some s → next < length k.blocks.items → end ≡ at + (padding_of s.head at + s.bytes) → end ≤ 2 ^ 29 → following ≡ suc next
     → IsWalked k bytes (new ++ at ∷ []) end following
 walk_on k bytes new at next s end following w e l g h n =
-    let one = drop_one (shapes_of k.stretches.items) next (shape_of s) (shape_at k.stretches.items next s e) in
+    let one = drop_one (footprints_of k.blocks.items) next (footprint_of s) (footprint_at k.blocks.items next s e) in
     let count = w.count in
     let longer = length-append new (at ∷ []) in
-    let step : starts_from at (drop next (shapes_of k.stretches.items)) ≡ at ∷ starts_from end (drop following (shapes_of k.stretches.items)) =
-    ap (starts_from at) one ∙ ap (λ (xs : List ℕ). at ∷ xs) (ap (λ x. starts_from x (drop (suc next) (shapes_of k.stretches.items))) (sym g) ∙ ap (λ x. starts_from end (drop x (shapes_of k.stretches.items))) (sym n)) in
+    let step : starts_from at (drop next (footprints_of k.blocks.items)) ≡ at ∷ starts_from end (drop following (footprints_of k.blocks.items)) =
+    ap (starts_from at) one ∙ ap (λ (xs : List ℕ). at ∷ xs) (ap (λ x. starts_from x (drop (suc next) (footprints_of k.blocks.items))) (sym g) ∙ ap (λ x. starts_from end (drop x (footprints_of k.blocks.items))) (sym n)) in
     record {
       count = omega arith;
       within = omega arith;
       in_code = h;
-      starts = λ gone. w.starts gone ∙ ap (λ (xs : List ℕ). take (suc k.here) (starts_of k) ++ xs) (ap (λ (xs : List ℕ). new ++ xs) step ∙ sym (append_assoc new (at ∷ []) (starts_from end (drop following (shapes_of k.stretches.items)))));
-      ends = λ gone. w.ends gone ∙ ap (end_from at) one ∙ (ap (λ x. end_from x (drop (suc next) (shapes_of k.stretches.items))) (sym g) ∙ ap (λ x. end_from end (drop x (shapes_of k.stretches.items))) (sym n));
+      starts = λ gone. w.starts gone ∙ ap (λ (xs : List ℕ). take (suc k.here) (starts_of k) ++ xs) (ap (λ (xs : List ℕ). new ++ xs) step ∙ sym (append_assoc new (at ∷ []) (starts_from end (drop following (footprints_of k.blocks.items)))));
+      ends = λ gone. w.ends gone ∙ ap (end_from at) one ∙ (ap (λ x. end_from x (drop (suc next) (footprints_of k.blocks.items))) (sym g) ∙ ap (λ x. end_from end (drop x (footprints_of k.blocks.items))) (sym n));
     }
 
 -- none is left of so many
@@ -56,13 +56,13 @@ drop_all (suc n) [] h = refl
 drop_all (suc n) (x ∷ xs) h = drop_all n xs (omega arith)
 
 -- none is behind
-pub walk_over : (k : KeptLayout) (bytes : ℕ) (new : List ℕ) (at next : ℕ) → IsWalked k bytes new at next → length k.stretches.items ≤ next → IsMovedTo k bytes new 0
+pub walk_over : (k : KeptLayout) (bytes : ℕ) (new : List ℕ) (at next : ℕ) → IsWalked k bytes new at next → length k.blocks.items ≤ next → IsMovedTo k bytes new 0
 walk_over k bytes new at next w h =
     let count = w.count in
     let within = w.within in
-    let shapes = shapes_length k.stretches.items in
+    let footprints = footprints_length k.blocks.items in
     let starts = count_of k in
-    let none = drop_all next (shapes_of k.stretches.items) (omega arith) in
+    let none = drop_all next (footprints_of k.blocks.items) (omega arith) in
     let last = drop_all (end_of k new) (starts_of k) (omega arith) in
     let code = w.in_code in
     record {
@@ -72,25 +72,25 @@ walk_over k bytes new at next w h =
     }
 
 -- all that are behind move together
-pub walk_together : (k : KeptLayout) (bytes : ℕ) (new : List ℕ) (at next old : ℕ) (s : Stretch) → IsLaid k → IsWalked k bytes new at next → slice_get k.stretches.items next ≡ Some s → slice_get (starts_of k) next ≡ Some old → at ≤ old → Divides s.grain (old - at) → IsMovedTo k bytes new (old - at)
+pub walk_together : (k : KeptLayout) (bytes : ℕ) (new : List ℕ) (at next old : ℕ) (s : Block) → IsLaid k → IsWalked k bytes new at next → slice_get k.blocks.items next ≡ Some s → slice_get (starts_of k) next ≡ Some old → at ≤ old → Divides s.alignment (old - at) → IsMovedTo k bytes new (old - at)
 walk_together k bytes new at next old s l w e f h d =
     let by : ℕ = old - at in
-    let rest : List Shape = drop next (shapes_of k.stretches.items) in
-    let grain : IsGrain s.grain rest = l.grains next s e in
+    let rest : List Footprint = drop next (footprints_of k.blocks.items) in
+    let alignment : IsAlignment s.alignment rest = l.alignments next s e in
     let less : by ≤ old = omega arith in
     let first : at ≡ old - by = omega arith in
     let count : end_of k new ≡ next = sym w.count in
     let within = w.within in
-    let moves = starts_move s.grain by old rest grain d less in
-    let ends = end_moves s.grain by old rest grain d less in
-    let all = starts_drop k.base (shapes_of k.stretches.items) next old f in
-    let last = end_drop k.base (shapes_of k.stretches.items) next old f in
+    let moves = starts_move s.alignment by old rest alignment d less in
+    let ends = end_moves s.alignment by old rest alignment d less in
+    let all = starts_drop k.base (footprints_of k.blocks.items) next old f in
+    let last = end_drop k.base (footprints_of k.blocks.items) next old f in
     let code = l.in_code in
     record {
       move = record {
         within = omega arith;
-        low = λ j a m g. let o = starts_order k.base (shapes_of k.stretches.items) next j old a (omega arith) f g in omega arith;
-        literals = λ i t x m. divides_on 4 s.grain by (l.literals i next t s x e (omega arith)) d;
+        low = λ j a m g. let o = starts_order k.base (footprints_of k.blocks.items) next j old a (omega arith) f g in omega arith;
+        literals = λ i t x m. divides_on 4 s.alignment by (l.literals i next t s x e (omega arith)) d;
       };
       starts = λ gone. w.starts gone ∙ ap (λ (xs : List ℕ). take (suc k.here) (starts_of k) ++ (new ++ xs)) (ap (λ n. starts_from n rest) first ∙ moves ∙ ap (map (λ a. a - by)) (all ∙ ap (λ n. drop n (starts_of k)) (sym count)));
       in_code = λ gone. let g = w.ends gone ∙ ap (λ n. end_from n rest) first ∙ ends in omega arith;

@@ -1,17 +1,17 @@
--- Calm stretches that aren't looked at: what moves together behind the wall comes nearer to them, or is far from them.
+-- Calm blocks that aren't looked at: what moves together behind the wall comes nearer to them, or is far from them.
 use Rattle.std.proofs.Common.{◌≡◌, ◌∙◌, inl, inr, ℕ, suc, ◌+◌, ◌-◌, ◌<◌, ◌≤◌, max, false, List, length, Option, Some, None, refl, ap, subst, arith}
 use Rattle.std.specs.Prelude.{slice_get, Contains}
 use Rattle.std.proofs.lemmas.Bool.{cases_lt}
 use Rattle.std.proofs.lemmas.Option.{slice_get_within}
 use Rattle.thumb_model.proofs.Lists.{present_at}
 use Rattle.kept_layout.specs.declared.kept.KeptLayout.{KeptLayout}
-use Rattle.kept_layout.specs.declared.stretch.Aim.{Aim}
-use Rattle.kept_layout.specs.declared.stretch.Head.{Head}
-use Rattle.kept_layout.specs.declared.stretch.Head.TheVariants as head
-use Rattle.kept_layout.specs.declared.stretch.Stretch.{Stretch}
-use Rattle.kept_layout.specs.declared.stretch.Target.{Target}
-use Rattle.kept_layout.specs.declared.stretch.Target.TheVariants as target
-use Rattle.kept_layout.specs.Stretches.{later_end, shapes_of, AreWide, Shape}
+use Rattle.kept_layout.specs.declared.block.Aim.{Aim}
+use Rattle.kept_layout.specs.declared.block.Head.{Head}
+use Rattle.kept_layout.specs.declared.block.Head.TheVariants as head
+use Rattle.kept_layout.specs.declared.block.Block.{Block}
+use Rattle.kept_layout.specs.declared.block.NameLocation.{NameLocation}
+use Rattle.kept_layout.specs.declared.block.NameLocation.TheVariants as location
+use Rattle.kept_layout.specs.Blocks.{later_end, footprints_of, AreWide, Footprint}
 use Rattle.kept_layout.specs.Kept.{IsLaid}
 use Rattle.kept_layout.specs.Moves.{end_of, has_slack, moved_starts, news, starts_of, wall_of, AreFar, AreKnownRight, IsLookedAt, IsMovedTo, IsRight}
 use Rattle.kept_layout.proofs.Distances.{aim_ahead_of, aim_back_of}
@@ -24,8 +24,8 @@ use Rattle.kept_layout.proofs.Walls.{bounds, end_news, few_low, label_is_right, 
 -- how a layout moves
 pub record Goes (k : KeptLayout) (bytes : ℕ) (at : List ℕ) (by first : ℕ) : Type 0 where
   pub laid : IsLaid k
-  pub wide : AreWide (shapes_of k.stretches.items)
-  pub few : (s : Shape) → slice_get (shapes_of k.stretches.items) k.here ≡ Some s → bytes ≤ s.bytes
+  pub wide : AreWide (footprints_of k.blocks.items)
+  pub few : (s : Footprint) → slice_get (footprints_of k.blocks.items) k.here ≡ Some s → bytes ≤ s.bytes
   pub moved : IsMovedTo k bytes (news k bytes at) by
   pub far : AreFar k bytes by first
   pub known : AreKnownRight k (news k bytes at) by
@@ -49,23 +49,23 @@ apart k bytes at by first j n low high g less h m w e f =
     let within = slice_get_within (starts_of k) n high f in
     let wall = present_at (starts_of k) (wall_of k) (omega arith) in
     let begin = present_at (starts_of k) 0 (omega arith) in
-    let last : ℕ = length k.stretches.items - 1 in
+    let last : ℕ = length k.blocks.items - 1 in
     let end = present_at (starts_of k) last (omega arith) in
     let one = g.far.far less j low wall.0 h m e wall.1 in
     let two = g.far.small less (omega arith) last begin.0 end.0 begin.1 (omega arith) end.1 in
-    let three = starts_order k.base (shapes_of k.stretches.items) (wall_of k) n wall.0 high w wall.1 f in
-    let four = starts_order k.base (shapes_of k.stretches.items) 0 j begin.0 low (omega arith) begin.1 e in
-    let five = starts_order k.base (shapes_of k.stretches.items) n last high end.0 (omega arith) f end.1 in
+    let three = starts_order k.base (footprints_of k.blocks.items) (wall_of k) n wall.0 high w wall.1 f in
+    let four = starts_order k.base (footprints_of k.blocks.items) 0 j begin.0 low (omega arith) begin.1 e in
+    let five = starts_order k.base (footprints_of k.blocks.items) n last high end.0 (omega arith) f end.1 in
     record { far = omega arith; small = omega arith }
 
-skipped_ahead : (k : KeptLayout) (bytes : ℕ) (at : List ℕ) (by first j t : ℕ) (s : Stretch) (a : Aim) → Goes k bytes at by first → k.here < j → j < first → slice_get k.stretches.items j ≡ Some s → s.head ≡ head.Aims a → a.to ≡ Some (target.Stretch t) → end_of k (news k bytes at) ≤ t
-    → IsRight (moved_starts k (news k bytes at) by) k.stretches.items j
+skipped_ahead : (k : KeptLayout) (bytes : ℕ) (at : List ℕ) (by first j t : ℕ) (s : Block) (a : Aim) → Goes k bytes at by first → k.here < j → j < first → slice_get k.blocks.items j ≡ Some s → s.head ≡ head.Aims a → a.to ≡ Some (location.Block t) → end_of k (news k bytes at) ≤ t
+    → IsRight (moved_starts k (news k bytes at) by) k.blocks.items j
 skipped_ahead k bytes at by first j t s a g h m e f i behind =
     let l = g.laid in
     let count = count_of k in
     let until = g.far.until in
     let end = end_news k bytes at l in
-    let old = present_at (starts_of k) j (let w = slice_get_within k.stretches.items j s e in omega arith) in
+    let old = present_at (starts_of k) j (let w = slice_get_within k.blocks.items j s e in omega arith) in
     let to = present_at (starts_of k) t (let w = l.targets j t s a e f i in omega arith) in
     let own = calm_there k bytes at by j old.0 l g.moved h (omega arith) old.1 in
     let other = moved_behind k (news k bytes at) by t to.0 g.moved.move behind to.1 in
@@ -76,14 +76,14 @@ skipped_ahead k bytes at by first j t s a g h m e f i behind =
     label_is_right k (moved_starts k (news k bytes at) by) j s a t (old.0 - bytes) (to.0 - by) e f i own other
     (aim_ahead_of bytes by old.0 to.0 a.instr a.plus plain low less two (λ x. let r = apart k bytes at by first j t old.0 to.0 g x h m (omega arith) old.1 to.1 in (r.far, r.small)) (was_right k j s a t old.0 to.0 l e f i old.1 to.1))
 
-skipped_back : (k : KeptLayout) (bytes : ℕ) (at : List ℕ) (by first j t : ℕ) (s : Stretch) (a : Aim) → Goes k bytes at by first → k.here < t → t < first → slice_get k.stretches.items j ≡ Some s → s.head ≡ head.Aims a → a.to ≡ Some (target.Stretch t) → end_of k (news k bytes at) ≤ j
-    → IsRight (moved_starts k (news k bytes at) by) k.stretches.items j
+skipped_back : (k : KeptLayout) (bytes : ℕ) (at : List ℕ) (by first j t : ℕ) (s : Block) (a : Aim) → Goes k bytes at by first → k.here < t → t < first → slice_get k.blocks.items j ≡ Some s → s.head ≡ head.Aims a → a.to ≡ Some (location.Block t) → end_of k (news k bytes at) ≤ j
+    → IsRight (moved_starts k (news k bytes at) by) k.blocks.items j
 skipped_back k bytes at by first j t s a g h m e f i behind =
     let l = g.laid in
     let count = count_of k in
     let until = g.far.until in
     let end = end_news k bytes at l in
-    let old = present_at (starts_of k) j (let w = slice_get_within k.stretches.items j s e in omega arith) in
+    let old = present_at (starts_of k) j (let w = slice_get_within k.blocks.items j s e in omega arith) in
     let to = present_at (starts_of k) t (let w = l.targets j t s a e f i in omega arith) in
     let own = moved_behind k (news k bytes at) by j old.0 g.moved.move behind old.1 in
     let other = calm_there k bytes at by t to.0 l g.moved h (omega arith) to.1 in
@@ -95,7 +95,7 @@ skipped_back k bytes at by first j t s a g h m e f i behind =
     (aim_back_of bytes by old.0 to.0 a.instr a.plus plain less low order (λ x. let r = apart k bytes at by first t j to.0 old.0 g x h m (omega arith) to.1 old.1 in (r.far, r.small)) (was_right k j s a t old.0 to.0 l e f i old.1 to.1))
 
 -- what one that is skipped mentions
-skipped_head : (k : KeptLayout) (bytes : ℕ) (at : List ℕ) (by first j : ℕ) (s : Stretch) → Goes k bytes at by first → k.here < j → j < first → slice_get k.stretches.items j ≡ Some s → IsRight (moved_starts k (news k bytes at) by) k.stretches.items j
+skipped_head : (k : KeptLayout) (bytes : ℕ) (at : List ℕ) (by first j : ℕ) (s : Block) → Goes k bytes at by first → k.here < j → j < first → slice_get k.blocks.items j ≡ Some s → IsRight (moved_starts k (news k bytes at) by) k.blocks.items j
 skipped_head k bytes at by first j s g h m e =
     let own = own_before j s.head in
     elim (cases_lt (later_end j s.head) (end_of k (news k bytes at))) [
@@ -109,20 +109,20 @@ skipped_head k bytes at by first j s g h m e =
     until : first ≤ wall_of k
     until = g.far.until
 
-    go : (x : Head) → s.head ≡ x → end_of k (news k bytes at) ≤ later_end j x → IsRight (moved_starts k (news k bytes at) by) k.stretches.items j
+    go : (x : Head) → s.head ≡ x → end_of k (news k bytes at) ≤ later_end j x → IsRight (moved_starts k (news k bytes at) by) k.blocks.items j
     go head.Plain f n = absurd (omega (arith, end, until, m, n))
     go (head.Pads size most) f n = absurd (omega (arith, end, until, m, n))
     go (head.Aims a) f n = aims a.to refl n
       where
-        aims : (o : Option Target) → a.to ≡ o → end_of k (news k bytes at) ≤ later_end j (head.Aims (record a { to = o })) → IsRight (moved_starts k (news k bytes at) by) k.stretches.items j
+        aims : (o : Option NameLocation) → a.to ≡ o → end_of k (news k bytes at) ≤ later_end j (head.Aims (record a { to = o })) → IsRight (moved_starts k (news k bytes at) by) k.blocks.items j
         aims None i n = absurd (omega (arith, end, until, m, n))
-        aims (Some (target.Stretch t)) i n = skipped_ahead k bytes at by first j t s a g h m e f i (omega (arith, end, until, m, n))
-        aims (Some (target.Address to)) i n = absurd (omega (arith, end, until, m, n))
+        aims (Some (location.Block t)) i n = skipped_ahead k bytes at by first j t s a g h m e f i (omega (arith, end, until, m, n))
+        aims (Some (location.Address to)) i n = absurd (omega (arith, end, until, m, n))
 
 -- what mentions its label
-skipped_called : (k : KeptLayout) (bytes : ℕ) (at : List ℕ) (by first t j : ℕ) (s : Stretch) (a : Aim) → Goes k bytes at by first → k.here < t → t < first → slice_get k.stretches.items j ≡ Some s → s.head ≡ head.Aims a → a.to ≡ Some (target.Stretch t) → IsRight (moved_starts k (news k bytes at) by) k.stretches.items j
+skipped_called : (k : KeptLayout) (bytes : ℕ) (at : List ℕ) (by first t j : ℕ) (s : Block) (a : Aim) → Goes k bytes at by first → k.here < t → t < first → slice_get k.blocks.items j ≡ Some s → s.head ≡ head.Aims a → a.to ≡ Some (location.Block t) → IsRight (moved_starts k (news k bytes at) by) k.blocks.items j
 skipped_called k bytes at by first t j s a g h m e f i =
-    let later : later_end j s.head ≡ max j t = ap (later_end j) f ∙ ap (Rattle.kept_layout.specs.Stretches.later_to j) i in
+    let later : later_end j s.head ≡ max j t = ap (later_end j) f ∙ ap (Rattle.kept_layout.specs.Blocks.later_to j) i in
     let end = end_news k bytes at g.laid in
     let until = g.far.until in
     elim (cases_lt (max j t) (end_of k (news k bytes at))) [
@@ -131,8 +131,8 @@ skipped_called k bytes at by first t j s a g h m e f i =
     ]
 
 -- what can come out of reach was looked at
-pub looked_at : (k : KeptLayout) (bytes : ℕ) (at : List ℕ) (by first number : ℕ) → Goes k bytes at by first → AreMet k (news k bytes at) by first number → wall_of k + length at ≤ number → (0 < by → (j : ℕ) → Contains k.loose.items j → IsRight (moved_starts k (news k bytes at) by) k.stretches.items j)
-    → (0 < by → has_slack k by ≡ false → (j : ℕ) → Contains k.absolute.items j → IsRight (moved_starts k (news k bytes at) by) k.stretches.items j) → IsLookedAt k (news k bytes at) by
+pub looked_at : (k : KeptLayout) (bytes : ℕ) (at : List ℕ) (by first number : ℕ) → Goes k bytes at by first → AreMet k (news k bytes at) by first number → wall_of k + length at ≤ number → (0 < by → (j : ℕ) → Contains k.loose.items j → IsRight (moved_starts k (news k bytes at) by) k.blocks.items j)
+    → (0 < by → has_slack k by ≡ false → (j : ℕ) → Contains k.absolute.items j → IsRight (moved_starts k (news k bytes at) by) k.blocks.items j) → IsLookedAt k (news k bytes at) by
 looked_at k bytes at by first number g met over loose absolute =
     let end = end_news k bytes at g.laid in
     let until = g.far.until in
@@ -142,15 +142,15 @@ looked_at k bytes at by first number g met over loose absolute =
       heads = λ j h m. elim (cases_lt j first) [
         | inr later ↦ met.heads j (omega arith) (omega arith)
         | inl before ↦ elim (cases_lt k.here j) [
-          | inl skipped ↦ let there = present_at k.stretches.items j (omega arith) in skipped_head k bytes at by first j there.0 g skipped before there.1
-          | inr here ↦ subst (IsRight (moved_starts k (news k bytes at) by) k.stretches.items) (let same : k.here ≡ j = omega arith in same) met.here
+          | inl skipped ↦ let there = present_at k.blocks.items j (omega arith) in skipped_head k bytes at by first j there.0 g skipped before there.1
+          | inr here ↦ subst (IsRight (moved_starts k (news k bytes at) by) k.blocks.items) (let same : k.here ≡ j = omega arith in same) met.here
         ]
       ];
       callers = λ t j s a h m e f i. elim (cases_lt t first) [
         | inl skipped ↦ skipped_called k bytes at by first t j s a g h skipped e f i
         | inr later ↦
             let low = g.laid.targets j t s a e f i in
-            let there = present_at k.stretches.items t low in
+            let there = present_at k.blocks.items t low in
             met.callers t j there.0 (omega arith) (omega arith) there.1 (g.laid.callers j t s there.0 a e f i there.1)
       ];
       loose = loose;
@@ -164,7 +164,7 @@ pub far_nearer : (k : KeptLayout) (bytes by : ℕ) → IsLaid k → bytes ≤ by
 far_nearer k bytes by l h = let from = (bounds k l).from in record { from = omega arith; until = omega arith; far = λ x. absurd (omega arith); small = λ x. absurd (omega arith) }
 
 -- none is behind
-pub far_last : (k : KeptLayout) (bytes by : ℕ) → IsLaid k → length k.stretches.items ≤ wall_of k → AreFar k bytes by (wall_of k)
+pub far_last : (k : KeptLayout) (bytes by : ℕ) → IsLaid k → length k.blocks.items ≤ wall_of k → AreFar k bytes by (wall_of k)
 far_last k bytes by l h =
     let b = bounds k l in
     let from = b.from in
@@ -181,12 +181,12 @@ far_none k bytes by first l e = let from = (bounds k l).from in record { from = 
 
 -- one is far from the wall, and so are those before it
 pub far_found : (k : KeptLayout) (bytes by first n at wall : ℕ) → k.here < first → first ≤ wall_of k → suc n ≡ first → slice_get (starts_of k) n ≡ Some at → slice_get (starts_of k) (wall_of k) ≡ Some wall → at + 2052 < wall
-    → ((j at end : ℕ) → slice_get (starts_of k) 0 ≡ Some at → suc j ≡ length k.stretches.items → slice_get (starts_of k) j ≡ Some end → end + bytes ≤ at + 16000000) → AreFar k bytes by first
+    → ((j at end : ℕ) → slice_get (starts_of k) 0 ≡ Some at → suc j ≡ length k.blocks.items → slice_get (starts_of k) j ≡ Some end → end + bytes ≤ at + 16000000) → AreFar k bytes by first
 far_found k bytes by first n at wall from until next e f far small = record {
   from = from;
   until = until;
   far = λ x j low other m o g h.
-      let order = starts_order k.base (shapes_of k.stretches.items) j n low at (omega arith) g e in
+      let order = starts_order k.base (footprints_of k.blocks.items) j n low at (omega arith) g e in
       let same : wall ≡ other = cc in
       omega arith;
   small = λ x m. small;

@@ -1,11 +1,11 @@
--- Stretches that move together: where the sizes of alignments divide the distance, paddings stay.
+-- Blocks that move together: where the sizes of alignments divide the distance, paddings stay.
 use Rattle.std.proofs.Common.{◌≡◌, ◌∙◌, ℕ, zero, suc, ◌+◌, ◌-◌, ◌*◌, ◌/◌, ◌%◌, ◌≤◌, List, [], ◌∷◌, map, refl, sym, ap, arith, if◌then◌else◌, mul_assoc, add-mul, div-add-mod'}
 use Rattle.std.specs.Prelude.{nat_le}
 use Rattle.std.proofs.lemmas.Nat.{mod_below, mod-mul-add}
 use Rattle.thumb_model.specs.Layout.{padding}
-use Rattle.kept_layout.specs.declared.stretch.Head.{Head}
-use Rattle.kept_layout.specs.declared.stretch.Head.TheVariants as head
-use Rattle.kept_layout.specs.Stretches.{behind, end_from, padding_of, starts_from, Divides, IsGrain, IsGrainOf, Shape}
+use Rattle.kept_layout.specs.declared.block.Head.{Head}
+use Rattle.kept_layout.specs.declared.block.Head.TheVariants as head
+use Rattle.kept_layout.specs.Blocks.{behind, end_from, padding_of, starts_from, Divides, IsAlignment, IsAlignmentOf, Footprint}
 
 pub divides_on : (a b c : ℕ) → Divides a b → Divides b c → Divides a c
 divides_on a b c h k = (k.0 * h.0, k.1 ∙ ap (λ n. k.0 * n) h.1 ∙ sym (mul_assoc k.0 h.0 a))
@@ -28,20 +28,20 @@ rest_stays (suc n) at d h k =
 padding_stays : (size most at d : ℕ) → Divides size d → d ≤ at → padding size most (at - d) ≡ padding size most at
 padding_stays size most at d h k = ap (λ n. if nat_le ((size - n) % size) most then (size - n) % size else 0) (rest_stays size at d h k)
 
-head_stays : (g d at : ℕ) (h : Head) → IsGrainOf g h → Divides g d → d ≤ at → padding_of h (at - d) ≡ padding_of h at
+head_stays : (g d at : ℕ) (h : Head) → IsAlignmentOf g h → Divides g d → d ≤ at → padding_of h (at - d) ≡ padding_of h at
 head_stays g d at head.Plain i k m = refl
 head_stays g d at (head.Pads size most) i k m = padding_stays size most at d (divides_on size g d i k) m
 head_stays g d at (head.Aims aim) i k m = refl
 
-pub behind_moves : (g d at : ℕ) (s : Shape) → IsGrainOf g s.head → Divides g d → d ≤ at → behind (at - d) s ≡ behind at s - d
+pub behind_moves : (g d at : ℕ) (s : Footprint) → IsAlignmentOf g s.head → Divides g d → d ≤ at → behind (at - d) s ≡ behind at s - d
 behind_moves g d at s i k m = let e = head_stays g d at s.head i k m in omega (arith, e, m)
 
 -- all begin as much earlier as the first, and the last ends so
-pub starts_move : (g d at : ℕ) (ss : List Shape) → IsGrain g ss → Divides g d → d ≤ at → starts_from (at - d) ss ≡ map (λ a. a - d) (starts_from at ss)
+pub starts_move : (g d at : ℕ) (ss : List Footprint) → IsAlignment g ss → Divides g d → d ≤ at → starts_from (at - d) ss ≡ map (λ a. a - d) (starts_from at ss)
 starts_move g d at [] h k m = refl
 starts_move g d at (s ∷ ss) h k m =
     ap (λ (rest : List ℕ). (at - d) ∷ rest) (ap (λ n. starts_from n ss) (behind_moves g d at s h.0 k m) ∙ starts_move g d (behind at s) ss h.1 k (omega arith))
 
-pub end_moves : (g d at : ℕ) (ss : List Shape) → IsGrain g ss → Divides g d → d ≤ at → end_from (at - d) ss ≡ end_from at ss - d
+pub end_moves : (g d at : ℕ) (ss : List Footprint) → IsAlignment g ss → Divides g d → d ≤ at → end_from (at - d) ss ≡ end_from at ss - d
 end_moves g d at [] h k m = refl
 end_moves g d at (s ∷ ss) h k m = ap (λ n. end_from n ss) (behind_moves g d at s h.0 k m) ∙ end_moves g d (behind at s) ss h.1 k (omega arith)

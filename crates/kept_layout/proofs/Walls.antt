@@ -1,24 +1,24 @@
--- The wall behind the stretch that it stands at: the calm ones before that move as one, and the mentions between them and those that don't move stay within reach.
+-- The wall behind the block that it stands at: the calm ones before that move as one, and the mentions between them and those that don't move stay within reach.
 use Rattle.std.proofs.Common.{◌≡◌, ◌∙◌, inl, inr, ℕ, zero, suc, ◌+◌, ◌-◌, ◌<◌, ◌≤◌, ◌^◌, max, true, false, List, [], ◌∷◌, ◌++◌, length, map, take, drop, Option, Some, None, refl, sym, ap, subst, arith, append_assoc, length-append, true≢false}
 use Rattle.std.specs.Prelude.{slice_get, nat_eq, not, Bool}
 use Rattle.std.proofs.lemmas.Bool.{and_parts, cases_Bool, cases_lt, eqb-true, lt-ltb}
 use Rattle.thumb_model.specs.Layout.{aim_fault}
 use Rattle.thumb_model.proofs.Lists.{get_back, get_drop, get_front, get_take, length_drop, length_map, present_at, take_all}
 use Rattle.kept_layout.specs.declared.kept.KeptLayout.{KeptLayout}
-use Rattle.kept_layout.specs.declared.stretch.Aim.{Aim}
-use Rattle.kept_layout.specs.declared.stretch.Head.{Head}
-use Rattle.kept_layout.specs.declared.stretch.Head.TheVariants as head
-use Rattle.kept_layout.specs.declared.stretch.Stretch.{Stretch}
-use Rattle.kept_layout.specs.declared.stretch.Target.{Target}
-use Rattle.kept_layout.specs.declared.stretch.Target.TheVariants as target
-use Rattle.kept_layout.specs.Stretches.{address_of, behind, head_fault, is_calm, is_calm_to, is_literal, later_end, lessen, padding_of, shape_of, shapes_of, starts_from, AreWide, Divides, HasSlack, HasSlackTo, IsCalm, IsGrainOf, Shape}
+use Rattle.kept_layout.specs.declared.block.Aim.{Aim}
+use Rattle.kept_layout.specs.declared.block.Head.{Head}
+use Rattle.kept_layout.specs.declared.block.Head.TheVariants as head
+use Rattle.kept_layout.specs.declared.block.Block.{Block}
+use Rattle.kept_layout.specs.declared.block.NameLocation.{NameLocation}
+use Rattle.kept_layout.specs.declared.block.NameLocation.TheVariants as location
+use Rattle.kept_layout.specs.Blocks.{address_of, behind, head_fault, is_calm, is_calm_to, is_literal, later_end, lessen, padding_of, footprint_of, footprints_of, starts_from, AreWide, Divides, HasSlack, HasSlackTo, IsCalm, IsAlignmentOf, Footprint}
 use Rattle.kept_layout.specs.Kept.{IsLaid}
 use Rattle.kept_layout.specs.Moves.{calm_starts, end_of, moved_starts, news, starts_of, wall_in, wall_of, AreKnownRight, IsRight, IsRightIf, IsWalked}
 use Rattle.kept_layout.proofs.Distances.{aim_ahead, aim_back, aim_moves}
-use Rattle.kept_layout.proofs.MovingPlaces.{shape_at}
+use Rattle.kept_layout.proofs.MovingPlaces.{footprint_at}
 use Rattle.kept_layout.proofs.Nearing.{HasOwn}
 use Rattle.kept_layout.proofs.ShrinkingKnown.{not_together, right_alike, starts_alike}
-use Rattle.kept_layout.proofs.ShrinkingPlaces.{count_of, get_map, moved_among, moved_before, shapes_length}
+use Rattle.kept_layout.proofs.ShrinkingPlaces.{count_of, get_map, moved_among, moved_before, footprints_length}
 use Rattle.kept_layout.proofs.ShrinkingReach.{aim_none}
 use Rattle.kept_layout.proofs.ShrinkingStarts.{starts_apart, starts_order}
 use Rattle.kept_layout.proofs.ShrinkingWalk.{start_in_code, walk_begin, walk_on}
@@ -28,9 +28,9 @@ use Rattle.kept_layout.proofs.Together.{behind_moves}
 
 pub record Bounds (k : KeptLayout) : Type 0 where
   pub from : suc k.here ≤ wall_of k
-  pub within : wall_of k ≤ length k.stretches.items
-  pub last : suc k.here < length k.stretches.items → wall_of k < length k.stretches.items
-  pub calm : (j : ℕ) → k.here < j → j < wall_of k → IsCalm (shapes_of k.stretches.items) j
+  pub within : wall_of k ≤ length k.blocks.items
+  pub last : suc k.here < length k.blocks.items → wall_of k < length k.blocks.items
+  pub calm : (j : ℕ) → k.here < j → j < wall_of k → IsCalm (footprints_of k.blocks.items) j
 
 pub bounds : (k : KeptLayout) → IsLaid k → Bounds k
 bounds k l = go (slice_get k.walls.items (suc k.here)) refl
@@ -45,7 +45,7 @@ bounds k l = go (slice_get k.walls.items (suc k.here)) refl
         let is = l.walls (suc k.here) w e in
         let from = is.from in
         let within = is.within in
-        let count = shapes_length k.stretches.items in
+        let count = footprints_length k.blocks.items in
         record { from = omega arith; within = omega arith; last = λ h. omega arith; calm = λ j h m. is.calm j (omega arith) (omega arith) }
 
 pub calm_count : (k : KeptLayout) (bytes : ℕ) → IsLaid k → length (calm_starts k bytes) ≡ wall_of k - suc k.here
@@ -99,18 +99,18 @@ news_none k bytes items e = none (calm_starts k bytes) ∙ ap (λ (xs : List ℕ
 
 -- ---- walking to the wall ----
 
--- a stretch behind the one that it stands at begins behind as many bytes as go
-pub few_low : (k : KeptLayout) (bytes j a : ℕ) → IsLaid k → ((s : Shape) → slice_get (shapes_of k.stretches.items) k.here ≡ Some s → bytes ≤ s.bytes) → k.here < j → slice_get (starts_of k) j ≡ Some a → bytes ≤ a
+-- a block behind the one that it stands at begins behind as many bytes as go
+pub few_low : (k : KeptLayout) (bytes j a : ℕ) → IsLaid k → ((s : Footprint) → slice_get (footprints_of k.blocks.items) k.here ≡ Some s → bytes ≤ s.bytes) → k.here < j → slice_get (starts_of k) j ≡ Some a → bytes ≤ a
 few_low k bytes j a l few h e =
-    let there = present_at k.stretches.items k.here l.here in
-    let shape = shape_at k.stretches.items k.here there.0 there.1 in
+    let there = present_at k.blocks.items k.here l.here in
+    let footprint = footprint_at k.blocks.items k.here there.0 there.1 in
     let count = count_of k in
     let own = present_at (starts_of k) k.here (let w = l.here in omega arith) in
-    let some = few (shape_of there.0) shape in
-    let far = starts_apart k.base (shapes_of k.stretches.items) k.here j (shape_of there.0) own.0 a h shape own.1 e in
+    let some = few (footprint_of there.0) footprint in
+    let far = starts_apart k.base (footprints_of k.blocks.items) k.here j (footprint_of there.0) own.0 a h footprint own.1 e in
     omega arith
 
-starts_next : (at : ℕ) (ss : List Shape) (n : ℕ) (s : Shape) (a b : ℕ) → slice_get ss n ≡ Some s → slice_get (starts_from at ss) n ≡ Some a → slice_get (starts_from at ss) (suc n) ≡ Some b → b ≡ behind a s
+starts_next : (at : ℕ) (ss : List Footprint) (n : ℕ) (s : Footprint) (a b : ℕ) → slice_get ss n ≡ Some s → slice_get (starts_from at ss) n ≡ Some a → slice_get (starts_from at ss) (suc n) ≡ Some b → b ≡ behind a s
 starts_next at [] n s a b e f g = absurd (cc)
 starts_next at (t ∷ []) zero s a b e f g = absurd (cc)
 starts_next at (t ∷ (u ∷ ss)) zero s a b e f g =
@@ -126,59 +126,59 @@ take_next f (y ∷ xs) zero x e = let same : y ≡ x = cc in ap (λ z. f z ∷ [
 take_next f (y ∷ xs) (suc d) x e = ap (λ (ys : List ℕ). f y ∷ ys) (take_next f xs d x e)
 
 -- a calm one pads as much where it lies an even number of bytes earlier
-calm_grain : (h : Head) → is_calm h ≡ true → IsGrainOf 2 h
-calm_grain head.Plain e = tt
-calm_grain (head.Pads size most) e = elim (cases_Bool (nat_eq size 1)) [
+calm_alignment : (h : Head) → is_calm h ≡ true → IsAlignmentOf 2 h
+calm_alignment head.Plain e = tt
+calm_alignment (head.Pads size most) e = elim (cases_Bool (nat_eq size 1)) [
   | inl one ↦ let is = eqb-true size 1 one in (2, omega arith)
   | inr not ↦ elim (cases_Bool (nat_eq size 2)) [
     | inl two ↦ let is = eqb-true size 2 two in (1, omega arith)
     | inr other ↦ absurd (let never : false ≡ true = sym (rw (not, other) refl) ∙ e in cc)
   ]
 ]
-calm_grain (head.Aims aim) e = tt
+calm_alignment (head.Aims aim) e = tt
 
-walk_calm : (k : KeptLayout) (bytes d next a : ℕ) → IsLaid k → Divides 2 bytes → ((s : Shape) → slice_get (shapes_of k.stretches.items) k.here ≡ Some s → bytes ≤ s.bytes) → next ≡ suc k.here + d → next ≤ wall_of k → next < length k.stretches.items → slice_get (starts_of k) next ≡ Some a
+walk_calm : (k : KeptLayout) (bytes d next a : ℕ) → IsLaid k → Divides 2 bytes → ((s : Footprint) → slice_get (footprints_of k.blocks.items) k.here ≡ Some s → bytes ≤ s.bytes) → next ≡ suc k.here + d → next ≤ wall_of k → next < length k.blocks.items → slice_get (starts_of k) next ≡ Some a
     → IsWalked k bytes (map (λ x. x - bytes) (take d (drop (suc k.here) (starts_of k)))) (a - bytes) next
 walk_calm k bytes zero next a l even few e m w f =
-    let there = present_at k.stretches.items k.here l.here in
-    let shape = shape_at k.stretches.items k.here there.0 there.1 in
+    let there = present_at k.blocks.items k.here l.here in
+    let footprint = footprint_at k.blocks.items k.here there.0 there.1 in
     let count = count_of k in
     let own = present_at (starts_of k) k.here (let h = l.here in omega arith) in
-    let some = few (shape_of there.0) shape in
+    let some = few (footprint_of there.0) footprint in
     let is : next ≡ suc k.here = omega arith in
-    let end = starts_next k.base (shapes_of k.stretches.items) k.here (shape_of there.0) own.0 a shape own.1 (ap (slice_get (starts_of k)) (sym is) ∙ f) in
-    let at = present_at k.stretches.items next w in
+    let end = starts_next k.base (footprints_of k.blocks.items) k.here (footprint_of there.0) own.0 a footprint own.1 (ap (slice_get (starts_of k)) (sym is) ∙ f) in
+    let at = present_at k.blocks.items next w in
     let code = start_in_code k next at.0 a l at.1 f in
     walk_begin k bytes there.0 own.0 (a - bytes) next l there.1 own.1 (omega arith) (omega arith) is
 walk_calm k bytes (suc d) next a l even few e m w f =
     let before : ℕ = suc k.here + d in
-    let there = present_at k.stretches.items before (omega arith) in
-    let shape = shape_at k.stretches.items before there.0 there.1 in
+    let there = present_at k.blocks.items before (omega arith) in
+    let footprint = footprint_at k.blocks.items before there.0 there.1 in
     let count = count_of k in
     let own = present_at (starts_of k) before (omega arith) in
     let on = walk_calm k bytes d before own.0 l even few refl (omega arith) (omega arith) own.1 in
-    let calm = ((bounds k l).calm before (omega arith) (omega arith)).own (shape_of there.0) shape in
+    let calm = ((bounds k l).calm before (omega arith) (omega arith)).own (footprint_of there.0) footprint in
     let low = few_low k bytes before own.0 l few (omega arith) own.1 in
     let is : next ≡ suc before = omega arith in
-    let end = starts_next k.base (shapes_of k.stretches.items) before (shape_of there.0) own.0 a shape own.1 (ap (slice_get (starts_of k)) (sym is) ∙ f) in
-    let moves = behind_moves 2 bytes own.0 (shape_of there.0) (calm_grain there.0.head calm) even low in
-    let at = present_at k.stretches.items next w in
+    let end = starts_next k.base (footprints_of k.blocks.items) before (footprint_of there.0) own.0 a footprint own.1 (ap (slice_get (starts_of k)) (sym is) ∙ f) in
+    let moves = behind_moves 2 bytes own.0 (footprint_of there.0) (calm_alignment there.0.head calm) even low in
+    let at = present_at k.blocks.items next w in
     let code = start_in_code k next at.0 a l at.1 f in
     let more = walk_on k bytes (map (λ x. x - bytes) (take d (drop (suc k.here) (starts_of k)))) (own.0 - bytes) before there.0 (a - bytes) next on there.1 (omega arith) (omega arith) (omega arith) is in
     subst (λ (xs : List ℕ). IsWalked k bytes xs (a - bytes) next) (sym (take_next (λ x. x - bytes) (drop (suc k.here) (starts_of k)) d own.0 (get_drop (suc k.here) (starts_of k) d before refl ∙ own.1))) more
 
-pub walked_to_wall : (k : KeptLayout) (bytes a : ℕ) → IsLaid k → Divides 2 bytes → ((s : Shape) → slice_get (shapes_of k.stretches.items) k.here ≡ Some s → bytes ≤ s.bytes) → wall_of k < length k.stretches.items → slice_get (starts_of k) (wall_of k) ≡ Some a → IsWalked k bytes (calm_starts k bytes) (a - bytes) (wall_of k)
+pub walked_to_wall : (k : KeptLayout) (bytes a : ℕ) → IsLaid k → Divides 2 bytes → ((s : Footprint) → slice_get (footprints_of k.blocks.items) k.here ≡ Some s → bytes ≤ s.bytes) → wall_of k < length k.blocks.items → slice_get (starts_of k) (wall_of k) ≡ Some a → IsWalked k bytes (calm_starts k bytes) (a - bytes) (wall_of k)
 walked_to_wall k bytes a l even few w e = let from = (bounds k l).from in walk_calm k bytes (wall_of k - suc k.here) (wall_of k) a l even few (omega arith) (omega arith) w e
 
 -- none is behind
-pub walked_to_end : (k : KeptLayout) (bytes : ℕ) (s : Stretch) (a at : ℕ) → IsLaid k → length k.stretches.items ≤ wall_of k → slice_get k.stretches.items k.here ≡ Some s → slice_get (starts_of k) k.here ≡ Some a → at ≡ a + (padding_of s.head a + (s.bytes - bytes)) → at ≤ 2 ^ 29 → IsWalked k bytes (calm_starts k bytes) at (wall_of k)
+pub walked_to_end : (k : KeptLayout) (bytes : ℕ) (s : Block) (a at : ℕ) → IsLaid k → length k.blocks.items ≤ wall_of k → slice_get k.blocks.items k.here ≡ Some s → slice_get (starts_of k) k.here ≡ Some a → at ≡ a + (padding_of s.head a + (s.bytes - bytes)) → at ≤ 2 ^ 29 → IsWalked k bytes (calm_starts k bytes) at (wall_of k)
 walked_to_end k bytes s a at l w e f g h =
     let b = bounds k l in
     let from = b.from in
     let within = b.within in
     let last = b.last in
     let here = l.here in
-    let is : wall_of k ≡ suc k.here = elim (cases_lt (suc k.here) (length k.stretches.items)) [
+    let is : wall_of k ≡ suc k.here = elim (cases_lt (suc k.here) (length k.blocks.items)) [
       | inl some ↦ absurd (let low = last some in omega arith)
       | inr none ↦ omega arith
     ] in
@@ -188,53 +188,53 @@ walked_to_end k bytes s a at l w e f g h =
 -- ---- once as many bytes are gone ----
 
 abbrev pub starts_less : KeptLayout → ℕ → List ℕ
-starts_less k bytes = starts_from k.base (lessen k.here bytes 0 (shapes_of k.stretches.items))
+starts_less k bytes = starts_from k.base (lessen k.here bytes 0 (footprints_of k.blocks.items))
 
-lessen_else : (n bytes gone : ℕ) (ss : List Shape) (j : ℕ) → (j ≡ n → ⊥) → slice_get (lessen n bytes gone ss) j ≡ slice_get ss j
+lessen_else : (n bytes gone : ℕ) (ss : List Footprint) (j : ℕ) → (j ≡ n → ⊥) → slice_get (lessen n bytes gone ss) j ≡ slice_get ss j
 lessen_else n bytes gone [] j d = refl
 lessen_else zero bytes gone (s ∷ ss) zero d = absurd (d refl)
 lessen_else zero bytes gone (s ∷ ss) (suc j) d = refl
 lessen_else (suc n) bytes gone (s ∷ ss) zero d = refl
 lessen_else (suc n) bytes gone (s ∷ ss) (suc j) d = lessen_else n bytes gone ss j (λ e. d (ap suc e))
 
--- an instruction that mentions a name has two bytes before what is behind its stretch
-pub less_apart : (k : KeptLayout) (bytes i j : ℕ) (s : Stretch) (a : Aim) (at b : ℕ) → AreWide (shapes_of k.stretches.items) → slice_get k.stretches.items i ≡ Some s → s.head ≡ head.Aims a → (i ≡ k.here → ⊥) → i < j → slice_get (starts_less k bytes) i ≡ Some at → slice_get (starts_less k bytes) j ≡ Some b → at + 2 ≤ b
+-- an instruction that mentions a name has two bytes before what is behind its block
+pub less_apart : (k : KeptLayout) (bytes i j : ℕ) (s : Block) (a : Aim) (at b : ℕ) → AreWide (footprints_of k.blocks.items) → slice_get k.blocks.items i ≡ Some s → s.head ≡ head.Aims a → (i ≡ k.here → ⊥) → i < j → slice_get (starts_less k bytes) i ≡ Some at → slice_get (starts_less k bytes) j ≡ Some b → at + 2 ≤ b
 less_apart k bytes i j s a at b wide e f other h at_is b_is =
-    let shape = shape_at k.stretches.items i s e in
-    let two : 2 ≤ s.bytes = wide i (shape_of s) a shape f in
-    let is = lessen_else k.here bytes 0 (shapes_of k.stretches.items) i other ∙ shape in
-    let far = starts_apart k.base (lessen k.here bytes 0 (shapes_of k.stretches.items)) i j (shape_of s) at b h is at_is b_is in
+    let footprint = footprint_at k.blocks.items i s e in
+    let two : 2 ≤ s.bytes = wide i (footprint_of s) a footprint f in
+    let is = lessen_else k.here bytes 0 (footprints_of k.blocks.items) i other ∙ footprint in
+    let far = starts_apart k.base (lessen k.here bytes 0 (footprints_of k.blocks.items)) i j (footprint_of s) at b h is at_is b_is in
     omega arith
 
 pub less_order : (k : KeptLayout) (bytes i j a b : ℕ) → i ≤ j → slice_get (starts_less k bytes) i ≡ Some a → slice_get (starts_less k bytes) j ≡ Some b → a ≤ b
-less_order k bytes i j a b = starts_order k.base (lessen k.here bytes 0 (shapes_of k.stretches.items)) i j a b
+less_order k bytes i j a b = starts_order k.base (lessen k.here bytes 0 (footprints_of k.blocks.items)) i j a b
 
 -- it was within reach
-pub was_right : (k : KeptLayout) (j : ℕ) (s : Stretch) (a : Aim) (t old to : ℕ) → IsLaid k → slice_get k.stretches.items j ≡ Some s → s.head ≡ head.Aims a → a.to ≡ Some (target.Stretch t) → slice_get (starts_of k) j ≡ Some old → slice_get (starts_of k) t ≡ Some to → aim_fault old a.instr (Some to) a.plus ≡ None
+pub was_right : (k : KeptLayout) (j : ℕ) (s : Block) (a : Aim) (t old to : ℕ) → IsLaid k → slice_get k.blocks.items j ≡ Some s → s.head ≡ head.Aims a → a.to ≡ Some (location.Block t) → slice_get (starts_of k) j ≡ Some old → slice_get (starts_of k) t ≡ Some to → aim_fault old a.instr (Some to) a.plus ≡ None
 was_right k j s a t old to l e f g old_is to_is =
-    let r = l.reach j (shape_of s) old (shape_at k.stretches.items j s e) old_is in
+    let r = l.reach j (footprint_of s) old (footprint_at k.blocks.items j s e) old_is in
     let h : aim_fault old a.instr (address_of (starts_of k) a.to) a.plus ≡ None = subst (λ (x : Head). head_fault (starts_of k) old x ≡ None) f r in
     subst (λ (o : Option ℕ). aim_fault old a.instr o a.plus ≡ None) (ap (address_of (starts_of k)) g ∙ to_is) h
 
 -- a mention of a label is within reach, by where both lie
-pub label_is_right : (k : KeptLayout) (starts : List ℕ) (j : ℕ) (s : Stretch) (a : Aim) (t at to : ℕ) → slice_get k.stretches.items j ≡ Some s → s.head ≡ head.Aims a → a.to ≡ Some (target.Stretch t) → slice_get starts j ≡ Some at → slice_get starts t ≡ Some to → aim_fault at a.instr (Some to) a.plus ≡ None
-    → IsRight starts k.stretches.items j
+pub label_is_right : (k : KeptLayout) (starts : List ℕ) (j : ℕ) (s : Block) (a : Aim) (t at to : ℕ) → slice_get k.blocks.items j ≡ Some s → s.head ≡ head.Aims a → a.to ≡ Some (location.Block t) → slice_get starts j ≡ Some at → slice_get starts t ≡ Some to → aim_fault at a.instr (Some to) a.plus ≡ None
+    → IsRight starts k.blocks.items j
 label_is_right k starts j s a t at to e f g at_is to_is r = λ other n h i.
     let one : s ≡ other = cc in
     let place : at ≡ n = cc in
     let there : aim_fault at a.instr (address_of starts a.to) a.plus ≡ None = subst (λ (o : Option ℕ). aim_fault at a.instr o a.plus ≡ None) (sym (ap (address_of starts) g ∙ to_is)) r in
     let whole : head_fault starts at s.head ≡ None = subst (λ (x : Head). head_fault starts at x ≡ None) (sym f) there in
-    subst (λ m. head_fault starts m other.head ≡ None) place (subst (λ (x : Stretch). head_fault starts at x.head ≡ None) one whole)
+    subst (λ m. head_fault starts m other.head ≡ None) place (subst (λ (x : Block). head_fault starts at x.head ≡ None) one whole)
 
 -- ---- mentions from and to calm ones ----
 
 -- a mention of a calm one's label, and a calm one's mention, is no literal's
-pub no_literal_of : (k : KeptLayout) (j t : ℕ) (s : Stretch) (a : Aim) → IsLaid k → k.here < t → t < wall_of k → slice_get k.stretches.items j ≡ Some s → s.head ≡ head.Aims a → a.to ≡ Some (target.Stretch t) → is_literal a.instr ≡ false
-no_literal_of k j t s a l h m e f g = ((bounds k l).calm t h m).label j (shape_of s) a (shape_at k.stretches.items j s e) f g
+pub no_literal_of : (k : KeptLayout) (j t : ℕ) (s : Block) (a : Aim) → IsLaid k → k.here < t → t < wall_of k → slice_get k.blocks.items j ≡ Some s → s.head ≡ head.Aims a → a.to ≡ Some (location.Block t) → is_literal a.instr ≡ false
+no_literal_of k j t s a l h m e f g = ((bounds k l).calm t h m).label j (footprint_of s) a (footprint_at k.blocks.items j s e) f g
 
-pub no_literal_at : (k : KeptLayout) (j : ℕ) (s : Stretch) (a : Aim) → IsLaid k → k.here < j → j < wall_of k → slice_get k.stretches.items j ≡ Some s → s.head ≡ head.Aims a → is_literal a.instr ≡ false
+pub no_literal_at : (k : KeptLayout) (j : ℕ) (s : Block) (a : Aim) → IsLaid k → k.here < j → j < wall_of k → slice_get k.blocks.items j ≡ Some s → s.head ≡ head.Aims a → is_literal a.instr ≡ false
 no_literal_at k j s a l h m e f =
-    let own : is_calm s.head ≡ true = ((bounds k l).calm j h m).own (shape_of s) (shape_at k.stretches.items j s e) in
+    let own : is_calm s.head ≡ true = ((bounds k l).calm j h m).own (footprint_of s) (footprint_at k.blocks.items j s e) in
     let calm : is_calm (head.Aims a) ≡ true = subst (λ (x : Head). is_calm x ≡ true) f own in
     go (is_literal a.instr) refl calm
   where
@@ -243,9 +243,9 @@ no_literal_at k j s a l h m e f =
     go true e c = absurd (let never : false ≡ true = sym (rw e refl) ∙ c in cc)
 
 -- it mentions no address that is set
-pub no_address_at : (k : KeptLayout) (j : ℕ) (s : Stretch) (a : Aim) (to : ℕ) → IsLaid k → k.here < j → j < wall_of k → slice_get k.stretches.items j ≡ Some s → s.head ≡ head.Aims a → a.to ≡ Some (target.Address to) → ⊥
+pub no_address_at : (k : KeptLayout) (j : ℕ) (s : Block) (a : Aim) (to : ℕ) → IsLaid k → k.here < j → j < wall_of k → slice_get k.blocks.items j ≡ Some s → s.head ≡ head.Aims a → a.to ≡ Some (location.Address to) → ⊥
 no_address_at k j s a to l h m e f g =
-    let own : is_calm s.head ≡ true = ((bounds k l).calm j h m).own (shape_of s) (shape_at k.stretches.items j s e) in
+    let own : is_calm s.head ≡ true = ((bounds k l).calm j h m).own (footprint_of s) (footprint_at k.blocks.items j s e) in
     let calm : is_calm (head.Aims a) ≡ true = subst (λ (x : Head). is_calm x ≡ true) f own in
     let parts = and_parts (not (is_literal a.instr)) (is_calm_to a.to) calm in
     let never : false ≡ true = sym (ap is_calm_to g) ∙ parts.1 in
@@ -259,7 +259,7 @@ record AreThere (k : KeptLayout) (bytes : ℕ) : Type 0 where
 walked_there : (k : KeptLayout) (bytes at : ℕ) → IsLaid k → IsWalked k bytes (calm_starts k bytes) at (wall_of k) → (j : ℕ) → j < wall_of k → slice_get (starts_less k bytes) j ≡ slice_get (moved_starts k (calm_starts k bytes) 0) j
 walked_there k bytes at l w j h =
     let end = end_calm k bytes l in
-    ap (λ (xs : List ℕ). slice_get xs j) (w.starts 0) ∙ starts_alike k (calm_starts k bytes) (starts_from at (drop (wall_of k) (shapes_of k.stretches.items))) (map (λ a. a - 0) (drop (end_of k (calm_starts k bytes)) (starts_of k))) l.here j (omega arith)
+    ap (λ (xs : List ℕ). slice_get xs j) (w.starts 0) ∙ starts_alike k (calm_starts k bytes) (starts_from at (drop (wall_of k) (footprints_of k.blocks.items))) (map (λ a. a - 0) (drop (end_of k (calm_starts k bytes)) (starts_of k))) l.here j (omega arith)
 
 are_there : (k : KeptLayout) (bytes at : ℕ) → IsLaid k → IsWalked k bytes (calm_starts k bytes) at (wall_of k) → AreThere k bytes
 are_there k bytes at l w =
@@ -274,8 +274,8 @@ are_there k bytes at l w =
     }
 
 -- a label's mention both ends of which lie before the wall, and not both where they were
-calm_label : (k : KeptLayout) (bytes j t : ℕ) (s : Stretch) (a : Aim) → IsLaid k → AreWide (shapes_of k.stretches.items) → ((n x : ℕ) → k.here < n → slice_get (starts_of k) n ≡ Some x → bytes ≤ x) → AreThere k bytes → slice_get k.stretches.items j ≡ Some s → s.head ≡ head.Aims a → a.to ≡ Some (target.Stretch t) → (j ≡ k.here → ⊥)
-    → k.here < max j t → max j t < wall_of k → IsRight (starts_less k bytes) k.stretches.items j
+calm_label : (k : KeptLayout) (bytes j t : ℕ) (s : Block) (a : Aim) → IsLaid k → AreWide (footprints_of k.blocks.items) → ((n x : ℕ) → k.here < n → slice_get (starts_of k) n ≡ Some x → bytes ≤ x) → AreThere k bytes → slice_get k.blocks.items j ≡ Some s → s.head ≡ head.Aims a → a.to ≡ Some (location.Block t) → (j ≡ k.here → ⊥)
+    → k.here < max j t → max j t < wall_of k → IsRight (starts_less k bytes) k.blocks.items j
 calm_label k bytes j t s a l wide low there e f g other some below =
     let within = (bounds k l).within in
     let count = count_of k in
@@ -307,25 +307,25 @@ calm_label k bytes j t s a l wide low there e f g other some below =
           label_is_right k (starts_less k bytes) j s a t old.0 (to.0 - bytes) e f g at where_to (aim_ahead bytes old.0 to.0 a.instr a.plus (λ y. absurd (let never : true ≡ false = sym y ∙ plain in cc)) (omega arith) was)
     ]
 
-calm_right : (k : KeptLayout) (bytes j : ℕ) (s : Stretch) → IsLaid k → AreWide (shapes_of k.stretches.items) → ((n x : ℕ) → k.here < n → slice_get (starts_of k) n ≡ Some x → bytes ≤ x) → AreThere k bytes → slice_get k.stretches.items j ≡ Some s → (j ≡ k.here → ⊥) → k.here < later_end j s.head → later_end j s.head < wall_of k
-    → IsRight (starts_less k bytes) k.stretches.items j
+calm_right : (k : KeptLayout) (bytes j : ℕ) (s : Block) → IsLaid k → AreWide (footprints_of k.blocks.items) → ((n x : ℕ) → k.here < n → slice_get (starts_of k) n ≡ Some x → bytes ≤ x) → AreThere k bytes → slice_get k.blocks.items j ≡ Some s → (j ≡ k.here → ⊥) → k.here < later_end j s.head → later_end j s.head < wall_of k
+    → IsRight (starts_less k bytes) k.blocks.items j
 calm_right k bytes j s l wide low there e other some below = go s.head refl some below
   where
-    go : (h : Head) → s.head ≡ h → k.here < later_end j h → later_end j h < wall_of k → IsRight (starts_less k bytes) k.stretches.items j
-    go head.Plain f m n = λ x at g i. let one : s ≡ x = cc in subst (λ (y : Head). head_fault (starts_less k bytes) at y ≡ None) (sym f ∙ ap (λ (y : Stretch). y.head) one) refl
-    go (head.Pads size most) f m n = λ x at g i. let one : s ≡ x = cc in subst (λ (y : Head). head_fault (starts_less k bytes) at y ≡ None) (sym f ∙ ap (λ (y : Stretch). y.head) one) refl
+    go : (h : Head) → s.head ≡ h → k.here < later_end j h → later_end j h < wall_of k → IsRight (starts_less k bytes) k.blocks.items j
+    go head.Plain f m n = λ x at g i. let one : s ≡ x = cc in subst (λ (y : Head). head_fault (starts_less k bytes) at y ≡ None) (sym f ∙ ap (λ (y : Block). y.head) one) refl
+    go (head.Pads size most) f m n = λ x at g i. let one : s ≡ x = cc in subst (λ (y : Head). head_fault (starts_less k bytes) at y ≡ None) (sym f ∙ ap (λ (y : Block). y.head) one) refl
     go (head.Aims a) f m n = aims a.to refl m n
       where
-        aims : (o : Option Target) → a.to ≡ o → k.here < later_end j (head.Aims (record a { to = o })) → later_end j (head.Aims (record a { to = o })) < wall_of k → IsRight (starts_less k bytes) k.stretches.items j
+        aims : (o : Option NameLocation) → a.to ≡ o → k.here < later_end j (head.Aims (record a { to = o })) → later_end j (head.Aims (record a { to = o })) < wall_of k → IsRight (starts_less k bytes) k.blocks.items j
         aims None g m n = λ x at h i.
             let one : s ≡ x = cc in
-            let none : aim_fault at a.instr (address_of (starts_less k bytes) a.to) a.plus ≡ None = subst (λ (o : Option Target). aim_fault at a.instr (address_of (starts_less k bytes) o) a.plus ≡ None) (sym g) (aim_none at a.instr a.plus) in
-            subst (λ (y : Head). head_fault (starts_less k bytes) at y ≡ None) (sym f ∙ ap (λ (y : Stretch). y.head) one) none
-        aims (Some (target.Stretch t)) g m n = calm_label k bytes j t s a l wide low there e f g other m n
-        aims (Some (target.Address to)) g m n = absurd (no_address_at k j s a to l m n e f g)
+            let none : aim_fault at a.instr (address_of (starts_less k bytes) a.to) a.plus ≡ None = subst (λ (o : Option NameLocation). aim_fault at a.instr (address_of (starts_less k bytes) o) a.plus ≡ None) (sym g) (aim_none at a.instr a.plus) in
+            subst (λ (y : Head). head_fault (starts_less k bytes) at y ≡ None) (sym f ∙ ap (λ (y : Block). y.head) one) none
+        aims (Some (location.Block t)) g m n = calm_label k bytes j t s a l wide low there e f g other m n
+        aims (Some (location.Address to)) g m n = absurd (no_address_at k j s a to l m n e f g)
 
 -- what is mentioned before the wall is within reach, where that of the one that it stands at was looked at
-pub calm_known : (k : KeptLayout) (bytes at : ℕ) → IsLaid k → AreWide (shapes_of k.stretches.items) → ((s : Shape) → slice_get (shapes_of k.stretches.items) k.here ≡ Some s → bytes ≤ s.bytes) → IsWalked k bytes (calm_starts k bytes) at (wall_of k) → IsRightIf true k (calm_starts k bytes) 0 k.here
+pub calm_known : (k : KeptLayout) (bytes at : ℕ) → IsLaid k → AreWide (footprints_of k.blocks.items) → ((s : Footprint) → slice_get (footprints_of k.blocks.items) k.here ≡ Some s → bytes ≤ s.bytes) → IsWalked k bytes (calm_starts k bytes) at (wall_of k) → IsRightIf true k (calm_starts k bytes) 0 k.here
     → AreKnownRight k (calm_starts k bytes) 0
 calm_known k bytes at l wide few w own = λ j s e low high.
     let end = end_calm k bytes l in
@@ -335,14 +335,14 @@ calm_known k bytes at l wide few w own = λ j s e low high.
         | inl behind ↦ elsewhere j s e low high (λ x. omega arith)
         | inr same ↦
             let here : k.here ≡ j = omega arith in
-            subst (IsRight (moved_starts k (calm_starts k bytes) 0) k.stretches.items) here (own s (ap (slice_get k.stretches.items) here ∙ e) (lt-ltb _ _ (subst (λ n. later_end n s.head < end_of k (calm_starts k bytes)) (sym here) high)))
+            subst (IsRight (moved_starts k (calm_starts k bytes) 0) k.blocks.items) here (own s (ap (slice_get k.blocks.items) here ∙ e) (lt-ltb _ _ (subst (λ n. later_end n s.head < end_of k (calm_starts k bytes)) (sym here) high)))
       ]
     ]
   where
-    elsewhere : (j : ℕ) (s : Stretch) → slice_get k.stretches.items j ≡ Some s → k.here < later_end j s.head → later_end j s.head < end_of k (calm_starts k bytes) → (j ≡ k.here → ⊥) → IsRight (moved_starts k (calm_starts k bytes) 0) k.stretches.items j
+    elsewhere : (j : ℕ) (s : Block) → slice_get k.blocks.items j ≡ Some s → k.here < later_end j s.head → later_end j s.head < end_of k (calm_starts k bytes) → (j ≡ k.here → ⊥) → IsRight (moved_starts k (calm_starts k bytes) 0) k.blocks.items j
     elsewhere j s e low high other =
         let end = end_calm k bytes l in
-        right_alike (wall_of k) j (starts_less k bytes) (moved_starts k (calm_starts k bytes) 0) k.stretches.items s (walked_there k bytes at l w) e (omega arith)
+        right_alike (wall_of k) j (starts_less k bytes) (moved_starts k (calm_starts k bytes) 0) k.blocks.items s (walked_there k bytes at l w) e (omega arith)
         (calm_right k bytes j s l wide (λ n x h i. few_low k bytes n x l few h i) (are_there k bytes at l w) e other low (omega arith))
 
 -- they mention no address that is set
@@ -354,7 +354,7 @@ calm_slack k new by j slack l h m at s e f = go s.head refl
     go (head.Pads size most) g = subst (λ (y : Head). HasSlack slack at y) (sym g) tt
     go (head.Aims a) g = subst (λ (y : Head). HasSlack slack at y) (sym g) (aims a.to refl)
       where
-        aims : (o : Option Target) → a.to ≡ o → HasSlackTo slack at a.instr a.to a.plus
-        aims None i = subst (λ (t : Option Target). HasSlackTo slack at a.instr t a.plus) (sym i) tt
-        aims (Some (target.Stretch t)) i = subst (λ (t : Option Target). HasSlackTo slack at a.instr t a.plus) (sym i) tt
-        aims (Some (target.Address to)) i = absurd (no_address_at k j s a to l h m e g i)
+        aims : (o : Option NameLocation) → a.to ≡ o → HasSlackTo slack at a.instr a.to a.plus
+        aims None i = subst (λ (t : Option NameLocation). HasSlackTo slack at a.instr t a.plus) (sym i) tt
+        aims (Some (location.Block t)) i = subst (λ (t : Option NameLocation). HasSlackTo slack at a.instr t a.plus) (sym i) tt
+        aims (Some (location.Address to)) i = absurd (no_address_at k j s a to l h m e g i)

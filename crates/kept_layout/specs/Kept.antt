@@ -1,29 +1,29 @@
 -- A layout that is kept for lines.
 use Rattle.std.specs.Prelude.{◌≡◌, ℕ, ◌+◌, ◌*◌, ◌<◌, ◌≤◌, ◌^◌, ◌||◌, Bool, not, true, false, List, [], ◌∷◌, ◌++◌, length, drop, take, Option, Some, None, slice_get, Contains, if◌then◌else◌}
 use Rattle.thumb_instr.specs.declared.instr.Instr.{Instr}
-use Rattle.thumb_model.specs.Listing.{Name, Statement, Nothing, Runs, Words, Aligns, Sets, Line, places_of}
+use Rattle.thumb_model.specs.Listing.{Name, Statement, Nothing, Instruction, Words, Aligns, Sets, ListingLine, places_of}
 use Rattle.thumb_model.specs.Layout.{cleared, instr_size, is_among, set_address, Layable}
 use Rattle.thumb_model.specs.Replaced.{replaced_lines}
 use Rattle.listing_parser.specs.Parsing.{own_line}
 use Rattle.window_runs.specs.Rows.{is_unlabelled}
 use Rattle.window_runs.specs.Windows.{IsWindow}
-use Rattle.kept_layout.specs.declared.grains.Loose.TheVariants as sort
+use Rattle.kept_layout.specs.declared.alignments.Loose.TheVariants as sort
 use Rattle.kept_layout.specs.declared.kept.KeptLayout.{KeptLayout}
-use Rattle.kept_layout.specs.declared.stretch.Aim.{Aim}
-use Rattle.kept_layout.specs.declared.stretch.Target.{Target}
-use Rattle.kept_layout.specs.declared.stretch.Target.TheVariants as target
-use Rattle.kept_layout.specs.declared.stretch.Head.{Head}
-use Rattle.kept_layout.specs.declared.stretch.Head.TheVariants as head
-use Rattle.kept_layout.specs.declared.stretch.Stretch.{Stretch}
-use Rattle.kept_layout.specs.Stretches.{addresses, end_from, is_loose, lag_of, literal_last, shapes_of, starts_from, total_places, AllReach, AreWalls, Divides, HasSlack, IsGrain, Shape}
+use Rattle.kept_layout.specs.declared.block.Aim.{Aim}
+use Rattle.kept_layout.specs.declared.block.NameLocation.{NameLocation}
+use Rattle.kept_layout.specs.declared.block.NameLocation.TheVariants as location
+use Rattle.kept_layout.specs.declared.block.Head.{Head}
+use Rattle.kept_layout.specs.declared.block.Head.TheVariants as head
+use Rattle.kept_layout.specs.declared.block.Block.{Block}
+use Rattle.kept_layout.specs.Blocks.{addresses, end_from, is_loose, lag_of, literal_last, footprints_of, starts_from, total_places, AllReach, AreWalls, Divides, HasSlack, IsAlignment, Footprint}
 
--- ---- stretches of lines ----
+-- ---- blocks of lines ----
 
 -- whether a statement takes the same bytes wherever it lies, and mentions nothing
 abbrev pub is_fixed : Statement → Bool
 is_fixed Nothing = true
-is_fixed (Runs i None) = true
-is_fixed (Runs i (Some m)) = false
+is_fixed (Instruction i None) = true
+is_fixed (Instruction i (Some m)) = false
 is_fixed (Words vs) = true
 is_fixed (Aligns size most) = false
 is_fixed (Sets name address) = true
@@ -31,144 +31,144 @@ is_fixed (Sets name address) = true
 -- the bytes of a statement besides a padding, and those of lines
 abbrev pub bytes_in : Statement → ℕ
 bytes_in Nothing = 0
-bytes_in (Runs i mention) = instr_size i
+bytes_in (Instruction i mention) = instr_size i
 bytes_in (Words vs) = 4 * length vs
 bytes_in (Aligns size most) = 0
 bytes_in (Sets name address) = 0
 
-abbrev pub bytes_of : List Line → ℕ
+abbrev pub bytes_of : List ListingLine → ℕ
 bytes_of [] = 0
 bytes_of (l ∷ ls) = bytes_in l.statement + bytes_of ls
 
 -- lines without labels whose statements are fixed
-abbrev pub AreBare : List Line → Type 0
+abbrev pub AreBare : List ListingLine → Type 0
 AreBare [] = Unit {0}
 AreBare (l ∷ ls) = (l.names ≡ []) × (is_fixed l.statement ≡ true) × AreBare ls
 
--- whether a line begins a stretch
-abbrev pub begins : Line → Bool
+-- whether a line begins a block
+abbrev pub begins : ListingLine → Bool
 begins l = not (is_unlabelled l.names) || not (is_fixed l.statement)
 
 -- the labels with which lines begin
-abbrev pub first_names : List Line → List Name
+abbrev pub first_names : List ListingLine → List Name
 first_names [] = []
 first_names (l ∷ ls) = l.names
 
-abbrev pub joined : List (List Line) → List Line
+abbrev pub joined : List (List ListingLine) → List ListingLine
 joined [] = []
 joined (p ∷ ps) = p ++ joined ps
 
 -- the number of the first part, from n on, that begins with a label of the name
-abbrev pub part_of : Name → ℕ → List (List Line) → Option ℕ
+abbrev pub part_of : Name → ℕ → List (List ListingLine) → Option ℕ
 part_of name n [] = None
 part_of name n (p ∷ ps) = if is_among name (first_names p) then Some n else part_of name (n + 1) ps
 
 -- where a name lies: at the label of a part, or at an address that is set
-abbrev pub target_at : Option ℕ → Option ℕ → Option Target
+abbrev pub target_at : Option ℕ → Option ℕ → Option NameLocation
 target_at None None = None
-target_at None (Some a) = Some (target.Address a)
-target_at (Some k) set = Some (target.Stretch k)
+target_at None (Some a) = Some (location.Address a)
+target_at (Some k) set = Some (location.Block k)
 
-abbrev pub target_in : List (List Line) → Name → Option Target
+abbrev pub target_in : List (List ListingLine) → Name → Option NameLocation
 target_in parts name = target_at (part_of name 0 parts) (cleared (set_address name (joined parts)))
 
--- what a statement is as the first of a stretch, given where names lie
-abbrev pub head_of : (Name → Option Target) → Statement → Head
+-- what a statement is as the first of a block, given where names lie
+abbrev pub head_of : (Name → Option NameLocation) → Statement → Head
 head_of find Nothing = head.Plain
-head_of find (Runs i None) = head.Plain
-head_of find (Runs i (Some m)) = head.Aims (record { instr = i; to = find m.name; plus = m.plus })
+head_of find (Instruction i None) = head.Plain
+head_of find (Instruction i (Some m)) = head.Aims (record { instr = i; to = find m.name; plus = m.plus })
 head_of find (Words vs) = head.Plain
 head_of find (Aligns size most) = head.Pads size most
 head_of find (Sets name address) = head.Plain
 
-abbrev pub first_head : (Name → Option Target) → List Line → Head
+abbrev pub first_head : (Name → Option NameLocation) → List ListingLine → Head
 first_head find [] = head.Plain
 first_head find (l ∷ ls) = head_of find l.statement
 
-abbrev pub behind_first : List Line → List Line
+abbrev pub behind_first : List ListingLine → List ListingLine
 behind_first [] = []
 behind_first (l ∷ ls) = ls
 
--- the shape is that of the lines, of which the first alone may have labels, mention a name or align
-pub record IsShapeOf (find : Name → Option Target) (lines : List Line) (s : Shape) : Type 0 where
+-- the footprint is that of the lines, of which the first alone may have labels, mention a name or align
+pub record IsFootprintOf (find : Name → Option NameLocation) (lines : List ListingLine) (s : Footprint) : Type 0 where
   pub head : s.head ≡ first_head find lines
   pub bare : AreBare (behind_first lines)
   pub bytes : s.bytes ≡ bytes_of lines
   pub places : s.places ≡ length (places_of lines)
 
-abbrev pub AreShapesOf : (Name → Option Target) → List (List Line) → List Shape → Type 0
-AreShapesOf find [] [] = Unit {0}
-AreShapesOf find [] (s ∷ ss) = ⊥
-AreShapesOf find (p ∷ ps) [] = ⊥
-AreShapesOf find (p ∷ ps) (s ∷ ss) = IsShapeOf find p s × AreShapesOf find ps ss
+abbrev pub AreFootprintsOf : (Name → Option NameLocation) → List (List ListingLine) → List Footprint → Type 0
+AreFootprintsOf find [] [] = Unit {0}
+AreFootprintsOf find [] (s ∷ ss) = ⊥
+AreFootprintsOf find (p ∷ ps) [] = ⊥
+AreFootprintsOf find (p ∷ ps) (s ∷ ss) = IsFootprintOf find p s × AreFootprintsOf find ps ss
 
--- each of the parts begins with a line that begins a stretch
-abbrev pub AllBegin : List (List Line) → Type 0
+-- each of the parts begins with a line that begins a block
+abbrev pub AllBegin : List (List ListingLine) → Type 0
 AllBegin [] = Unit {0}
 AllBegin ([] ∷ ps) = ⊥
 AllBegin ((l ∷ ls) ∷ ps) = (begins l ≡ true) × AllBegin ps
 
-abbrev pub behind_first_part : List (List Line) → List (List Line)
+abbrev pub behind_first_part : List (List ListingLine) → List (List ListingLine)
 behind_first_part [] = []
 behind_first_part (p ∷ ps) = ps
 
--- the lines are cut into parts of these shapes
-pub record AreCut (lines : List Line) (shapes : List Shape) : Type 0 where
-  pub parts : List (List Line)
+-- the lines are cut into parts of these footprints
+pub record AreCut (lines : List ListingLine) (footprints : List Footprint) : Type 0 where
+  pub parts : List (List ListingLine)
   pub is : lines ≡ joined parts
-  pub shapes_are : AreShapesOf (target_in parts) parts shapes
+  pub footprints_are : AreFootprintsOf (target_in parts) parts footprints
   pub begin : AllBegin (behind_first_part parts)
 
 -- ---- what is kept ----
 
 -- so many places have the 128 ones from a number on
-abbrev pub IsRoom : List Shape → ℕ → ℕ → Type 0
-IsRoom shapes n room = total_places (take n shapes) + room ≡ total_places (take (n + 128) shapes)
+abbrev pub IsRoom : List Footprint → ℕ → ℕ → Type 0
+IsRoom footprints n room = total_places (take n footprints) + room ≡ total_places (take (n + 128) footprints)
 
 -- so many has each group of 128
-abbrev pub AreRooms : List ℕ → List Shape → Type 0
-AreRooms rooms shapes = (g room : ℕ) → slice_get rooms g ≡ Some room → IsRoom shapes (g * 128) room
+abbrev pub AreRooms : List ℕ → List Footprint → Type 0
+AreRooms rooms footprints = (g room : ℕ) → slice_get rooms g ≡ Some room → IsRoom footprints (g * 128) room
 
--- the stretches lie one behind the other from the base on, and each knows who mentions its label
+-- the blocks lie one behind the other from the base on, and each knows who mentions its label
 pub record IsLaid (k : KeptLayout) : Type 0 where
-  pub in_code : end_from k.base (shapes_of k.stretches.items) ≤ 2 ^ 29
-  pub starts : addresses k.lag 0 k.stretches.items ≡ starts_from k.base (shapes_of k.stretches.items)
-  pub border : k.lag.border ≤ length k.stretches.items
-  pub noted : (j : ℕ) (s : Stretch) → slice_get k.stretches.items j ≡ Some s → lag_of k.lag j ≤ s.at
-  pub grains : (j : ℕ) (s : Stretch) → slice_get k.stretches.items j ≡ Some s → IsGrain s.grain (drop j (shapes_of k.stretches.items))
-  -- 4 divides the grains of those that aren't behind a literal and its label
-  pub literals : (i j : ℕ) (s : Shape) (d : Stretch) → slice_get (shapes_of k.stretches.items) i ≡ Some s → slice_get k.stretches.items j ≡ Some d → j ≤ literal_last i s.head → Divides 4 d.grain
-  pub reach : AllReach k.base (shapes_of k.stretches.items)
-  pub targets : (i t : ℕ) (s : Stretch) (a : Aim) → slice_get k.stretches.items i ≡ Some s → s.head ≡ head.Aims a → a.to ≡ Some (target.Stretch t) → t < length k.stretches.items
-  pub callers : (i t : ℕ) (s d : Stretch) (a : Aim) → slice_get k.stretches.items i ≡ Some s → s.head ≡ head.Aims a → a.to ≡ Some (target.Stretch t) → slice_get k.stretches.items t ≡ Some d → Contains d.callers.items i
-  pub called : (t i : ℕ) (d : Stretch) → slice_get k.stretches.items t ≡ Some d → Contains d.callers.items i → i < length k.stretches.items
-  -- the loose ones are known, and so is by how many bytes those of addresses that are set may all come nearer, behind one of the stretches
-  pub loose : (j : ℕ) (s : Stretch) → slice_get k.stretches.items j ≡ Some s → is_loose sort.Label j s.head ≡ true → Contains k.loose.items j
-  pub loose_within : (j : ℕ) → Contains k.loose.items j → j < length k.stretches.items
-  pub absolute : (j : ℕ) (s : Stretch) → slice_get k.stretches.items j ≡ Some s → is_loose sort.Address j s.head ≡ true → Contains k.absolute.items j
-  pub absolute_within : (j : ℕ) → Contains k.absolute.items j → j < length k.stretches.items
-  pub slack : (j at : ℕ) (s : Stretch) → k.slack_from < j → slice_get k.stretches.items j ≡ Some s → slice_get (starts_from k.base (shapes_of k.stretches.items)) j ≡ Some at → HasSlack k.slack at s.head
+  pub in_code : end_from k.base (footprints_of k.blocks.items) ≤ 2 ^ 29
+  pub starts : addresses k.lag 0 k.blocks.items ≡ starts_from k.base (footprints_of k.blocks.items)
+  pub border : k.lag.border ≤ length k.blocks.items
+  pub noted : (j : ℕ) (s : Block) → slice_get k.blocks.items j ≡ Some s → lag_of k.lag j ≤ s.at
+  pub alignments : (j : ℕ) (s : Block) → slice_get k.blocks.items j ≡ Some s → IsAlignment s.alignment (drop j (footprints_of k.blocks.items))
+  -- 4 divides the alignments of those that aren't behind a literal and its label
+  pub literals : (i j : ℕ) (s : Footprint) (d : Block) → slice_get (footprints_of k.blocks.items) i ≡ Some s → slice_get k.blocks.items j ≡ Some d → j ≤ literal_last i s.head → Divides 4 d.alignment
+  pub reach : AllReach k.base (footprints_of k.blocks.items)
+  pub targets : (i t : ℕ) (s : Block) (a : Aim) → slice_get k.blocks.items i ≡ Some s → s.head ≡ head.Aims a → a.to ≡ Some (location.Block t) → t < length k.blocks.items
+  pub callers : (i t : ℕ) (s d : Block) (a : Aim) → slice_get k.blocks.items i ≡ Some s → s.head ≡ head.Aims a → a.to ≡ Some (location.Block t) → slice_get k.blocks.items t ≡ Some d → Contains d.callers.items i
+  pub called : (t i : ℕ) (d : Block) → slice_get k.blocks.items t ≡ Some d → Contains d.callers.items i → i < length k.blocks.items
+  -- the loose ones are known, and so is by how many bytes those of addresses that are set may all come nearer, behind one of the blocks
+  pub loose : (j : ℕ) (s : Block) → slice_get k.blocks.items j ≡ Some s → is_loose sort.Label j s.head ≡ true → Contains k.loose.items j
+  pub loose_within : (j : ℕ) → Contains k.loose.items j → j < length k.blocks.items
+  pub absolute : (j : ℕ) (s : Block) → slice_get k.blocks.items j ≡ Some s → is_loose sort.Address j s.head ≡ true → Contains k.absolute.items j
+  pub absolute_within : (j : ℕ) → Contains k.absolute.items j → j < length k.blocks.items
+  pub slack : (j at : ℕ) (s : Block) → k.slack_from < j → slice_get k.blocks.items j ≡ Some s → slice_get (starts_from k.base (footprints_of k.blocks.items)) j ≡ Some at → HasSlack k.slack at s.head
   -- it stands at one of them, before which there are so many places
-  pub here : k.here < length k.stretches.items
-  pub first : k.first ≡ total_places (take k.here (shapes_of k.stretches.items))
-  pub rooms : AreRooms k.rooms.items (shapes_of k.stretches.items)
-  pub walls : AreWalls k.walls.items (shapes_of k.stretches.items)
+  pub here : k.here < length k.blocks.items
+  pub first : k.first ≡ total_places (take k.here (footprints_of k.blocks.items))
+  pub rooms : AreRooms k.rooms.items (footprints_of k.blocks.items)
+  pub walls : AreWalls k.walls.items (footprints_of k.blocks.items)
 
 -- it is the layout of the lines
-pub record Lays (k : KeptLayout) (lines : List Line) : Type 0 where
+pub record Lays (k : KeptLayout) (lines : List ListingLine) : Type 0 where
   pub laid : IsLaid k
-  pub cut : AreCut lines (shapes_of k.stretches.items)
+  pub cut : AreCut lines (footprints_of k.blocks.items)
 
 -- it stands where the place is, if there is such a place
 pub record IsNear (k : KeptLayout) (place : ℕ) : Type 0 where
   pub from : k.first ≤ place
-  pub until : place < total_places (shapes_of k.stretches.items) → (s : Shape) → slice_get (shapes_of k.stretches.items) k.here ≡ Some s → place < k.first + s.places
+  pub until : place < total_places (footprints_of k.blocks.items) → (s : Footprint) → slice_get (footprints_of k.blocks.items) k.here ≡ Some s → place < k.first + s.places
 
 -- ---- windows that give way ----
 
 -- it is the layout of some lines and stands at a place of theirs, where the window begins
 pub record StandsAt (k : KeptLayout) (window : List Instr) : Type 0 where
-  pub lines : List Line
+  pub lines : List ListingLine
   pub place : ℕ
   pub lays : Lays k lines
   pub near : IsNear k place

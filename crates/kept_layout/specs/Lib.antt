@@ -1,4 +1,4 @@
-pub mod Stretches
+pub mod Blocks
 pub mod Kept
 pub mod Cutting
 pub mod Moves

@@ -1,17 +1,17 @@
-//! Which stretches stay as they are where they move by an even number of bytes together with what is around them: they needn't be looked at one by one.
+//! Which blocks stay as they are where they move by an even number of bytes together with what is around them: they needn't be looked at one by one.
 ghost use Rattle.std.specs.Prelude.{◌≡◌, ◌<◌, ℕ, true, false, length, slice_get, IfOk, Some, Contains};
-ghost use Rattle.kept_layout.specs.declared.stretch.Stretch.{Stretch as OneStretch};
-ghost use Rattle.kept_layout.specs.Stretches.{begins_literal as has_literal, is_calm as stays_calm, shapes_of, AreWalls, IsCalm};
+ghost use Rattle.kept_layout.specs.declared.block.Block.{Block as OneBlock};
+ghost use Rattle.kept_layout.specs.Blocks.{begins_literal as has_literal, is_calm as stays_calm, footprints_of, AreWalls, IsCalm};
 ghost use Rattle.kept_layout.specs.Cutting.{AreCallers, KnowCallers};
 ghost use Rattle.kept_layout.specs.Moves.{wall_of};
 
-use crate::grains::is_literal;
+use crate::alignments::is_literal;
+use crate::block::{Block, Head, NameLocation};
 use crate::kept::KeptLayout;
-use crate::stretch::{Head, Stretch, Target};
 use listing_parser::Memory;
 use std::alloc::Global;
 
-/// Whether what a stretch begins with stays as it is where it and what it mentions move by one even number of bytes.
+/// Whether what a block begins with stays as it is where it and what it mentions move by one even number of bytes.
 fn is_calm_head(head: &Head) -> bool
     ensures { result ≡ stays_calm head.now }
 {
@@ -19,13 +19,13 @@ fn is_calm_head(head: &Head) -> bool
         Head::Plain => true,
         Head::Pads { size, .. } => *size == 1 || *size == 2,
         Head::Aims(aim) => match aim.to {
-            Some(Target::Address(_)) => false,
+            Some(NameLocation::Address(_)) => false,
             _ => !is_literal(&aim.instr),
         }
     }
 }
 
-/// Whether a stretch begins with a literal's instruction.
+/// Whether a block begins with a literal's instruction.
 fn begins_literal(head: &Head) -> bool
     ensures { result ≡ has_literal head.now }
 {
@@ -35,36 +35,36 @@ fn begins_literal(head: &Head) -> bool
     }
 }
 
-/// Whether the stretch of a number does.
-fn is_literal_at(stretches: &[Stretch], number: usize) -> bool
-    requires { number < length stretches.now }
-    ensures { (s : OneStretch) → slice_get stretches.now number ≡ Some s → result ≡ has_literal s.head }
+/// Whether the block of a number does.
+fn is_literal_at(blocks: &[Block], number: usize) -> bool
+    requires { number < length blocks.now }
+    ensures { (s : OneBlock) → slice_get blocks.now number ≡ Some s → result ≡ has_literal s.head }
 {
-    begins_literal(&stretches[number].head)
+    begins_literal(&blocks[number].head)
 }
 
-/// Whether none of these stretches begins with a literal's instruction.
-fn are_no_literals(stretches: &[Stretch], numbers: &[usize]) -> bool
-    requires { (j : ℕ) → Contains numbers.now j → j < length stretches.now }
-    ensures { result ≡ true → (j : ℕ) (s : OneStretch) → Contains numbers.now j → slice_get stretches.now j ≡ Some s → has_literal s.head ≡ false }
+/// Whether none of these blocks begins with a literal's instruction.
+fn are_no_literals(blocks: &[Block], numbers: &[usize]) -> bool
+    requires { (j : ℕ) → Contains numbers.now j → j < length blocks.now }
+    ensures { result ≡ true → (j : ℕ) (s : OneBlock) → Contains numbers.now j → slice_get blocks.now j ≡ Some s → has_literal s.head ≡ false }
 {
     for number in numbers {
-        if is_literal_at(stretches, *number) {
+        if is_literal_at(blocks, *number) {
             return false;
         }
     }
     true
 }
 
-/// Whether a stretch stays as it is where it and what is around it move by one even number of bytes.
-fn is_calm(stretches: &[Stretch], number: usize) -> bool
-    requires within { number < length stretches.now }
-    requires known { KnowCallers (length stretches.now) stretches.now }
-    requires callers { AreCallers stretches.now }
-    ensures { result ≡ true → IsCalm (shapes_of stretches.now) number }
+/// Whether a block stays as it is where it and what is around it move by one even number of bytes.
+fn is_calm(blocks: &[Block], number: usize) -> bool
+    requires within { number < length blocks.now }
+    requires known { KnowCallers (length blocks.now) blocks.now }
+    requires callers { AreCallers blocks.now }
+    ensures { result ≡ true → IsCalm (footprints_of blocks.now) number }
 {
-    let stretch = &stretches[number];
-    is_calm_head(&stretch.head) && are_no_literals(stretches, &stretch.callers)
+    let block = &blocks[number];
+    is_calm_head(&block.head) && are_no_literals(blocks, &block.callers)
 }
 
 /// So many numbers, from 0 on.
@@ -79,17 +79,17 @@ fn numbers(alloc: Global, count: usize) -> Result<Vec<usize>, Memory>
     Ok(numbers)
 }
 
-/// For each stretch the first one at or behind it up to which all are calm.
-pub(crate) fn find_walls(alloc: Global, stretches: &[Stretch]) -> Result<Vec<usize>, Memory>
-    requires known { KnowCallers (length stretches.now) stretches.now }
-    requires callers { AreCallers stretches.now }
-    ensures { IfOk result (λ v. AreWalls v.items (shapes_of stretches.now)) }
+/// For each block the first one at or behind it up to which all are calm.
+pub(crate) fn find_walls(alloc: Global, blocks: &[Block]) -> Result<Vec<usize>, Memory>
+    requires known { KnowCallers (length blocks.now) blocks.now }
+    requires callers { AreCallers blocks.now }
+    ensures { IfOk result (λ v. AreWalls v.items (footprints_of blocks.now)) }
 {
-    let mut walls = numbers(alloc, stretches.len())?;
-    let mut behind = stretches.len();
+    let mut walls = numbers(alloc, blocks.len())?;
+    let mut behind = blocks.len();
     while behind > 1 {
         behind -= 1;
-        if !is_calm(stretches, behind - 1) {
+        if !is_calm(blocks, behind - 1) {
             continue;
         }
         walls[behind - 1] = walls[behind];
@@ -98,9 +98,9 @@ pub(crate) fn find_walls(alloc: Global, stretches: &[Stretch]) -> Result<Vec<usi
 }
 
 impl KeptLayout {
-    /// The first stretch behind the one that it stands at up to which all are calm.
+    /// The first block behind the one that it stands at up to which all are calm.
     pub(crate) fn wall(&self) -> usize
-        requires { self.now.here < length self.now.stretches.items }
+        requires { self.now.here < length self.now.blocks.items }
         ensures { result ≡ wall_of self.now }
     {
         let first = self.here + 1;

@@ -1,25 +1,25 @@
-//! Stretches in groups, of each of which it is known how many places it has: a place that is far away is reached by going over groups.
+//! Blocks in groups, of each of which it is known how many places it has: a place that is far away is reached by going over groups.
 ghost use Rattle.std.specs.Prelude.{◌≡◌, ◌+◌, ◌*◌, ◌/◌, ◌≤◌, ℕ, false, true, length, slice_get, IfOk, IfSome, Some};
-ghost use Rattle.kept_layout.specs.Stretches.{shapes_of};
+ghost use Rattle.kept_layout.specs.Blocks.{footprints_of};
 ghost use Rattle.kept_layout.specs.Kept.{IsRoom, AreRooms, IsLaid};
 
+use crate::block::Block;
 use crate::kept::KeptLayout;
-use crate::stretch::Stretch;
 use listing_parser::Memory;
 use std::alloc::Global;
 
-/// How many stretches a group has.
+/// How many blocks a group has.
 const GROUP: usize = 128;
 
-/// How many places each group of stretches has that is full.
-pub(crate) fn find_rooms(alloc: Global, stretches: &[Stretch]) -> Result<Vec<usize>, Memory>
-    ensures { IfOk result (λ v. AreRooms v.items (shapes_of stretches.now)) }
+/// How many places each group of blocks has that is full.
+pub(crate) fn find_rooms(alloc: Global, blocks: &[Block]) -> Result<Vec<usize>, Memory>
+    ensures { IfOk result (λ v. AreRooms v.items (footprints_of blocks.now)) }
 {
     let mut rooms = Vec::new(alloc);
     let mut start = 0;
     let mut room: usize = 0;
-    for number in 0..stretches.len() {
-        room = room.checked_add(stretches[number].places).ok_or(Memory)?;
+    for number in 0..blocks.len() {
+        room = room.checked_add(blocks[number].places).ok_or(Memory)?;
         if number - start < GROUP - 1 {
             continue;
         }
@@ -30,7 +30,7 @@ pub(crate) fn find_rooms(alloc: Global, stretches: &[Stretch]) -> Result<Vec<usi
     Ok(rooms)
 }
 
-/// Takes so many places from the group in which a stretch is.
+/// Takes so many places from the group in which a block is.
 pub(crate) fn take_places(rooms: &mut Vec<usize>, number: usize, gone: usize)
     requires { (r : ℕ) → slice_get rooms.old.items (number / 128) ≡ Some r → gone ≤ r }
     ensures own { (r : ℕ) → slice_get rooms.new.items (number / 128) ≡ Some r → slice_get rooms.old.items (number / 128) ≡ Some (r + gone) }
@@ -43,10 +43,10 @@ pub(crate) fn take_places(rooms: &mut Vec<usize>, number: usize, gone: usize)
 }
 
 impl KeptLayout {
-    /// How many places the group has that begins at a stretch, if a full one does.
+    /// How many places the group has that begins at a block, if a full one does.
     fn room(&self, number: usize) -> Option<usize>
         requires { IsLaid self.now }
-        ensures { IfSome result (λ r. IsRoom (shapes_of self.now.stretches.items) number r) }
+        ensures { IfSome result (λ r. IsRoom (footprints_of self.now.blocks.items) number r) }
     {
         let group = number / GROUP;
         if number % GROUP == 0 && group < self.rooms.len() {
@@ -56,12 +56,12 @@ impl KeptLayout {
         }
     }
 
-    /// Moves over a group, if one begins where it stands and ends before the place, and another stretch is behind it.
+    /// Moves over a group, if one begins where it stands and ends before the place, and another block is behind it.
     pub(crate) fn leap_on(&mut self, place: usize) -> bool
         requires laid { IsLaid self.old }
         requires from { self.old.first ≤ place }
         ensures laid { IsLaid self.new }
-        ensures stretches { self.new.stretches.items ≡ self.old.stretches.items }
+        ensures blocks { self.new.blocks.items ≡ self.old.blocks.items }
         ensures base { self.new.base ≡ self.old.base }
         ensures from { self.new.first ≤ place }
         ensures on { result ≡ true → self.new.here ≡ self.old.here + 128 }
@@ -71,7 +71,7 @@ impl KeptLayout {
         let Some(room) = self.room(here) else {
             return false;
         };
-        if self.stretches.len() - here <= GROUP || place - self.first < room {
+        if self.blocks.len() - here <= GROUP || place - self.first < room {
             return false;
         }
         self.first += room;
@@ -83,7 +83,7 @@ impl KeptLayout {
     pub(crate) fn leap_back(&mut self, place: usize) -> bool
         requires { IsLaid self.old }
         ensures laid { IsLaid self.new }
-        ensures stretches { self.new.stretches.items ≡ self.old.stretches.items }
+        ensures blocks { self.new.blocks.items ≡ self.old.blocks.items }
         ensures base { self.new.base ≡ self.old.base }
         ensures back { result ≡ true → self.new.here + 128 ≡ self.old.here }
         ensures stays { result ≡ false → self.new ≡ self.old }

@@ -1,37 +1,37 @@
 //! The layout of lines that are being rewritten.
 ghost use Rattle.std.specs.Prelude.{◌≡◌, ◌-◌, ◌*◌, ◌≤◌, ◌^◌, length};
 
+use crate::alignments::{Loose, find_loose, note_alignments};
+use crate::block::Block;
 use crate::building::{lay, note_callers};
 use crate::calm::find_walls;
-use crate::grains::{Loose, find_loose, note_grains};
 use crate::groups::find_rooms;
 use crate::lag::Lag;
 use crate::shrinking::Move;
-use crate::stretch::Stretch;
 use listing_parser::{Listing, Memory};
 use std::alloc::Global;
 use thumb_instr::Instr;
 
-/// The layout of lines from a base, in which instructions give way to fewer ones: stretches of lines, with what depends on where they lie.
+/// The layout of lines from a base, in which instructions give way to fewer ones: blocks of lines, with what depends on where they lie.
 #[derive(Drop)]
 pub struct KeptLayout {
     pub base: u32,
-    pub stretches: Vec<Stretch>,
-    /// The number of the stretch that it stands at.
+    pub blocks: Vec<Block>,
+    /// The number of the block that it stands at.
     pub here: usize,
-    /// How many places stand before that stretch.
+    /// How many places stand before that block.
     pub first: usize,
-    /// How many places each group of stretches has.
+    /// How many places each group of blocks has.
     pub rooms: Vec<usize>,
-    /// For each stretch the first one at or behind it up to which all stay as they are where they move by an even number of bytes.
+    /// For each block the first one at or behind it up to which all stay as they are where they move by an even number of bytes.
     pub walls: Vec<usize>,
     /// How many bytes before where they were noted they lie: those moved together, and none was looked at.
     pub lag: Lag,
-    /// The numbers of the stretches that begin with a mention of a label that may come out of reach by coming nearer.
+    /// The numbers of the blocks that begin with a mention of a label that may come out of reach by coming nearer.
     pub loose: Vec<usize>,
-    /// The numbers of the stretches that begin with a mention of an address that is set.
+    /// The numbers of the blocks that begin with a mention of an address that is set.
     pub absolute: Vec<usize>,
-    /// By how many bytes those behind the stretch `slack_from` may all still come nearer.
+    /// By how many bytes those behind the block `slack_from` may all still come nearer.
     pub slack: u32,
     pub slack_from: usize,
 }
@@ -50,7 +50,7 @@ impl KeptLayout {
     ghost use Rattle.std.specs.List.{list_all};
     ghost use Rattle.thumb_instr.specs.Window.{is_in_window};
     ghost use Rattle.thumb_model.specs.Layout.{Layable};
-    ghost use Rattle.thumb_model.specs.Listing.{Line};
+    ghost use Rattle.thumb_model.specs.Listing.{ListingLine};
     ghost use Rattle.thumb_model.specs.Replaced.{replaced_lines};
     ghost use Rattle.listing_parser.specs.Parsing.{own_line};
     ghost use Rattle.window_runs.specs.Windows.{IsWindow};
@@ -64,16 +64,16 @@ impl KeptLayout {
         ensures base { IfOk result (λ k. k.base ≡ base) }
         ensures near { IfOk result (λ k. IsNear k 0) }
     {
-        let mut stretches = lay(alloc, listing, base)?;
-        note_callers(&mut stretches)?;
-        let walls = find_walls(alloc, &stretches)?;
-        note_grains(&mut stretches);
-        let loose = find_loose(alloc, &stretches, Loose::Label)?;
-        let absolute = find_loose(alloc, &stretches, Loose::Address)?;
-        let rooms = find_rooms(alloc, &stretches)?;
+        let mut blocks = lay(alloc, listing, base)?;
+        note_callers(&mut blocks)?;
+        let walls = find_walls(alloc, &blocks)?;
+        note_alignments(&mut blocks);
+        let loose = find_loose(alloc, &blocks, Loose::Label)?;
+        let absolute = find_loose(alloc, &blocks, Loose::Address)?;
+        let rooms = find_rooms(alloc, &blocks)?;
         let mut kept = KeptLayout {
             base,
-            stretches,
+            blocks,
             here: 0,
             first: 0,
             rooms,
@@ -94,7 +94,7 @@ impl KeptLayout {
         Ok(kept)
     }
 
-    /// How stretches move where a window, which begins where the layout stands, gives way to fewer instructions: none where the lines can't be laid out then.
+    /// How blocks move where a window, which begins where the layout stands, gives way to fewer instructions: none where the lines can't be laid out then.
     pub fn may_give_way(
         &self,
         alloc: Global,
@@ -105,21 +105,21 @@ impl KeptLayout {
         requires some { 0 < length window.now }
         requires fewer { length new.now ≤ length window.now }
         requires letters { list_all is_in_window new.now ≡ true }
-        ensures layable { IfOk result (λ o. (lines : List Line) (place : ℕ) → Lays self.now lines → IsNear self.now place → IsWindow lines place window.now → (is_some o ≡ true) ↔ Layable self.now.base (replaced_lines own_line place (length window.now) new.now lines)) }
+        ensures layable { IfOk result (λ o. (lines : List ListingLine) (place : ℕ) → Lays self.now lines → IsNear self.now place → IsWindow lines place window.now → (is_some o ≡ true) ↔ Layable self.now.base (replaced_lines own_line place (length window.now) new.now lines)) }
         ensures moved { IfOk result (λ o. IfSome o (λ m. IsMoved self.now (2 * (length window.now - length new.now)) m.at.items m.by)) }
     {
         let bytes = bytes_gone(window, new);
         self.move_within_reach(alloc, bytes)
     }
 
-    /// Lets a window, which begins where the layout stands, give way to fewer instructions, by which stretches move so, and which leaves lines that can be laid out.
+    /// Lets a window, which begins where the layout stands, give way to fewer instructions, by which blocks move so, and which leaves lines that can be laid out.
     pub fn give_way(&mut self, window: &[Instr], new: &[Instr], moved: &Move) -> Result<(), Memory>
         requires leaves { LeavesLayable self.old window.now new.now }
         requires some { 0 < length window.now }
         requires fewer { length new.now ≤ length window.now }
         requires letters { list_all is_in_window new.now ≡ true }
         requires moved { IsMoved self.old (2 * (length window.now - length new.now)) moved.now.at.items moved.now.by }
-        ensures lays { OnOk result ((lines : List Line) (place : ℕ) → Lays self.old lines → IsNear self.old place → IsWindow lines place window.now → Lays self.new (replaced_lines own_line place (length window.now) new.now lines)) }
+        ensures lays { OnOk result ((lines : List ListingLine) (place : ℕ) → Lays self.old lines → IsNear self.old place → IsWindow lines place window.now → Lays self.new (replaced_lines own_line place (length window.now) new.now lines)) }
         ensures base { OnOk result (self.new.base ≡ self.old.base) }
     {
         let bytes = bytes_gone(window, new);

@@ -1,8 +1,8 @@
-//! Stretches that moved together lie some bytes before where they were noted, so that none of them has to be noted anew.
+//! Blocks that moved together lie some bytes before where they were noted, so that none of them has to be noted anew.
 ghost use Rattle.std.specs.Prelude.{◌≡◌};
-ghost use Rattle.kept_layout.specs.Stretches.{lag_of};
+ghost use Rattle.kept_layout.specs.Blocks.{lag_of};
 
-/// How many bytes before where they were noted stretches lie.
+/// How many bytes before where they were noted blocks lie.
 #[derive(Clone, Copy)]
 pub struct Lag {
     /// Those from this number on lie `shift` bytes before.
@@ -15,7 +15,7 @@ pub struct Lag {
 }
 
 impl Lag {
-    /// How many bytes before where it was noted the stretch of a number lies.
+    /// How many bytes before where it was noted the block of a number lies.
     pub(crate) fn of(&self, number: usize) -> u32
         ensures { result ≡ lag_of self.now number }
     {

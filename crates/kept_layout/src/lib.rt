@@ -2,16 +2,16 @@
 //! that nothing there notices.
 #![tactic(auto)]
 
+mod alignments;
+pub mod block;
 mod building;
 mod calm;
-mod grains;
 mod groups;
 pub mod kept;
 pub mod lag;
 mod moving;
 pub mod shrinking;
 mod slack;
-pub mod stretch;
 mod walking;
 
 pub use kept::KeptLayout;

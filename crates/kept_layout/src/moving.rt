@@ -1,27 +1,27 @@
-//! What moves when a stretch takes fewer bytes: it alone is looked at.
+//! What moves when a block takes fewer bytes: it alone is looked at.
 ghost use Rattle.std.specs.Prelude.{◌≡◌, ◌≤◌, List};
-ghost use Rattle.thumb_model.specs.Listing.{Line as Listed};
+ghost use Rattle.thumb_model.specs.Listing.{ListingLine as Listed};
 ghost use Rattle.kept_layout.specs.Kept.{IsLaid, IsNear, Lays};
 
 use crate::kept::KeptLayout;
 
 impl KeptLayout {
-    /// Moves on, as long as the place isn't within the stretch that it stands at and another one is behind that.
+    /// Moves on, as long as the place isn't within the block that it stands at and another one is behind that.
     fn go_on(&mut self, place: usize)
         requires laid { IsLaid self.old }
         requires from { self.old.first ≤ place }
         ensures laid { IsLaid self.new }
-        ensures stretches { self.new.stretches.items ≡ self.old.stretches.items }
+        ensures blocks { self.new.blocks.items ≡ self.old.blocks.items }
         ensures base { self.new.base ≡ self.old.base }
         ensures near { IsNear self.new place }
     {
-        let count = self.stretches.len();
+        let count = self.blocks.len();
         while self.here + 1 < count {
             if self.leap_on(place) {
                 continue;
             }
             let here = self.here;
-            let places = self.stretches[here].places;
+            let places = self.blocks[here].places;
             if place - self.first < places {
                 return;
             }
@@ -30,11 +30,11 @@ impl KeptLayout {
         }
     }
 
-    /// Moves back until the place doesn't stand before the stretch that it stands at.
+    /// Moves back until the place doesn't stand before the block that it stands at.
     fn go_back(&mut self, place: usize)
         requires { IsLaid self.old }
         ensures laid { IsLaid self.new }
-        ensures stretches { self.new.stretches.items ≡ self.old.stretches.items }
+        ensures blocks { self.new.blocks.items ≡ self.old.blocks.items }
         ensures base { self.new.base ≡ self.old.base }
         ensures from { self.new.first ≤ place }
     {
@@ -43,12 +43,12 @@ impl KeptLayout {
                 continue;
             }
             let here = self.here - 1;
-            self.first -= self.stretches[here].places;
+            self.first -= self.blocks[here].places;
             self.here = here;
         }
     }
 
-    /// Moves to a place. It costs as many groups of stretches as lie between, and at most the stretches of two.
+    /// Moves to a place. It costs as many groups of blocks as lie between, and at most the blocks of two.
     pub fn go_to(&mut self, place: usize)
         requires { IsLaid self.old }
         ensures lays { (lines : List Listed) → Lays self.old lines → Lays self.new lines }

@@ -1,18 +1,18 @@
-//! What moves when a stretch takes fewer bytes, up to where all that is behind moves by one distance that no padding and no literal notices: that is noted for all of
+//! What moves when a block takes fewer bytes, up to where all that is behind moves by one distance that no padding and no literal notices: that is noted for all of
 //! them at once.
 ghost use Rattle.std.specs.Prelude.{◌≡◌, ◌+◌, ◌-◌, ◌<◌, ◌≤◌, ℕ, true, length, slice_get, IfOk, OnOk, Some, map};
-ghost use Rattle.kept_layout.specs.declared.stretch.Stretch.{Stretch as OneStretch};
-ghost use Rattle.kept_layout.specs.Stretches.{lag_of, lessen, located, shapes_of, AllReach, Shape};
+ghost use Rattle.kept_layout.specs.declared.block.Block.{Block as OneBlock};
+ghost use Rattle.kept_layout.specs.Blocks.{lag_of, lessen, located, footprints_of, AllReach, Footprint};
 ghost use Rattle.kept_layout.specs.Kept.{IsLaid};
 ghost use Rattle.kept_layout.specs.Moves.{keeps_gap, moved_starts, news, unplaced, AreNoted, AreNotedIn, IsLagAfter, IsMove, IsMoved, IsNote};
 
+use crate::block::Block;
 use crate::groups::take_places;
 use crate::kept::KeptLayout;
 use crate::lag::Lag;
-use crate::stretch::Stretch;
 use listing_parser::Memory;
 
-/// How stretches move if one of them takes fewer bytes.
+/// How blocks move if one of them takes fewer bytes.
 #[derive(Drop)]
 pub struct Move {
     /// The new addresses of those from the wall behind it on; the calm ones before that come as many bytes nearer as go.
@@ -21,17 +21,17 @@ pub struct Move {
     pub by: u32,
 }
 
-/// Takes so many bytes and places from a stretch.
-fn take_from(stretch: &mut Stretch, bytes: u32, gone: usize)
-    requires bytes { bytes ≤ stretch.old.bytes }
-    requires places { gone ≤ stretch.old.places }
-    ensures { stretch.new ≡ record stretch.old { bytes = stretch.old.bytes - bytes; places = stretch.old.places - gone } }
+/// Takes so many bytes and places from a block.
+fn take_from(block: &mut Block, bytes: u32, gone: usize)
+    requires bytes { bytes ≤ block.old.bytes }
+    requires places { gone ≤ block.old.places }
+    ensures { block.new ≡ record block.old { bytes = block.old.bytes - bytes; places = block.old.places - gone } }
 {
-    stretch.bytes -= bytes;
-    stretch.places -= gone;
+    block.bytes -= bytes;
+    block.places -= gone;
 }
 
-/// What is noted of a stretch, which lay at an address.
+/// What is noted of a block, which lay at an address.
 fn note(
     kept: &KeptLayout,
     moved: &Move,
@@ -40,7 +40,7 @@ fn note(
     number: usize,
     old: u32,
 ) -> Result<u32, Memory>
-    requires { kept.now.here < length kept.now.stretches.items }
+    requires { kept.now.here < length kept.now.blocks.items }
     ensures { IfOk result (λ at. IsNote kept.now bytes moved.now.at.items moved.now.by lag.now number old at) }
 {
     let behind = lag.of(number);
@@ -60,20 +60,20 @@ fn note(
 }
 
 impl KeptLayout {
-    /// Where a stretch begins.
+    /// Where a block begins.
     pub(crate) fn address(&self, number: usize) -> u32
-        requires within { number < length self.now.stretches.items }
-        requires noted { (s : OneStretch) → slice_get self.now.stretches.items number ≡ Some s → lag_of self.now.lag number ≤ s.at }
-        ensures { (s : OneStretch) → slice_get self.now.stretches.items number ≡ Some s → result ≡ located self.now.lag number s.at }
+        requires within { number < length self.now.blocks.items }
+        requires noted { (s : OneBlock) → slice_get self.now.blocks.items number ≡ Some s → lag_of self.now.lag number ≤ s.at }
+        ensures { (s : OneBlock) → slice_get self.now.blocks.items number ≡ Some s → result ≡ located self.now.lag number s.at }
     {
-        self.stretches[number].at - self.lag.of(number)
+        self.blocks[number].at - self.lag.of(number)
     }
 
-    /// Where a stretch begins then.
+    /// Where a block begins then.
     pub(crate) fn new_address(&self, moved: &Move, bytes: u32, number: usize) -> u32
         requires laid { IsLaid self.now }
         requires is { IsMove self.now (news self.now bytes moved.now.at.items) moved.now.by }
-        requires within { number < length self.now.stretches.items }
+        requires within { number < length self.now.blocks.items }
         ensures { slice_get (moved_starts self.now (news self.now bytes moved.now.at.items) moved.now.by) number ≡ Some result }
     {
         let old = self.address(number);
@@ -93,23 +93,23 @@ impl KeptLayout {
 
     // ---- what is noted ----
 
-    /// Notes where a stretch begins then.
+    /// Notes where a block begins then.
     fn note_one(&mut self, moved: &Move, bytes: u32, lag: &Lag, number: usize) -> Result<(), Memory>
-        requires here { self.old.here < length self.old.stretches.items }
-        requires within { number < length self.old.stretches.items }
-        requires noted { (s : OneStretch) → slice_get self.old.stretches.items number ≡ Some s → lag_of self.old.lag number ≤ s.at }
-        ensures fields { OnOk result (self.new ≡ record self.old { stretches = self.new.stretches }) }
-        ensures same { OnOk result (map unplaced self.new.stretches.items ≡ map unplaced self.old.stretches.items) }
-        ensures others { OnOk result ((j : ℕ) → (j ≡ number → ⊥) → slice_get self.new.stretches.items j ≡ slice_get self.old.stretches.items j) }
-        ensures note { OnOk result ((s d : OneStretch) → slice_get self.old.stretches.items number ≡ Some s → slice_get self.new.stretches.items number ≡ Some d → IsNote self.old bytes moved.now.at.items moved.now.by lag.now number (located self.old.lag number s.at) d.at) }
+        requires here { self.old.here < length self.old.blocks.items }
+        requires within { number < length self.old.blocks.items }
+        requires noted { (s : OneBlock) → slice_get self.old.blocks.items number ≡ Some s → lag_of self.old.lag number ≤ s.at }
+        ensures fields { OnOk result (self.new ≡ record self.old { blocks = self.new.blocks }) }
+        ensures same { OnOk result (map unplaced self.new.blocks.items ≡ map unplaced self.old.blocks.items) }
+        ensures others { OnOk result ((j : ℕ) → (j ≡ number → ⊥) → slice_get self.new.blocks.items j ≡ slice_get self.old.blocks.items j) }
+        ensures note { OnOk result ((s d : OneBlock) → slice_get self.old.blocks.items number ≡ Some s → slice_get self.new.blocks.items number ≡ Some d → IsNote self.old bytes moved.now.at.items moved.now.by lag.now number (located self.old.lag number s.at) d.at) }
     {
         let old = self.address(number);
         let at = note(self, moved, bytes, lag, number, old)?;
-        self.stretches[number].at = at;
+        self.blocks[number].at = at;
         Ok(())
     }
 
-    /// Notes where the stretches from one up to before another one begin then.
+    /// Notes where the blocks from one up to before another one begin then.
     fn note_range(
         &mut self,
         moved: &Move,
@@ -118,12 +118,12 @@ impl KeptLayout {
         from: usize,
         until: usize,
     ) -> Result<(), Memory>
-        requires here { self.old.here < length self.old.stretches.items }
+        requires here { self.old.here < length self.old.blocks.items }
         requires order { from ≤ until }
-        requires within { until ≤ length self.old.stretches.items }
-        requires noted { (j : ℕ) (s : OneStretch) → from ≤ j → slice_get self.old.stretches.items j ≡ Some s → lag_of self.old.lag j ≤ s.at }
-        ensures fields { OnOk result (self.new ≡ record self.old { stretches = self.new.stretches }) }
-        ensures noted { OnOk result (AreNotedIn self.old bytes moved.now.at.items moved.now.by lag.now from until self.new.stretches.items) }
+        requires within { until ≤ length self.old.blocks.items }
+        requires noted { (j : ℕ) (s : OneBlock) → from ≤ j → slice_get self.old.blocks.items j ≡ Some s → lag_of self.old.lag j ≤ s.at }
+        ensures fields { OnOk result (self.new ≡ record self.old { blocks = self.new.blocks }) }
+        ensures noted { OnOk result (AreNotedIn self.old bytes moved.now.at.items moved.now.by lag.now from until self.new.blocks.items) }
     {
         for number in from..until {
             self.note_one(moved, bytes, lag, number)?;
@@ -133,7 +133,7 @@ impl KeptLayout {
 
     /// Whether the calm ones that lie before where they were noted are those up to the wall behind the one that it stands at.
     fn keeps_gap(&self) -> bool
-        requires { self.now.here < length self.now.stretches.items }
+        requires { self.now.here < length self.now.blocks.items }
         ensures { result ≡ keeps_gap self.now }
     {
         let wall = self.wall();
@@ -142,7 +142,7 @@ impl KeptLayout {
 
     /// How many bytes before where they were noted the calm ones up to the wall lie then.
     fn new_gap(&self, bytes: u32) -> Result<u32, Memory>
-        requires { self.now.here < length self.now.stretches.items }
+        requires { self.now.here < length self.now.blocks.items }
         ensures { IfOk result (λ gap. keeps_gap self.now ≡ true → gap ≡ self.now.lag.gap + bytes) }
     {
         if self.keeps_gap() {
@@ -152,7 +152,7 @@ impl KeptLayout {
         }
     }
 
-    /// How many bytes before where they are noted stretches lie then.
+    /// How many bytes before where they are noted blocks lie then.
     fn new_lag(&self, moved: &Move, bytes: u32) -> Result<Lag, Memory>
         requires laid { IsLaid self.now }
         requires is { IsMove self.now (news self.now bytes moved.now.at.items) moved.now.by }
@@ -170,14 +170,14 @@ impl KeptLayout {
         })
     }
 
-    /// Notes where stretches begin then: those that lie further before where they were noted than before, all by as much, aren't looked at.
+    /// Notes where blocks begin then: those that lie further before where they were noted than before, all by as much, aren't looked at.
     fn note_all(&mut self, moved: &Move, bytes: u32, lag: &Lag) -> Result<(), Memory>
         requires laid { IsLaid self.old }
         requires is { IsMove self.old (news self.old bytes moved.now.at.items) moved.now.by }
-        requires few { (s : Shape) → slice_get (shapes_of self.old.stretches.items) self.old.here ≡ Some s → bytes ≤ s.bytes }
+        requires few { (s : Footprint) → slice_get (footprints_of self.old.blocks.items) self.old.here ≡ Some s → bytes ≤ s.bytes }
         requires lag { IsLagAfter self.old bytes moved.now.at.items moved.now.by lag.now }
-        ensures fields { OnOk result (self.new ≡ record self.old { stretches = self.new.stretches }) }
-        ensures noted { OnOk result (AreNoted self.old (news self.old bytes moved.now.at.items) moved.now.by lag.now self.new.stretches.items) }
+        ensures fields { OnOk result (self.new ≡ record self.old { blocks = self.new.blocks }) }
+        ensures noted { OnOk result (AreNoted self.old (news self.old bytes moved.now.at.items) moved.now.by lag.now self.new.blocks.items) }
     {
         let first = self.here + 1;
         let from = self.lag.from;
@@ -197,15 +197,15 @@ impl KeptLayout {
         }
     }
 
-    /// Takes so many bytes and places from the stretch that it stands at, by which stretches move so, and all mentions stay within reach.
+    /// Takes so many bytes and places from the block that it stands at, by which blocks move so, and all mentions stay within reach.
     pub(crate) fn shrink(&mut self, moved: &Move, bytes: u32, gone: usize) -> Result<(), Memory>
         requires laid { IsLaid self.old }
         requires moved { IsMoved self.old bytes moved.now.at.items moved.now.by }
-        requires few { (s : Shape) → slice_get (shapes_of self.old.stretches.items) self.old.here ≡ Some s → bytes ≤ s.bytes }
-        requires some { (s : Shape) → slice_get (shapes_of self.old.stretches.items) self.old.here ≡ Some s → gone ≤ s.places }
-        requires reach { AllReach self.old.base (lessen self.old.here bytes gone (shapes_of self.old.stretches.items)) }
+        requires few { (s : Footprint) → slice_get (footprints_of self.old.blocks.items) self.old.here ≡ Some s → bytes ≤ s.bytes }
+        requires some { (s : Footprint) → slice_get (footprints_of self.old.blocks.items) self.old.here ≡ Some s → gone ≤ s.places }
+        requires reach { AllReach self.old.base (lessen self.old.here bytes gone (footprints_of self.old.blocks.items)) }
         ensures laid { OnOk result (IsLaid self.new) }
-        ensures shapes { OnOk result (shapes_of self.new.stretches.items ≡ lessen self.old.here bytes gone (shapes_of self.old.stretches.items)) }
+        ensures footprints { OnOk result (footprints_of self.new.blocks.items ≡ lessen self.old.here bytes gone (footprints_of self.old.blocks.items)) }
         ensures base { OnOk result (self.new.base ≡ self.old.base) }
     {
         let (slack, slack_from) = self.new_slack(moved, bytes);
@@ -216,7 +216,7 @@ impl KeptLayout {
         self.lag = lag;
         let here = self.here;
         take_places(&mut self.rooms, here, gone);
-        take_from(&mut self.stretches[here], bytes, gone);
+        take_from(&mut self.blocks[here], bytes, gone);
         Ok(())
     }
 }

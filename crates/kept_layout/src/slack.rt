@@ -1,14 +1,14 @@
 //! By how many bytes the mentions of addresses that are set may all come nearer: none of them is looked at as long as moves don't use that up.
 ghost use Rattle.std.specs.Prelude.{◌≡◌, ◌<◌, ℕ, true, List, length, slice_get, Some, None};
 ghost use Rattle.thumb_model.specs.Layout.{aim_fault};
-ghost use Rattle.kept_layout.specs.declared.stretch.Stretch.{Stretch as OneStretch};
-ghost use Rattle.kept_layout.specs.Stretches.{head_fault, HasSlack, Reaches};
+ghost use Rattle.kept_layout.specs.declared.block.Block.{Block as OneBlock};
+ghost use Rattle.kept_layout.specs.Blocks.{head_fault, HasSlack, Reaches};
 ghost use Rattle.kept_layout.specs.Kept.{IsLaid};
 ghost use Rattle.kept_layout.specs.Moves.{has_slack as is_slack_enough, moved_starts, news, AreSlack, IsMove, IsRight};
 
+use crate::block::{Head, NameLocation};
 use crate::kept::KeptLayout;
 use crate::shrinking::Move;
-use crate::stretch::{Head, Target};
 use thumb_instr::Instr;
 
 /// By how many bytes an instruction that reaches what it mentions may lie earlier and still reach that.
@@ -27,13 +27,13 @@ fn slack_to(at: u32, instr: &Instr, to: u32, plus: u32) -> u32
     furthest.saturating_sub(to)
 }
 
-/// By how many bytes what a stretch at an address begins with may lie earlier and still reach an address that is set, which it reaches.
+/// By how many bytes what a block at an address begins with may lie earlier and still reach an address that is set, which it reaches.
 fn slack_of(at: u32, head: &Head) -> u32
     ensures { (starts : List ℕ) → head_fault starts at head.now ≡ None → HasSlack result at head.now }
 {
     match head {
         Head::Aims(aim) => match aim.to {
-            Some(Target::Address(to)) => slack_to(at, &aim.instr, to, aim.plus),
+            Some(NameLocation::Address(to)) => slack_to(at, &aim.instr, to, aim.plus),
             _ => u32::MAX,
         }
         _ => u32::MAX,
@@ -48,17 +48,17 @@ impl KeptLayout {
         moved.by <= self.slack && self.slack_from <= self.here
     }
 
-    /// By how many bytes what a stretch begins with may come nearer then.
+    /// By how many bytes what a block begins with may come nearer then.
     fn own_slack(&self, moved: &Move, bytes: u32, number: usize) -> u32
         requires laid { IsLaid self.now }
         requires is { IsMove self.now (news self.now bytes moved.now.at.items) moved.now.by }
-        requires within { number < length self.now.stretches.items }
-        requires right { IsRight (moved_starts self.now (news self.now bytes moved.now.at.items) moved.now.by) self.now.stretches.items number }
-        ensures { (at : ℕ) (s : OneStretch) → slice_get self.now.stretches.items number ≡ Some s → slice_get (moved_starts self.now (news self.now bytes moved.now.at.items) moved.now.by) number ≡ Some at → HasSlack result at s.head }
+        requires within { number < length self.now.blocks.items }
+        requires right { IsRight (moved_starts self.now (news self.now bytes moved.now.at.items) moved.now.by) self.now.blocks.items number }
+        ensures { (at : ℕ) (s : OneBlock) → slice_get self.now.blocks.items number ≡ Some s → slice_get (moved_starts self.now (news self.now bytes moved.now.at.items) moved.now.by) number ≡ Some at → HasSlack result at s.head }
     {
         slack_of(
             self.new_address(moved, bytes, number),
-            &self.stretches[number].head,
+            &self.blocks[number].head,
         )
     }
 
@@ -66,7 +66,7 @@ impl KeptLayout {
     fn slack_behind(&self, moved: &Move, bytes: u32) -> u32
         requires laid { IsLaid self.now }
         requires is { IsMove self.now (news self.now bytes moved.now.at.items) moved.now.by }
-        requires right { (j : ℕ) → IsRight (moved_starts self.now (news self.now bytes moved.now.at.items) moved.now.by) self.now.stretches.items j }
+        requires right { (j : ℕ) → IsRight (moved_starts self.now (news self.now bytes moved.now.at.items) moved.now.by) self.now.blocks.items j }
         ensures { AreSlack self.now (news self.now bytes moved.now.at.items) moved.now.by self.now.here result }
     {
         let mut slack = u32::MAX;
@@ -83,7 +83,7 @@ impl KeptLayout {
     fn slack_left(&self, moved: &Move, bytes: u32) -> u32
         requires laid { IsLaid self.now }
         requires is { IsMove self.now (news self.now bytes moved.now.at.items) moved.now.by }
-        requires right { (j : ℕ) → IsRight (moved_starts self.now (news self.now bytes moved.now.at.items) moved.now.by) self.now.stretches.items j }
+        requires right { (j : ℕ) → IsRight (moved_starts self.now (news self.now bytes moved.now.at.items) moved.now.by) self.now.blocks.items j }
         requires enough { is_slack_enough self.now moved.now.by ≡ true }
         ensures { AreSlack self.now (news self.now bytes moved.now.at.items) moved.now.by self.now.slack_from result }
     {
@@ -95,11 +95,11 @@ impl KeptLayout {
         slack
     }
 
-    /// By how many bytes they may all come nearer then, and behind which stretch.
+    /// By how many bytes they may all come nearer then, and behind which block.
     pub(crate) fn new_slack(&self, moved: &Move, bytes: u32) -> (u32, usize)
         requires laid { IsLaid self.now }
         requires is { IsMove self.now (news self.now bytes moved.now.at.items) moved.now.by }
-        requires right { (j : ℕ) → IsRight (moved_starts self.now (news self.now bytes moved.now.at.items) moved.now.by) self.now.stretches.items j }
+        requires right { (j : ℕ) → IsRight (moved_starts self.now (news self.now bytes moved.now.at.items) moved.now.by) self.now.blocks.items j }
         ensures { AreSlack self.now (news self.now bytes moved.now.at.items) moved.now.by result.1 result.0 }
     {
         if self.has_slack(moved) {

@@ -1,20 +1,20 @@
-//! What moves when a stretch takes fewer bytes, up to where all that is behind moves by one distance that no padding and no literal notices. What comes out of reach is
+//! What moves when a block takes fewer bytes, up to where all that is behind moves by one distance that no padding and no literal notices. What comes out of reach is
 //! seen on the way, as soon as it is known where both of its ends lie, and ends the way there.
 ghost use Rattle.std.specs.Prelude.{◌≡◌, suc, ◌+◌, ◌-◌, ◌<◌, ◌≤◌, ◌↔◌, ℕ, Bool, true, length, slice_get, is_some, IfOk, IfSome, IfNone, Some, Contains, false};
-ghost use Rattle.kept_layout.specs.declared.stretch.Stretch.{Stretch as OneStretch};
-ghost use Rattle.kept_layout.specs.declared.stretch.Target.TheVariants.{Stretch as AtStretch};
-ghost use Rattle.kept_layout.specs.Stretches.{address_of, later_end, lessen, shapes_of, AllReach, AreWide, Divides, Shape};
+ghost use Rattle.kept_layout.specs.declared.block.Block.{Block as OneBlock};
+ghost use Rattle.kept_layout.specs.declared.block.NameLocation.TheVariants.{Block as AtBlock};
+ghost use Rattle.kept_layout.specs.Blocks.{address_of, later_end, lessen, footprints_of, AllReach, AreWide, Divides, Footprint};
 ghost use Rattle.kept_layout.specs.Kept.{IsLaid};
 ghost use Rattle.kept_layout.specs.Moves.{calm_starts, has_slack, is_known, moved_starts, news, starts_of, wall_of, AreFar, AreKnownRight, IsLookedAt, IsMove, IsMoved, IsRight, IsRightIf, IsWalked};
 
+use crate::block::{Head, NameLocation, behind};
 use crate::kept::KeptLayout;
 use crate::shrinking::Move;
-use crate::stretch::{Head, Target, behind};
 use label_layout::aim_fault;
 use listing_parser::Memory;
 use std::alloc::Global;
 
-/// Memory for so many new addresses is asked for at once: seldom do more stretches move by themselves.
+/// Memory for so many new addresses is asked for at once: seldom do more blocks move by themselves.
 const FEW: usize = 64;
 
 /// No mention of a label but a call's reaches further than so many bytes.
@@ -23,20 +23,20 @@ const REACH: u32 = 2052;
 /// In code of so many bytes each call reaches each label.
 const SMALL: u32 = 16_000_000;
 
-/// Whether the new address lies before the old one by a multiple of the grain.
-fn is_together(new: u32, old: u32, grain: u32) -> bool
-    ensures { result ≡ true → (new ≤ old) × Divides grain (old - new) }
+/// Whether the new address lies before the old one by a multiple of the alignment.
+fn is_together(new: u32, old: u32, alignment: u32) -> bool
+    ensures { result ≡ true → (new ≤ old) × Divides alignment (old - new) }
 {
-    new <= old && (new == old || (grain != 0 && (old - new) % grain == 0))
+    new <= old && (new == old || (alignment != 0 && (old - new) % alignment == 0))
 }
 
-/// Of a stretch of this number and of that whose label it mentions the later one.
+/// Of a block of this number and of that whose label it mentions the later one.
 fn later_end(number: usize, head: &Head) -> usize
     ensures { result ≡ later_end number head.now }
 {
     match head {
         Head::Aims(aim) => match aim.to {
-            Some(Target::Stretch(to)) => number.max(to),
+            Some(NameLocation::Block(to)) => number.max(to),
             _ => number,
         }
         _ => number,
@@ -45,27 +45,27 @@ fn later_end(number: usize, head: &Head) -> usize
 
 impl KeptLayout {
     /// Where a target lies then.
-    fn new_target(&self, moved: &Move, bytes: u32, target: Option<Target>) -> Option<u32>
+    fn new_target(&self, moved: &Move, bytes: u32, target: Option<NameLocation>) -> Option<u32>
         requires laid { IsLaid self.now }
         requires is { IsMove self.now (news self.now bytes moved.now.at.items) moved.now.by }
-        requires within { (t : ℕ) → target ≡ Some (AtStretch t) → t < length self.now.stretches.items }
+        requires within { (t : ℕ) → target ≡ Some (AtBlock t) → t < length self.now.blocks.items }
         ensures { result ≡ address_of (moved_starts self.now (news self.now bytes moved.now.at.items) moved.now.by) target }
     {
         match target {
             None => None,
-            Some(Target::Stretch(number)) => Some(self.new_address(moved, bytes, number)),
-            Some(Target::Address(address)) => Some(address),
+            Some(NameLocation::Block(number)) => Some(self.new_address(moved, bytes, number)),
+            Some(NameLocation::Address(address)) => Some(address),
         }
     }
 
-    /// Whether what a stretch mentions is within reach then.
+    /// Whether what a block mentions is within reach then.
     fn is_right(&self, moved: &Move, bytes: u32, number: usize) -> bool
         requires laid { IsLaid self.now }
         requires is { IsMove self.now (news self.now bytes moved.now.at.items) moved.now.by }
-        requires within { number < length self.now.stretches.items }
-        ensures { (result ≡ true) ↔ IsRight (moved_starts self.now (news self.now bytes moved.now.at.items) moved.now.by) self.now.stretches.items number }
+        requires within { number < length self.now.blocks.items }
+        ensures { (result ≡ true) ↔ IsRight (moved_starts self.now (news self.now bytes moved.now.at.items) moved.now.by) self.now.blocks.items number }
     {
-        match self.stretches[number].head {
+        match self.blocks[number].head {
             Head::Aims(aim) => {
                 let at = self.new_address(moved, bytes, number);
                 let to = self.new_target(moved, bytes, aim.to);
@@ -75,20 +75,20 @@ impl KeptLayout {
         }
     }
 
-    /// Whether a stretch and the one whose label it mentions lie before those that move together.
+    /// Whether a block and the one whose label it mentions lie before those that move together.
     fn is_known(&self, moved: &Move, number: usize) -> bool
         requires laid { IsLaid self.now }
-        requires within { number < length self.now.stretches.items }
-        ensures { (bytes : ℕ) (s : OneStretch) → slice_get self.now.stretches.items number ≡ Some s → result ≡ is_known self.now (news self.now bytes moved.now.at.items) number s.head }
+        requires within { number < length self.now.blocks.items }
+        ensures { (bytes : ℕ) (s : OneBlock) → slice_get self.now.blocks.items number ≡ Some s → result ≡ is_known self.now (news self.now bytes moved.now.at.items) number s.head }
     {
-        later_end(number, &self.stretches[number].head) < self.wall() + moved.at.len()
+        later_end(number, &self.blocks[number].head) < self.wall() + moved.at.len()
     }
 
-    /// Whether what a stretch mentions is within reach then. It is looked at where both lie before those that move together, or where they don't.
+    /// Whether what a block mentions is within reach then. It is looked at where both lie before those that move together, or where they don't.
     fn is_right_if(&self, known: bool, moved: &Move, bytes: u32, number: usize) -> bool
         requires laid { IsLaid self.now }
         requires is { IsMove self.now (news self.now bytes moved.now.at.items) moved.now.by }
-        requires within { number < length self.now.stretches.items }
+        requires within { number < length self.now.blocks.items }
         ensures { (result ≡ true) ↔ IsRightIf known self.now (news self.now bytes moved.now.at.items) moved.now.by number }
     {
         if self.is_known(moved, number) == known {
@@ -98,11 +98,11 @@ impl KeptLayout {
         }
     }
 
-    /// Whether what these stretches mention, as far as it is looked at, is within reach then.
+    /// Whether what these blocks mention, as far as it is looked at, is within reach then.
     fn are_right_if(&self, known: bool, moved: &Move, bytes: u32, numbers: &[usize]) -> bool
         requires laid { IsLaid self.now }
         requires is { IsMove self.now (news self.now bytes moved.now.at.items) moved.now.by }
-        requires within { (j : ℕ) → Contains numbers.now j → j < length self.now.stretches.items }
+        requires within { (j : ℕ) → Contains numbers.now j → j < length self.now.blocks.items }
         ensures all { result ≡ true → (j : ℕ) → Contains numbers.now j → IsRightIf known self.now (news self.now bytes moved.now.at.items) moved.now.by j }
         ensures none { ((j : ℕ) → IsRightIf known self.now (news self.now bytes moved.now.at.items) moved.now.by j) → result ≡ true }
     {
@@ -114,17 +114,17 @@ impl KeptLayout {
         true
     }
 
-    /// Whether what a stretch mentions and what mentions its label, as far as it is looked at, is within reach then.
+    /// Whether what a block mentions and what mentions its label, as far as it is looked at, is within reach then.
     fn is_met(&self, known: bool, moved: &Move, bytes: u32, number: usize) -> bool
         requires laid { IsLaid self.now }
         requires is { IsMove self.now (news self.now bytes moved.now.at.items) moved.now.by }
-        requires within { number < length self.now.stretches.items }
+        requires within { number < length self.now.blocks.items }
         ensures own { result ≡ true → IsRightIf known self.now (news self.now bytes moved.now.at.items) moved.now.by number }
-        ensures callers { result ≡ true → (j : ℕ) (d : OneStretch) → slice_get self.now.stretches.items number ≡ Some d → Contains d.callers.items j → IsRightIf known self.now (news self.now bytes moved.now.at.items) moved.now.by j }
+        ensures callers { result ≡ true → (j : ℕ) (d : OneBlock) → slice_get self.now.blocks.items number ≡ Some d → Contains d.callers.items j → IsRightIf known self.now (news self.now bytes moved.now.at.items) moved.now.by j }
         ensures none { ((j : ℕ) → IsRightIf known self.now (news self.now bytes moved.now.at.items) moved.now.by j) → result ≡ true }
     {
         self.is_right_if(known, moved, bytes, number)
-            && self.are_right_if(known, moved, bytes, &self.stretches[number].callers)
+            && self.are_right_if(known, moved, bytes, &self.blocks[number].callers)
     }
 
     // ---- the way ----
@@ -134,27 +134,27 @@ impl KeptLayout {
         requires laid { IsLaid self.now }
         requires is { wall ≡ wall_of self.now }
         requires even { Divides 2 bytes }
-        requires few { (s : Shape) → slice_get (shapes_of self.now.stretches.items) self.now.here ≡ Some s → bytes ≤ s.bytes }
+        requires few { (s : Footprint) → slice_get (footprints_of self.now.blocks.items) self.now.here ≡ Some s → bytes ≤ s.bytes }
         ensures { IfOk result (λ at. IsWalked self.now bytes (calm_starts self.now bytes) at wall) }
     {
-        if wall < self.stretches.len() {
+        if wall < self.blocks.len() {
             let start = self.address(wall);
             return Ok(start - bytes);
         }
-        let here = &self.stretches[self.here];
+        let here = &self.blocks[self.here];
         let at = self.address(self.here);
         behind(at, &here.head, here.bytes - bytes)
     }
 
-    /// How stretches move if the one that it stands at takes so many bytes fewer: none where a mention is seen to come out of reach on the way.
+    /// How blocks move if the one that it stands at takes so many bytes fewer: none where a mention is seen to come out of reach on the way.
     fn walk(&self, alloc: Global, bytes: u32) -> Result<Option<Move>, Memory>
         requires laid { IsLaid self.now }
-        requires wide { AreWide (shapes_of self.now.stretches.items) }
+        requires wide { AreWide (footprints_of self.now.blocks.items) }
         requires even { Divides 2 bytes }
-        requires few { (s : Shape) → slice_get (shapes_of self.now.stretches.items) self.now.here ≡ Some s → bytes ≤ s.bytes }
+        requires few { (s : Footprint) → slice_get (footprints_of self.now.blocks.items) self.now.here ≡ Some s → bytes ≤ s.bytes }
         ensures moved { IfOk result (λ o. IfSome o (λ m. IsMoved self.now bytes m.at.items m.by)) }
         ensures right { IfOk result (λ o. IfSome o (λ m. AreKnownRight self.now (news self.now bytes m.at.items) m.by)) }
-        ensures none { IfOk result (λ o. IfNone o ((gone : ℕ) → AllReach self.now.base (lessen self.now.here bytes gone (shapes_of self.now.stretches.items)) → ⊥)) }
+        ensures none { IfOk result (λ o. IfNone o ((gone : ℕ) → AllReach self.now.base (lessen self.now.here bytes gone (footprints_of self.now.blocks.items)) → ⊥)) }
     {
         let mut next = self.wall();
         let mut at = self.wall_address(next, bytes)?;
@@ -163,15 +163,15 @@ impl KeptLayout {
         if !self.is_right_if(true, &moved, bytes, self.here) {
             return Ok(None);
         }
-        while next < self.stretches.len() {
-            let stretch = &self.stretches[next];
+        while next < self.blocks.len() {
+            let block = &self.blocks[next];
             let old = self.address(next);
-            if is_together(at, old, stretch.grain) {
+            if is_together(at, old, block.alignment) {
                 moved.by = old - at;
                 return Ok(Some(moved));
             }
             moved.at.push(at)?;
-            at = behind(at, &stretch.head, stretch.bytes)?;
+            at = behind(at, &block.head, block.bytes)?;
             if !self.is_met(true, &moved, bytes, next) {
                 return Ok(None);
             }
@@ -185,14 +185,14 @@ impl KeptLayout {
     /// Whether no call of a label comes out of reach then, wherever both lie.
     fn is_small(&self, bytes: u32) -> bool
         requires { IsLaid self.now }
-        ensures { result ≡ true → (j at end : ℕ) → slice_get (starts_of self.now) 0 ≡ Some at → suc j ≡ length self.now.stretches.items → slice_get (starts_of self.now) j ≡ Some end → end + bytes ≤ at + 16000000 }
+        ensures { result ≡ true → (j at end : ℕ) → slice_get (starts_of self.now) 0 ≡ Some at → suc j ≡ length self.now.blocks.items → slice_get (starts_of self.now) j ≡ Some end → end + bytes ≤ at + 16000000 }
     {
-        let end = self.address(self.stretches.len() - 1);
+        let end = self.address(self.blocks.len() - 1);
         let start = self.address(0);
         bytes <= SMALL && end.saturating_sub(start) <= SMALL - bytes
     }
 
-    /// The first of the calm stretches before the wall that are looked at, since what moves together behind the wall may come too far away from them.
+    /// The first of the calm blocks before the wall that are looked at, since what moves together behind the wall may come too far away from them.
     fn near(&self, moved: &Move, bytes: u32) -> usize
         requires { IsLaid self.now }
         ensures { AreFar self.now bytes moved.now.by result }
@@ -201,7 +201,7 @@ impl KeptLayout {
         if moved.by >= bytes {
             return wall;
         }
-        if wall == self.stretches.len() {
+        if wall == self.blocks.len() {
             return wall;
         }
         if !self.is_small(bytes) {
@@ -232,13 +232,13 @@ impl KeptLayout {
     /// Whether all that could come out of reach is within reach then, where all is that was seen on the way.
     fn all_reach(&self, moved: &Move, bytes: u32) -> bool
         requires laid { IsLaid self.now }
-        requires wide { AreWide (shapes_of self.now.stretches.items) }
+        requires wide { AreWide (footprints_of self.now.blocks.items) }
         requires moved { IsMoved self.now bytes moved.now.at.items moved.now.by }
-        requires few { (s : Shape) → slice_get (shapes_of self.now.stretches.items) self.now.here ≡ Some s → bytes ≤ s.bytes }
+        requires few { (s : Footprint) → slice_get (footprints_of self.now.blocks.items) self.now.here ≡ Some s → bytes ≤ s.bytes }
         requires is { IsMove self.now (news self.now bytes moved.now.at.items) moved.now.by }
         requires right { AreKnownRight self.now (news self.now bytes moved.now.at.items) moved.now.by }
         ensures all { result ≡ true → IsLookedAt self.now (news self.now bytes moved.now.at.items) moved.now.by }
-        ensures none { ((j : ℕ) → IsRight (moved_starts self.now (news self.now bytes moved.now.at.items) moved.now.by) self.now.stretches.items j) → result ≡ true }
+        ensures none { ((j : ℕ) → IsRight (moved_starts self.now (news self.now bytes moved.now.at.items) moved.now.by) self.now.blocks.items j) → result ≡ true }
     {
         if !self.is_right_if(false, moved, bytes, self.here) {
             return false;
@@ -255,17 +255,17 @@ impl KeptLayout {
                 && self.keeps_reach(moved, bytes))
     }
 
-    /// How stretches move if the one that it stands at takes so many bytes fewer: none where a mention would be out of reach.
+    /// How blocks move if the one that it stands at takes so many bytes fewer: none where a mention would be out of reach.
     pub(crate) fn move_within_reach(
         &self,
         alloc: Global,
         bytes: u32,
     ) -> Result<Option<Move>, Memory>
         requires laid { IsLaid self.now }
-        requires wide { AreWide (shapes_of self.now.stretches.items) }
+        requires wide { AreWide (footprints_of self.now.blocks.items) }
         requires even { Divides 2 bytes }
-        requires few { (s : Shape) → slice_get (shapes_of self.now.stretches.items) self.now.here ≡ Some s → bytes ≤ s.bytes }
-        ensures reach { IfOk result (λ o. (gone : ℕ) → (is_some o ≡ true) ↔ AllReach self.now.base (lessen self.now.here bytes gone (shapes_of self.now.stretches.items))) }
+        requires few { (s : Footprint) → slice_get (footprints_of self.now.blocks.items) self.now.here ≡ Some s → bytes ≤ s.bytes }
+        ensures reach { IfOk result (λ o. (gone : ℕ) → (is_some o ≡ true) ↔ AllReach self.now.base (lessen self.now.here bytes gone (footprints_of self.now.blocks.items))) }
         ensures moved { IfOk result (λ o. IfSome o (λ m. IsMoved self.now bytes m.at.items m.by)) }
     {
         let Some(moved) = self.walk(alloc, bytes)? else {

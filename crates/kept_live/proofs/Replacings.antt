@@ -9,7 +9,7 @@ use Rattle.liveness.specs.declared.graph.Graph.{Graph}
 use Rattle.liveness.specs.Live.{set_at}
 use Rattle.liveness.specs.Graph.{IsGraph}
 use Rattle.kept_live.specs.declared.counted.PointSets.{PointSets}
-use Rattle.kept_live.specs.declared.kept.Kept.{Kept}
+use Rattle.kept_live.specs.declared.kept.KeptFlow.{KeptFlow}
 use Rattle.kept_live.specs.declared.walk.Walk.{Walk}
 use Rattle.kept_live.specs.declared.window.Window.{Window}
 use Rattle.kept_live.specs.Ahead.{IsAhead}
@@ -26,7 +26,7 @@ use Rattle.kept_live.proofs.Passings.{wired}
 use Rattle.kept_live.proofs.Shrinkings.{growing_begins}
 
 -- the new instructions took the places, which gives k₁, and what is read for sure was worked out anew
-pub record IsExchanged (ps : List ℕ) (is : List Instr) (f e : ℕ) (old fresh : Window) (k k₁ : Kept) : Type 0 where
+pub record IsExchanged (ps : List ℕ) (is : List Instr) (f e : ℕ) (old fresh : Window) (k k₁ : KeptFlow) : Type 0 where
   pub many : length k₁.ways.items ≡ length k.ways.items
   pub graph : k₁.graph ≡ k.graph
   pub walk : k₁.walk ≡ k.walk
@@ -41,7 +41,7 @@ pub record IsExchanged (ps : List ℕ) (is : List Instr) (f e : ℕ) (old fresh 
   pub ahead : IsWired k₁.ways.items k.graph.callers → IsAhead k.ways.items k.forward.sets.items → IsAhead k₁.ways.items k₁.forward.sets.items
 
 -- the sets shrank, which gives k₂
-pub record IsShrunk (old fresh : Window) (k₁ k₂ : Kept) : Type 0 where
+pub record IsShrunk (old fresh : Window) (k₁ k₂ : KeptFlow) : Type 0 where
   pub fit : IsFitKept k₂
   pub ways : k₂.ways ≡ k₁.ways
   pub graph : k₂.graph ≡ k₁.graph
@@ -51,14 +51,14 @@ pub record IsShrunk (old fresh : Window) (k₁ k₂ : Kept) : Type 0 where
   pub shrunk : IsShrunkBy k₁.ways.items k₁.graph k₁.forward.sets.items old fresh k₁.walk k₂.walk
 
 -- and grew, which gives k₃
-pub record IsRegrown (k₂ k₃ : Kept) : Type 0 where
+pub record IsRegrown (k₂ k₃ : KeptFlow) : Type 0 where
   pub idle : IsIdle k₃
   pub ways : k₃.ways ≡ k₂.ways
   pub graph : k₃.graph ≡ k₂.graph
   pub forward : k₃.forward ≡ k₂.forward
   pub live : (code : Code) → IsGraph code k₂.ways.items k₂.graph → IsGrowing code k₂.walk.before.sets.items k₂.walk.touched.places → IsGrowing code k₃.walk.before.sets.items []
 
-module _ (ps : List ℕ) (is : List Instr) (f e : ℕ) (first : f ≡ get_or ps 0 0) (end : e ≡ get_or ps (length ps - 1) 0 + 1) (ascends : AreAscending 0 ps) (some : 0 < length ps) (old fresh : Window) (k k₁ k₂ k₃ : Kept) (a : IsExchanged ps is f e old fresh k k₁) (b : IsShrunk old fresh k₁ k₂) (d : IsRegrown k₂ k₃)
+module _ (ps : List ℕ) (is : List Instr) (f e : ℕ) (first : f ≡ get_or ps 0 0) (end : e ≡ get_or ps (length ps - 1) 0 + 1) (ascends : AreAscending 0 ps) (some : 0 < length ps) (old fresh : Window) (k k₁ k₂ k₃ : KeptFlow) (a : IsExchanged ps is f e old fresh k k₁) (b : IsShrunk old fresh k₁ k₂) (d : IsRegrown k₂ k₃)
     (code new : Code) (window : List Instr) (gives : GivesWay code new ps window is) (kept : IsKeptLive code (parts_of k)) where
   graph₁ : IsGraph new k₁.ways.items k.graph
   graph₁ = graph_stays code new ps window is gives ascends some k.ways.items k₁.ways.items k.graph kept.graph a.many a.put a.others

@@ -15,7 +15,7 @@ use Rattle.liveness.specs.Live.{word_of, set_at}
 use Rattle.liveness.specs.Graph.{IsGraph}
 use Rattle.liveness.specs.declared.graph.Graph.{Graph}
 use Rattle.liveness.proofs.Paths.{within, AreFinished, finished_live}
-use Rattle.kept_live.specs.declared.kept.Kept.{Kept}
+use Rattle.kept_live.specs.declared.kept.KeptFlow.{KeptFlow}
 use Rattle.kept_live.specs.declared.walk.Walk.{Walk}
 use Rattle.kept_live.specs.Ahead.{IsAhead}
 use Rattle.kept_live.specs.Counted.{AreCounted}
@@ -75,7 +75,7 @@ inside_graph code all g graph = record {
   returns = graph.returns.within;
 }
 
-pub idle_first : (code : Code) (k : Kept) (n : ℕ) → IsGraph code k.ways.items k.graph → AreCounted k.graph.is_point.items k.forward → length k.forward.sets.items ≡ length k.ways.items → k.due ≡ replicate n false → n ≡ length k.ways.items → IsFitWalk k.graph.is_point.items (length k.ways.items) k.walk → k.walk.stack.places ≡ [] → k.walk.touched.places ≡ [] → IsIdle k
+pub idle_first : (code : Code) (k : KeptFlow) (n : ℕ) → IsGraph code k.ways.items k.graph → AreCounted k.graph.is_point.items k.forward → length k.forward.sets.items ≡ length k.ways.items → k.due ≡ replicate n false → n ≡ length k.ways.items → IsFitWalk k.graph.is_point.items (length k.ways.items) k.walk → k.walk.stack.places ≡ [] → k.walk.touched.places ≡ [] → IsIdle k
 idle_first code k n graph counted many due as_many walk stack touched = record {
   fit = record {
     inside = inside_graph code k.ways.items k.graph graph;

@@ -10,7 +10,7 @@ use Rattle.code_flow.specs.declared.way.Ways.{Ways}
 use Rattle.liveness.specs.declared.graph.Graph.{Graph}
 use Rattle.liveness.specs.Live.{set_at}
 use Rattle.liveness.specs.Graph.{IsGraph}
-use Rattle.kept_live.specs.declared.kept.Kept.{Kept}
+use Rattle.kept_live.specs.declared.kept.KeptFlow.{KeptFlow}
 use Rattle.kept_live.specs.declared.walk.Walk.{Walk}
 use Rattle.kept_live.specs.declared.window.Window.{Window}
 use Rattle.kept_live.specs.Ahead.{IsAhead}
@@ -20,7 +20,7 @@ use Rattle.kept_live.specs.Parts.{Parts}
 use Rattle.kept_live.specs.Walk.{IsFitWalk}
 use Rattle.kept_live.specs.Within.{IsInside}
 
-abbrev pub parts_of : Kept → Parts
+abbrev pub parts_of : KeptFlow → Parts
 parts_of k = record { ways = k.ways.items; graph = k.graph; before = k.walk.before.sets.items; forward = k.forward.sets.items }
 
 -- an item is before a place exactly where a path from there reads it before it is written, and what is said to be read for sure is read along ways to greater places
@@ -35,7 +35,7 @@ abbrev pub LosesAt : ℕ → ℕ → Type 0
 LosesAt old new = (x : ℕ) × (has old x ≡ true) × (has new x ≡ false)
 
 -- sets, counts and graph are of as many places
-pub record IsFitKept (k : Kept) : Type 0 where
+pub record IsFitKept (k : KeptFlow) : Type 0 where
   pub inside : IsInside (length k.ways.items) k.graph
   pub forward_many : length k.forward.sets.items ≡ length k.ways.items
   pub forward_counted : AreCounted k.graph.is_point.items k.forward
@@ -44,7 +44,7 @@ pub record IsFitKept (k : Kept) : Type 0 where
   pub walk : IsFitWalk k.graph.is_point.items (length k.ways.items) k.walk
 
 -- and no place is on a stack
-pub record IsIdle (k : Kept) : Type 0 where
+pub record IsIdle (k : KeptFlow) : Type 0 where
   pub fit : IsFitKept k
   pub stack : k.walk.stack.places ≡ []
   pub touched : k.walk.touched.places ≡ []

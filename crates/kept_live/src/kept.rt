@@ -30,7 +30,7 @@ use thumb_instr::{Instr, Items};
 
 /// The ways of each place now, what leads to each, what is read from each for sure, and the live items before each.
 #[derive(Drop)]
-pub(crate) struct Kept {
+pub(crate) struct KeptFlow {
     pub(crate) ways: Vec<Option<Ways>>,
     pub(crate) graph: Graph,
     pub(crate) forward: PointSets,
@@ -41,7 +41,7 @@ pub(crate) struct Kept {
 /// The items that are live before each place of a code, kept while windows give way.
 #[derive(Drop)]
 pub struct KeptLive {
-    pub(crate) kept: Kept,
+    pub(crate) kept: KeptFlow,
 }
 
 impl Model for KeptLive {
@@ -87,7 +87,7 @@ fn put_in(ways: &mut Vec<Option<Ways>>, places: &[u32], new: &[Instr])
 }
 
 /// Puts the new instructions at the places, and works out anew what is read for sure.
-fn exchange(kept: &mut Kept, places: &[u32], new: &[Instr], first: u32, end: u32) -> Exchanged
+fn exchange(kept: &mut KeptFlow, places: &[u32], new: &[Instr], first: u32, end: u32) -> Exchanged
     requires idle { IsIdle kept.old }
     requires ascending { AreAscending first places.now }
     requires within { (k : ℕ) → k < length places.now → get_or places.now k 0 < end }
@@ -171,7 +171,7 @@ fn tell_if(places: &mut PlaceSet, place: u32, tells: bool)
 }
 
 /// Clears what the window alone kept live.
-fn shrink(kept: &mut Kept, window: Exchanged)
+fn shrink(kept: &mut KeptFlow, window: Exchanged)
     requires idle { IsIdle kept.old }
     requires some { window.old.first < window.old.end }
     requires end { window.old.end ≤ length kept.old.ways.items }
@@ -203,7 +203,7 @@ fn shrink(kept: &mut Kept, window: Exchanged)
 }
 
 /// Lets what is still read grow back, and tells which places lost an item in the end.
-fn regrow(kept: &mut Kept, lost: &mut PlaceSet)
+fn regrow(kept: &mut KeptFlow, lost: &mut PlaceSet)
     requires fit { IsFitKept kept.old }
     requires stack { kept.old.walk.stack.places ≡ [] }
     requires room { length lost.old ≡ length kept.old.ways.items }
@@ -227,7 +227,7 @@ fn regrow(kept: &mut Kept, lost: &mut PlaceSet)
 }
 
 /// Lets instructions take the places of a window.
-fn replace_in(kept: &mut Kept, places: &[u32], new: &[Instr], lost: &mut PlaceSet)
+fn replace_in(kept: &mut KeptFlow, places: &[u32], new: &[Instr], lost: &mut PlaceSet)
     requires idle { IsIdle kept.old }
     requires some { 0 < length places.now }
     requires ascending { AreAscending 0 places.now }

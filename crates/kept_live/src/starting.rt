@@ -10,7 +10,7 @@ ghost use Rattle.kept_live.specs.Walk.{IsFitWalk};
 
 use crate::counted::{no_sets, put};
 use crate::forward::all_forward;
-use crate::kept::{Kept, KeptLive};
+use crate::kept::{KeptFlow, KeptLive};
 use crate::stack::PlaceStack;
 use crate::walk::Walk;
 use code_flow::Ways;
@@ -86,7 +86,7 @@ impl KeptLive {
         let forward = all_forward(alloc, graph.is_point.as_slice(), ways.as_slice())?;
         let walk = walk_of(alloc, graph.is_point.as_slice(), sets.as_slice())?;
         Ok(KeptLive {
-            kept: Kept {
+            kept: KeptFlow {
                 ways,
                 graph,
                 forward,

@@ -7,7 +7,7 @@ ghost use Rattle.kept_live.specs.Window.{nth_or_nop, AreAscending, ArePut};
 
 use crate::passing::{uses_in, writes_in};
 use code_flow::{Ways, ways_of};
-use thumb_instr::{Hint, Instr, Items};
+use thumb_instr::{HintOperation, Instr, Items};
 
 /// The places of a window, from the first up to the end, and what its instructions read before they write it, and what they write.
 #[derive(Clone, Copy)]
@@ -51,7 +51,9 @@ fn instr_at(new: &[Instr], number: usize) -> Instr
 {
     match new.get(number) {
         Some(instr) => *instr,
-        None => Instr::Hint { hint: Hint::Nop },
+        None => Instr::Hint {
+            hint: HintOperation::Nop,
+        },
     }
 }
 

@@ -4,14 +4,14 @@ use Rattle.std.specs.Prelude.{slice_get, nat_le, IfSome}
 use Rattle.std.proofs.Math.Seq.{drop-cons}
 use Rattle.std.proofs.lemmas.Bool.{cases_Bool, cases_lt, leb-true, le-leb}
 use Rattle.std.proofs.lemmas.List.{length-append}
-use Rattle.thumb_model.specs.Listing.{Word, places_in, places_of, Name, Value, Statement, Nothing, Runs, Words, Aligns, Sets, Line}
+use Rattle.thumb_model.specs.Listing.{Word, places_in, places_of, Name, Value, Statement, Nothing, Instruction, Words, Aligns, Sets, ListingLine}
 use Rattle.thumb_model.specs.Layout.{size_at, end_of, is_among, label_address}
 use Rattle.thumb_model.proofs.Lists.{get_front, get_back}
-use Rattle.listing_parser.specs.declared.line.Line.{Line as Lines}
+use Rattle.listing_parser.specs.declared.line.ListingLine.{ListingLine as Lines}
 use Rattle.listing_parser.specs.Views.{line_view}
 use Rattle.label_layout.specs.Addresses.{word_addresses, addresses_in, addresses_from, Addresses, AreAddresses, AreInCode}
 
-pub at_end : (at : ℕ) (ls : List Line) → at ≤ end_of at ls
+pub at_end : (at : ℕ) (ls : List ListingLine) → at ≤ end_of at ls
 at_end at [] = omega arith
 at_end at (l ∷ ls) = let h = at_end (at + size_at l.statement at) ls in omega arith
 
@@ -36,7 +36,7 @@ bounded (Some a) most h = h a refl
 
 -- ---- labels and places lie no later than the end ----
 
-pub label_within : (name : Name) (at : ℕ) (ls : List Line) (a : ℕ) → label_address name at ls ≡ Some a → a ≤ end_of at ls
+pub label_within : (name : Name) (at : ℕ) (ls : List ListingLine) (a : ℕ) → label_address name at ls ≡ Some a → a ≤ end_of at ls
 label_within name at [] a e = absurd (let bad : None ≡ Some a = e in cc)
 label_within name at (l ∷ ls) a e = elim (cases_Bool (is_among name l.names)) [
   | inl h ↦ let same : Some at ≡ Some a = rw h at e in let is : at ≡ a = cc in let g = at_end (at + size_at l.statement at) ls in omega arith
@@ -50,13 +50,13 @@ word_within at (v ∷ vs) (suc p) a e = let h = word_within (at + 4) vs p a e in
 
 place_within : (at : ℕ) (s : Statement) (p a : ℕ) → slice_get (addresses_in at s) p ≡ Some a → a ≤ at + size_at s at
 place_within at Nothing p a e = absurd (let bad : None ≡ Some a = e in cc)
-place_within at (Runs i mention) zero a e = let same : Some at ≡ Some a = e in let is : at ≡ a = cc in omega arith
-place_within at (Runs i mention) (suc p) a e = absurd (let bad : None ≡ Some a = e in cc)
+place_within at (Instruction i mention) zero a e = let same : Some at ≡ Some a = e in let is : at ≡ a = cc in omega arith
+place_within at (Instruction i mention) (suc p) a e = absurd (let bad : None ≡ Some a = e in cc)
 place_within at (Words vs) p a e = word_within at vs p a e
 place_within at (Aligns size most) p a e = absurd (let bad : None ≡ Some a = e in cc)
 place_within at (Sets name address) p a e = absurd (let bad : None ≡ Some a = e in cc)
 
-pub address_within : (at : ℕ) (ls : List Line) (p a : ℕ) → slice_get (addresses_from at ls) p ≡ Some a → a ≤ end_of at ls
+pub address_within : (at : ℕ) (ls : List ListingLine) (p a : ℕ) → slice_get (addresses_from at ls) p ≡ Some a → a ≤ end_of at ls
 address_within at [] p a e = absurd (let bad : None ≡ Some a = e in cc)
 address_within at (l ∷ ls) p a e = elim (cases_lt p (length (addresses_in at l.statement))) [
   | inl h ↦
@@ -68,7 +68,7 @@ address_within at (l ∷ ls) p a e = elim (cases_lt p (length (addresses_in at l
 ]
 
 -- what lies before an end in the Code region lies in it
-pub in_code : (a : Addresses) (ls : List Line) → AreAddresses ls a → a.end ≤ 2 ^ 29 → AreInCode a
+pub in_code : (a : Addresses) (ls : List ListingLine) → AreAddresses ls a → a.end ≤ 2 ^ 29 → AreInCode a
 in_code a ls laid h = record {
   end = h;
   places = λ p address e. let w = address_within a.base ls p address (ap (λ (xs : List ℕ). slice_get xs p) (sym laid.places) ∙ e) in let same = laid.end in omega arith;
@@ -83,12 +83,12 @@ words_counted at (v ∷ vs) = ap suc (words_counted (at + 4) vs)
 
 pub places_counted_in : (at : ℕ) (s : Statement) → length (addresses_in at s) ≡ length (places_in s)
 places_counted_in at Nothing = refl
-places_counted_in at (Runs i mention) = refl
+places_counted_in at (Instruction i mention) = refl
 places_counted_in at (Words vs) = words_counted at vs
 places_counted_in at (Aligns size most) = refl
 places_counted_in at (Sets name address) = refl
 
-pub places_counted : (at : ℕ) (ls : List Line) → length (addresses_from at ls) ≡ length (places_of ls)
+pub places_counted : (at : ℕ) (ls : List ListingLine) → length (addresses_from at ls) ≡ length (places_of ls)
 places_counted at [] = refl
 places_counted at (l ∷ ls) =
     let here = places_counted_in at l.statement in

@@ -4,7 +4,7 @@ use Rattle.std.specs.Map.{lookup}
 use Rattle.std.specs.Str.{bytes_eq}
 use Rattle.std.specs.declared.alloc.Global.{Global}
 use Rattle.std.specs.declared.vec.Vec.{Vec}
-use Rattle.thumb_model.specs.Listing.{Name, Value, Statement, Nothing, Runs, Words, Aligns, Sets, Line}
+use Rattle.thumb_model.specs.Listing.{Name, Value, Statement, Nothing, Instruction, Words, Aligns, Sets, ListingLine}
 use Rattle.thumb_model.specs.Layout.{size_at, end_of, label_address}
 
 -- the address, where it lies in the Code region of the system address map (0x00000000 to 0x1FFFFFFF) or is its end
@@ -19,12 +19,12 @@ word_addresses at (v ∷ vs) = at ∷ word_addresses (at + 4) vs
 -- the addresses of the places of a statement, and of lines, that begin at an address
 abbrev pub addresses_in : ℕ → Statement → List ℕ
 addresses_in at Nothing = []
-addresses_in at (Runs i mention) = at ∷ []
+addresses_in at (Instruction i mention) = at ∷ []
 addresses_in at (Words vs) = word_addresses at vs
 addresses_in at (Aligns size most) = []
 addresses_in at (Sets name address) = []
 
-abbrev pub addresses_from : ℕ → List Line → List ℕ
+abbrev pub addresses_from : ℕ → List ListingLine → List ℕ
 addresses_from at [] = []
 addresses_from at (l ∷ ls) = addresses_in at l.statement ++ addresses_from (at + size_at l.statement at) ls
 
@@ -44,7 +44,7 @@ abbrev pub label_of : Addresses → Name → Option ℕ
 label_of a name = lookup (is_key name) a.labels
 
 -- they are those of the lines, begun at the base
-pub record AreAddresses (lines : List Line) (a : Addresses) : Type 0 where
+pub record AreAddresses (lines : List ListingLine) (a : Addresses) : Type 0 where
   pub end : a.end ≡ end_of a.base lines
   pub places : a.places ≡ addresses_from a.base lines
   pub label : (name : Name) → label_of a name ≡ label_address name a.base lines

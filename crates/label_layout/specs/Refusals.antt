@@ -1,9 +1,9 @@
 -- Which lines have no place, and the first of them.
 use Rattle.std.specs.Prelude.{ℕ, List, Option, ◌≡◌, Some}
-use Rattle.thumb_model.specs.Listing.{Line as ListingLine}
+use Rattle.thumb_model.specs.Listing.{ListingLine}
 use Rattle.thumb_model.specs.Layout.{Fault, lies_in, faults_from, Range, Align}
-use Rattle.label_layout.specs.declared.errors.Kind.{Kind}
-use Rattle.label_layout.specs.declared.errors.Kind.TheVariants as kind
+use Rattle.label_layout.specs.declared.errors.LayoutFault.{LayoutFault}
+use Rattle.label_layout.specs.declared.errors.LayoutFault.TheVariants as kind
 use Rattle.label_layout.specs.declared.errors.LayoutError.{LayoutError}
 use Rattle.label_layout.specs.declared.errors.LayoutError.TheVariants as error
 
@@ -16,11 +16,11 @@ first_fault base lines = faults_from (lies_in base lines) 1 base lines
 -- When lines are refused.
 
 -- the fault that is told
-abbrev pub fault_of : Kind → Fault
+abbrev pub fault_of : LayoutFault → Fault
 fault_of (kind.Range distance) = Range distance
 fault_of (kind.Align address) = Align address
 
-abbrev pub numbered : ℕ × Kind → ℕ × Fault
+abbrev pub numbered : ℕ × LayoutFault → ℕ × Fault
 numbered found = (found.0, fault_of found.1)
 
 -- a line is refused exactly where it is the first with a fault, by what its first fault is

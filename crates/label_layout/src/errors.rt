@@ -4,7 +4,7 @@ use thiserror::Error;
 
 /// Why a line cannot be laid out.
 #[derive(Clone, Copy, Debug, PartialEq, Eq)]
-pub enum Kind {
+pub enum LayoutFault {
     /// What the instruction mentions is too far away, or on the wrong side of it: the distance in bytes. It is counted from the instruction's address and 4, for
     /// `ldr` and `adr` rounded down to a multiple of 4 (PC and Align(PC, 4) of the manual).
     Range(i64),
@@ -17,7 +17,7 @@ pub enum Kind {
 pub enum LayoutError {
     /// The first line that is refused, by its number from 1, and why. Where both reasons are a line's, it is `Align`.
     #[error("line {number}: {kind:?}")]
-    Line { number: u64, kind: Kind },
+    Line { number: u64, kind: LayoutFault },
     /// Want of memory, of the process's or of the Code region of the system address map (0x00000000 to 0x1FFFFFFF).
     #[error("out of memory")]
     Memory,

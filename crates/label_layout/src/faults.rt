@@ -6,7 +6,7 @@ ghost use Rattle.label_layout.specs.Addresses.{AreAddresses};
 ghost use Rattle.label_layout.specs.Refusals.{fault_of, numbered, first_fault};
 
 use crate::addresses::Layout;
-use crate::errors::Kind;
+use crate::errors::LayoutFault;
 use crate::sizes::next_address;
 use listing_parser::{Listing, Mention, Statement};
 use thumb_instr::Instr;
@@ -26,7 +26,7 @@ fn difference(to: u64, from: u64) -> i64
 
 /// What is wrong with a branch that goes from -2 `half` to below 2 `half` bytes from its address and 4.
 /// Nothing is where it has no address to go to.
-fn branch_fault(half: u64, at: u32, to: Option<u32>) -> Option<Kind>
+fn branch_fault(half: u64, at: u32, to: Option<u32>) -> Option<LayoutFault>
     requires { half ≤ 2 ^ 23 }
     ensures { option_map fault_of result ≡ branch_fault_at half at to }
 {
@@ -35,29 +35,29 @@ fn branch_fault(half: u64, at: u32, to: Option<u32>) -> Option<Kind>
     if to < from + 2 * half && from <= to + 2 * half {
         None
     } else {
-        Some(Kind::Range(difference(to, from)))
+        Some(LayoutFault::Range(difference(to, from)))
     }
 }
 
 /// What is wrong with a literal: it lies at a multiple of 4, and 0 to 1020 bytes behind the instruction's address and 4,
 /// rounded down to such a multiple.
-fn literal_fault(at: u32, to: Option<u32>, plus: u32) -> Option<Kind>
+fn literal_fault(at: u32, to: Option<u32>, plus: u32) -> Option<LayoutFault>
     ensures { option_map fault_of result ≡ literal_fault_at at to plus }
 {
     let target = to? as u64 + plus as u64;
     let from = (at as u64 + 4) / 4 * 4;
     if target % 4 != 0 {
-        Some(Kind::Align(target))
+        Some(LayoutFault::Align(target))
     } else if from <= target && target <= from + 1020 {
         None
     } else {
-        Some(Kind::Range(difference(target, from)))
+        Some(LayoutFault::Range(difference(target, from)))
     }
 }
 
 /// What is wrong with an instruction at an address, in bytes, that mentions what lies at `to`, with `plus` added. Nothing is where it mentions what lies nowhere, or
 /// where instructions of its kind mention nothing.
-pub fn aim_fault(at: u32, instr: &Instr, to: Option<u32>, plus: u32) -> Option<Kind>
+pub fn aim_fault(at: u32, instr: &Instr, to: Option<u32>, plus: u32) -> Option<LayoutFault>
     ensures { option_map fault_of result ≡ aim_fault_at at instr.now to plus }
 {
     match instr {
@@ -75,12 +75,12 @@ fn statement_fault(
     listing: &Listing,
     at: u32,
     statement: &Statement,
-) -> Option<Kind>
+) -> Option<LayoutFault>
     requires { AreAddresses listing.now layout.now }
     ensures { option_map fault_of result ≡ fault_at (lies_in layout.now.base listing.now) at (statement_view statement.now) }
 {
     match statement {
-        Statement::Runs {
+        Statement::Instruction {
             instr,
             mention: Some(Mention { name, plus }),
         } => aim_fault(at, instr, layout.target(listing, name), *plus),
@@ -89,7 +89,7 @@ fn statement_fault(
 }
 
 /// The first line with a fault, by its number from 1. The layout is the listing's.
-pub fn find_fault(layout: &Layout, listing: &Listing) -> Option<(u64, Kind)>
+pub fn find_fault(layout: &Layout, listing: &Listing) -> Option<(u64, LayoutFault)>
     requires { AreAddresses listing.now layout.now }
     ensures { option_map numbered result ≡ first_fault layout.now.base listing.now }
 {

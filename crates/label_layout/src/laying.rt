@@ -14,7 +14,7 @@ use crate::errors::LayoutError;
 use crate::faults::find_fault;
 use crate::sizes::{CODE_END, next_address};
 use indexmap::IndexMap;
-use listing_parser::{Line, Listing, Memory, Statement, Value};
+use listing_parser::{Listing, ListingLine, Memory, Statement, Value};
 use std::alloc::Global;
 
 /// Notes the address of a label, where none of its name was noted.
@@ -55,7 +55,7 @@ fn add_places(places: &mut Vec<u32>, statement: &Statement, at: u32) -> Result<(
     ensures { OnOk result (places.new.items ≡ places.old.items ++ addresses_in at (statement_view statement.now)) }
 {
     match statement {
-        Statement::Runs { .. } => places.push(at)?,
+        Statement::Instruction { .. } => places.push(at)?,
         Statement::Words(values) => add_words(places, values, at)?,
         _ => {}
     }
@@ -63,7 +63,7 @@ fn add_places(places: &mut Vec<u32>, statement: &Statement, at: u32) -> Result<(
 }
 
 /// The addresses of lines that begin at the base.
-fn lay(alloc: Global, lines: &[Line], base: u32) -> Result<Layout, Memory>
+fn lay(alloc: Global, lines: &[ListingLine], base: u32) -> Result<Layout, Memory>
     ensures base { IfOk result (λ l. l.base ≡ base) }
     ensures laid { IfOk result (λ l. AreAddresses (map line_view lines.now) l) }
 {

@@ -8,7 +8,7 @@ mod laying;
 mod sizes;
 
 pub use addresses::{Layout, cleared};
-pub use errors::{Kind, LayoutError};
+pub use errors::{LayoutError, LayoutFault};
 pub use faults::aim_fault;
 pub use laying::layout;
 pub use sizes::{CODE_END, instr_size, padding};

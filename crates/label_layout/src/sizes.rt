@@ -65,7 +65,7 @@ pub fn next_address(statement: &Statement, at: u32) -> Option<u32>
 {
     match statement {
         Statement::Nothing | Statement::Sets { .. } => Some(at),
-        Statement::Runs { instr, .. } => behind(at, instr_size(instr)),
+        Statement::Instruction { instr, .. } => behind(at, instr_size(instr)),
         Statement::Words(values) => behind_words(at, values.len()),
         Statement::Aligns { size, most } => behind(at, padding(*size, *most, at)),
     }

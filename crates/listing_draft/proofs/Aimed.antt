@@ -2,7 +2,7 @@
 use Rattle.std.proofs.Common.{◌≡◌, ◌∙◌, ℕ, zero, suc, ◌+◌, ◌-◌, ◌<◌, ◌==◌, ◌&&◌, Bool, true, false, List, [], ◌∷◌, ◌++◌, length, drop, Option, Some, None, refl, sym, ap, arith, ne_eqb, if◌then◌else◌}
 use Rattle.std.specs.Prelude.{slice_get, slice_set}
 use Rattle.thumb_instr.specs.declared.instr.Instr.{Instr}
-use Rattle.thumb_model.specs.Listing.{Name, Mention, Statement, Nothing, Runs, Words, Aligns, Sets, Line, Op, places_in, places_of, is_op_place}
+use Rattle.thumb_model.specs.Listing.{Name, Mention, Statement, Nothing, Instruction, Words, Aligns, Sets, ListingLine, Op, places_in, places_of, is_op_place}
 use Rattle.thumb_model.specs.Replaced.{is_op, labels_kept}
 use Rattle.thumb_model.proofs.Lists.{length_drop}
 use Rattle.kept_places.specs.Marks.{is_gone, rank}
@@ -13,59 +13,59 @@ use Rattle.listing_draft.specs.Drafted.{aim_at, line_now, now_of}
 use Rattle.listing_draft.proofs.Ranks.{OpsGone, drop_set, gone_drop, op_behind, ops_behind, others_kept, rank_behind_gone, rank_behind_kept, rank_drop}
 
 module _ (to : Name) where
-  abbrev left : ℕ → List Line → List Line
+  abbrev left : ℕ → List ListingLine → List ListingLine
   left r ls = aimed_lines line_mentioning r to ls
 
   -- past a line that has no places
-  past_labels : (l : Line) (ns : List Name) (r : ℕ) (rest : List Line) → left r (labels_kept l ns ++ rest) ≡ labels_kept l ns ++ left r rest
+  past_labels : (l : ListingLine) (ns : List Name) (r : ℕ) (rest : List ListingLine) → left r (labels_kept l ns ++ rest) ≡ labels_kept l ns ++ left r rest
   past_labels l [] r rest = refl
   past_labels l (n ∷ ns) r rest = ap (λ k. labels_kept l (n ∷ ns) ++ left k rest) (let e : r - 0 ≡ r = omega arith in e)
 
   -- at an instruction
-  branch_turns : (label : Name) (l : Line) (ns : List Name) (i : Instr) (m : Option Mention) (rest : List Line) → l.statement ≡ Runs i m
+  branch_turns : (label : Name) (l : ListingLine) (ns : List Name) (i : Instr) (m : Option Mention) (rest : List ListingLine) → l.statement ≡ Instruction i m
       → left 0 ((labels_kept l ns ++ (aimed_line line_mentioning label l ∷ [])) ++ rest) ≡ (labels_kept l ns ++ (aimed_line line_mentioning to l ∷ [])) ++ rest
   branch_turns label l [] i m rest e = rw e refl
   branch_turns label l (n ∷ ns) i m rest e = rw e refl
 
-  head_turns : (l : Line) (ns : List Name) (i : Instr) (m : Option Mention) (rest : List Line) → l.statement ≡ Runs i m → l.names ≡ ns → left 0 (l ∷ rest) ≡ (labels_kept l ns ++ (aimed_line line_mentioning to l ∷ [])) ++ rest
+  head_turns : (l : ListingLine) (ns : List Name) (i : Instr) (m : Option Mention) (rest : List ListingLine) → l.statement ≡ Instruction i m → l.names ≡ ns → left 0 (l ∷ rest) ≡ (labels_kept l ns ++ (aimed_line line_mentioning to l ∷ [])) ++ rest
   head_turns l [] i m rest e f = rw (e, f) refl
   head_turns l (n ∷ ns) i m rest e f = rw (e, f) refl
 
-  first_turns : (a : Option Name) (l : Line) (i : Instr) (m : Option Mention) (rest : List Line) → l.statement ≡ Runs i m → left 0 (line_now false a l ++ rest) ≡ line_now false (Some to) l ++ rest
+  first_turns : (a : Option Name) (l : ListingLine) (i : Instr) (m : Option Mention) (rest : List ListingLine) → l.statement ≡ Instruction i m → left 0 (line_now false a l ++ rest) ≡ line_now false (Some to) l ++ rest
   first_turns None l i m rest e = head_turns l l.names i m rest e refl
   first_turns (Some label) l i m rest e = branch_turns label l l.names i m rest e
 
   -- past an instruction
-  past_op : (l : Line) (i : Instr) (m : Option Mention) (r : ℕ) (rest : List Line) → l.statement ≡ Runs i m → left (suc r) (l ∷ rest) ≡ l ∷ left r rest
+  past_op : (l : ListingLine) (i : Instr) (m : Option Mention) (r : ℕ) (rest : List ListingLine) → l.statement ≡ Instruction i m → left (suc r) (l ∷ rest) ≡ l ∷ left r rest
   past_op l i m r rest e =
       ap (λ s. if is_op s && (suc r == 0) then labels_kept l l.names ++ (aimed_line line_mentioning to l ∷ rest) else l ∷ left (suc r - length (places_in s)) rest) e
       ∙ ap (λ b. if b then labels_kept l l.names ++ (aimed_line line_mentioning to l ∷ rest) else l ∷ left (suc r - 1) rest) (ne_eqb (suc r) 0 (λ z. absurd (omega arith)))
-      ∙ ap (λ k. (let x : List Line = l ∷ left k rest in x)) (let h : suc r - 1 ≡ r = omega arith in h)
+      ∙ ap (λ k. (let x : List ListingLine = l ∷ left k rest in x)) (let h : suc r - 1 ≡ r = omega arith in h)
 
-  past_branch : (label : Name) (l : Line) (ns : List Name) (i : Instr) (m : Option Mention) (r : ℕ) (rest : List Line) → l.statement ≡ Runs i m
+  past_branch : (label : Name) (l : ListingLine) (ns : List Name) (i : Instr) (m : Option Mention) (r : ℕ) (rest : List ListingLine) → l.statement ≡ Instruction i m
       → left (suc r) ((labels_kept l ns ++ (aimed_line line_mentioning label l ∷ [])) ++ rest) ≡ (labels_kept l ns ++ (aimed_line line_mentioning label l ∷ [])) ++ left r rest
   past_branch label l [] i m r rest e = past_op (aimed_line line_mentioning label l) i (Some (record { name = label; plus = 0 })) r rest (rw e refl)
   past_branch label l (n ∷ ns) i m r rest e =
       past_labels l (n ∷ ns) (suc r) (aimed_line line_mentioning label l ∷ rest)
       ∙ ap (λ x. labels_kept l (n ∷ ns) ++ x) (past_op (aimed_line line_mentioning label l) i (Some (record { name = label; plus = 0 })) r rest (rw e refl))
 
-  past_first : (a : Option Name) (l : Line) (i : Instr) (m : Option Mention) (r : ℕ) (rest : List Line) → l.statement ≡ Runs i m → left (suc r) (line_now false a l ++ rest) ≡ line_now false a l ++ left r rest
+  past_first : (a : Option Name) (l : ListingLine) (i : Instr) (m : Option Mention) (r : ℕ) (rest : List ListingLine) → l.statement ≡ Instruction i m → left (suc r) (line_now false a l ++ rest) ≡ line_now false a l ++ left r rest
   past_first None l i m r rest e = past_op l i m r rest e
   past_first (Some label) l i m r rest e = past_branch label l l.names i m r rest e
 
-  past_other : (l : Line) (s : Statement) (r q : ℕ) (rest : List Line) → l.statement ≡ s → is_op s ≡ false → r ≡ length (places_in s) + q → left r (l ∷ rest) ≡ l ∷ left q rest
+  past_other : (l : ListingLine) (s : Statement) (r q : ℕ) (rest : List ListingLine) → l.statement ≡ s → is_op s ≡ false → r ≡ length (places_in s) + q → left r (l ∷ rest) ≡ l ∷ left q rest
   past_other l s r q rest e f g =
       ap (λ x. if is_op x && (r == 0) then labels_kept l l.names ++ (aimed_line line_mentioning to l ∷ rest) else l ∷ left (r - length (places_in x)) rest) e
       ∙ ap (λ b. if b && (r == 0) then labels_kept l l.names ++ (aimed_line line_mentioning to l ∷ rest) else l ∷ left (r - length (places_in s)) rest) f
-      ∙ ap (λ k. (let x : List Line = l ∷ left k rest in x)) (let h : r - length (places_in s) ≡ q = omega arith in h)
+      ∙ ap (λ k. (let x : List ListingLine = l ∷ left k rest in x)) (let h : r - length (places_in s) ≡ q = omega arith in h)
 
   -- ---- all lines ----
 
-  abbrev TurnedRec : List Line → Type 0
+  abbrev TurnedRec : List ListingLine → Type 0
   TurnedRec ls = (gone : List Bool) (aims : List (Option Name)) (p : ℕ) → OpsGone gone (places_of ls) → is_gone gone p ≡ false → p < length aims → is_op_place (slice_get (places_of ls) p) ≡ true
       → now_of gone (slice_set aims p (Some to)) ls ≡ left (rank gone p) (now_of gone aims ls)
 
-  op_turned : (l : Line) (i : Instr) (m : Option Mention) (ls : List Line) → l.statement ≡ Runs i m → TurnedRec ls → (gone : List Bool) (aims : List (Option Name)) (p : ℕ) (g : Bool) → is_gone gone 0 ≡ g → OpsGone gone (Op i m ∷ places_of ls)
+  op_turned : (l : ListingLine) (i : Instr) (m : Option Mention) (ls : List ListingLine) → l.statement ≡ Instruction i m → TurnedRec ls → (gone : List Bool) (aims : List (Option Name)) (p : ℕ) (g : Bool) → is_gone gone 0 ≡ g → OpsGone gone (Op i m ∷ places_of ls)
       → is_gone gone p ≡ false → p < length aims → is_op_place (slice_get (Op i m ∷ places_of ls) p) ≡ true
       → line_now g (aim_at (slice_set aims p (Some to)) 0) l ++ now_of (drop 1 gone) (drop 1 (slice_set aims p (Some to))) ls ≡ left (rank gone p) (line_now g (aim_at aims 0) l ++ now_of (drop 1 gone) (drop 1 aims) ls)
   op_turned l i m ls e rec gone [] p g z o k h f = absurd (omega arith)
@@ -81,9 +81,9 @@ module _ (to : Name) where
       ∙ sym (past_first a l i m (rank (drop 1 gone) p) (now_of (drop 1 gone) os ls) e)
       ∙ ap (λ r. left r (line_now false a l ++ now_of (drop 1 gone) os ls)) (sym (rank_behind_kept gone p z))
 
-  other_turned : (l : Line) (s : Statement) (ls : List Line) → l.statement ≡ s → is_op s ≡ false → TurnedRec ls → (gone : List Bool) (aims : List (Option Name)) (p : ℕ) → OpsGone gone (places_in s ++ places_of ls) → is_gone gone p ≡ false → p < length aims
+  other_turned : (l : ListingLine) (s : Statement) (ls : List ListingLine) → l.statement ≡ s → is_op s ≡ false → TurnedRec ls → (gone : List Bool) (aims : List (Option Name)) (p : ℕ) → OpsGone gone (places_in s ++ places_of ls) → is_gone gone p ≡ false → p < length aims
       → is_op_place (slice_get (places_in s ++ places_of ls) p) ≡ true
-      → (let x : List Line = l ∷ now_of (drop (length (places_in s)) gone) (drop (length (places_in s)) (slice_set aims p (Some to))) ls in x) ≡ left (rank gone p) (l ∷ now_of (drop (length (places_in s)) gone) (drop (length (places_in s)) aims) ls)
+      → (let x : List ListingLine = l ∷ now_of (drop (length (places_in s)) gone) (drop (length (places_in s)) (slice_set aims p (Some to))) ls in x) ≡ left (rank gone p) (l ∷ now_of (drop (length (places_in s)) gone) (drop (length (places_in s)) aims) ls)
   other_turned l s ls e other rec gone aims p o k h f =
       let n : ℕ = length (places_in s) in
       let b = op_behind s (places_of ls) p other f in
@@ -91,22 +91,22 @@ module _ (to : Name) where
       let is : p ≡ n + q = b.1 in
       let r = rank_drop n gone q p is (others_kept s (places_of ls) gone other o) in
       let short : q < length (drop n aims) = (let d = length_drop n aims in omega arith) in
-      ap (λ x. (let y : List Line = l ∷ now_of (drop n gone) x ls in y)) (drop_set n aims q p (Some to) is)
-      ∙ ap (λ x. (let y : List Line = l ∷ x in y)) (rec (drop n gone) (drop n aims) q (ops_behind (places_in s) (places_of ls) gone o) (gone_drop n gone q p is ∙ k) short b.2)
+      ap (λ x. (let y : List ListingLine = l ∷ now_of (drop n gone) x ls in y)) (drop_set n aims q p (Some to) is)
+      ∙ ap (λ x. (let y : List ListingLine = l ∷ x in y)) (rec (drop n gone) (drop n aims) q (ops_behind (places_in s) (places_of ls) gone o) (gone_drop n gone q p is ∙ k) short b.2)
       ∙ sym (past_other l s (rank gone p) (rank (drop n gone) q) (now_of (drop n gone) (drop n aims) ls) e other r)
 
-  line_turned : (l : Line) (s : Statement) (ls : List Line) → l.statement ≡ s → TurnedRec ls → (gone : List Bool) (aims : List (Option Name)) (p : ℕ) → OpsGone gone (places_in s ++ places_of ls) → is_gone gone p ≡ false → p < length aims
+  line_turned : (l : ListingLine) (s : Statement) (ls : List ListingLine) → l.statement ≡ s → TurnedRec ls → (gone : List Bool) (aims : List (Option Name)) (p : ℕ) → OpsGone gone (places_in s ++ places_of ls) → is_gone gone p ≡ false → p < length aims
       → is_op_place (slice_get (places_in s ++ places_of ls) p) ≡ true
       → (if is_op s then line_now (is_gone gone 0) (aim_at (slice_set aims p (Some to)) 0) l ++ now_of (drop 1 gone) (drop 1 (slice_set aims p (Some to))) ls
       else l ∷ now_of (drop (length (places_in s)) gone) (drop (length (places_in s)) (slice_set aims p (Some to))) ls)
       ≡ left (rank gone p) (if is_op s then line_now (is_gone gone 0) (aim_at aims 0) l ++ now_of (drop 1 gone) (drop 1 aims) ls else l ∷ now_of (drop (length (places_in s)) gone) (drop (length (places_in s)) aims) ls)
-  line_turned l (Runs i m) ls e rec gone aims p o k h f = op_turned l i m ls e rec gone aims p (is_gone gone 0) refl o k h f
+  line_turned l (Instruction i m) ls e rec gone aims p o k h f = op_turned l i m ls e rec gone aims p (is_gone gone 0) refl o k h f
   line_turned l Nothing ls e rec gone aims p o k h f = other_turned l Nothing ls e refl rec gone aims p o k h f
   line_turned l (Words vs) ls e rec gone aims p o k h f = other_turned l (Words vs) ls e refl rec gone aims p o k h f
   line_turned l (Aligns size most) ls e rec gone aims p o k h f = other_turned l (Aligns size most) ls e refl rec gone aims p o k h f
   line_turned l (Sets name address) ls e rec gone aims p o k h f = other_turned l (Sets name address) ls e refl rec gone aims p o k h f
 
   -- the lines now with the branch at a kept place going elsewhere
-  pub lines_turned : (ls : List Line) → TurnedRec ls
+  pub lines_turned : (ls : List ListingLine) → TurnedRec ls
   lines_turned [] gone aims p o k h f = absurd (cc)
   lines_turned (l ∷ ls) gone aims p o k h f = line_turned l l.statement ls refl (lines_turned ls) gone aims p o k h f

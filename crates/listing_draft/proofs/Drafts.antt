@@ -7,7 +7,7 @@ use Rattle.std.proofs.lemmas.Option.{same_Some}
 use Rattle.thumb_model.specs.Layout.{is_among}
 use Rattle.std.specs.declared.vec.Vec.{Vec}
 use Rattle.std.specs.declared.alloc.Global.{Global}
-use Rattle.thumb_model.specs.Listing.{Name, Line, Place, Op, Word, code_of, is_op_place, labels_from, place_of, places_in, places_of}
+use Rattle.thumb_model.specs.Listing.{Name, ListingLine, Place, Op, Word, code_of, is_op_place, labels_from, place_of, places_in, places_of}
 use Rattle.thumb_model.specs.Steps.{label_place}
 use Rattle.thumb_model.specs.Replaced.{is_op, replaced_lines}
 use Rattle.kept_places.specs.Marks.{is_gone, rank, IsNode, IsStart}
@@ -18,7 +18,7 @@ use Rattle.listing_parser.proofs.LabelLemmas.{code_place, label_at, one_label}
 use Rattle.listing_parser.proofs.ReplaceLemmas.{aimed_as_many, aimed_once, still_few, still_once}
 use Rattle.listing_parser.proofs.TwiceLemmas.{once_none}
 use Rattle.listing_draft.specs.Drafted.{aim_at, instr_in, line_now, lines_now, name_in, now_of, stands, unchanged, Drafted}
-use Rattle.listing_draft.specs.Held.{names_of, IsDraft}
+use Rattle.listing_draft.specs.Invariant.{names_of, IsDraft}
 use Rattle.listing_draft.proofs.Stands.{aimed_to, same_op, stands_at}
 use Rattle.listing_draft.proofs.Labels.{place_ranked}
 use Rattle.listing_draft.proofs.Removed.{lines_left}
@@ -72,7 +72,7 @@ none_at zero p = refl
 none_at (suc m) zero = refl
 none_at (suc m) (suc p) = none_at m p
 
-pub all_same : (m n : ℕ) (ls : List Line) → now_of (replicate m false) (replicate n None) ls ≡ ls
+pub all_same : (m n : ℕ) (ls : List ListingLine) → now_of (replicate m false) (replicate n None) ls ≡ ls
 all_same m n [] = refl
 all_same m n (l ∷ ls) =
     let k : ℕ = length (places_in l.statement) in
@@ -82,23 +82,23 @@ all_same m n (l ∷ ls) =
           ∙ ap (λ (a : Option Name). line_now false a l ++ now_of (drop 1 (replicate m false)) (drop 1 (replicate n None)) ls) (none_at n 0)
           ∙ ap (λ x. l ∷ now_of x (drop 1 (replicate n None)) ls) (drop_marks 1 m)
           ∙ ap (λ x. l ∷ now_of (replicate (m - 1) false) x ls) (drop_none 1 n)
-          ∙ ap (λ (xs : List Line). l ∷ xs) (all_same (m - 1) (n - 1) ls)
+          ∙ ap (λ (xs : List ListingLine). l ∷ xs) (all_same (m - 1) (n - 1) ls)
       | false ↦
           ap (λ x. l ∷ now_of x (drop k (replicate n None)) ls) (drop_marks k m)
           ∙ ap (λ x. l ∷ now_of (replicate (m - k) false) x ls) (drop_none k n)
-          ∙ ap (λ (xs : List Line). l ∷ xs) (all_same (m - k) (n - k) ls)
+          ∙ ap (λ (xs : List ListingLine). l ∷ xs) (all_same (m - k) (n - k) ls)
     ]
 
-pub lines_unchanged : (ls : List Line) → lines_now (unchanged ls) ≡ ls
+pub lines_unchanged : (ls : List ListingLine) → lines_now (unchanged ls) ≡ ls
 lines_unchanged ls = all_same (length (places_of ls)) (length (places_of ls)) ls
 
-pub first_draft : (ls : List Line) → DefineOnce ls → length (places_of ls) < 2 ^ 32 → IsDraft (unchanged ls)
+pub first_draft : (ls : List ListingLine) → DefineOnce ls → length (places_of ls) < 2 ^ 32 → IsDraft (unchanged ls)
 first_draft ls once few = record {
   marks = many (length (places_of ls)) false;
   labels = many (length (places_of ls)) None;
   ops = λ p e. let no : true ≡ false = sym e ∙ unmarked (length (places_of ls)) p in absurd (cc);
   once = subst DefineOnce (sym (lines_unchanged ls)) once;
-  few = subst (λ (l : List Line). length (places_of l) < 2 ^ 32) (sym (lines_unchanged ls)) few;
+  few = subst (λ (l : List ListingLine). length (places_of l) < 2 ^ 32) (sym (lines_unchanged ls)) few;
 }
 
 -- ---- what stands at a place ----
@@ -161,7 +161,7 @@ still_draft d p h l k e =
         | inr ne ↦ h.ops q (sym (marked_other d.gone p q true ne) ∙ g)
       ];
       once = subst DefineOnce (sym lines) (still_once own_line (rank d.gone p) 1 [] (lines_now d) h.once);
-      few = subst (λ (x : List Line). length (places_of x) < 2 ^ 32) (sym lines) (still_few own_line (rank d.gone p) 1 [] (lines_now d) (omega arith) (omega arith) here h.few);
+      few = subst (λ (x : List ListingLine). length (places_of x) < 2 ^ 32) (sym lines) (still_few own_line (rank d.gone p) 1 [] (lines_now d) (omega arith) (omega arith) here h.few);
     }
 
 pub lines_aimed : (d : Drafted) (p : ℕ) (name : Name) → IsDraft d → p < length d.gone → is_gone d.gone p ≡ false → is_op_place (stands d p) ≡ true
@@ -176,7 +176,7 @@ aimed_draft d p name h l k e =
       labels = set_length d.aims p (Some name) ∙ h.labels;
       ops = h.ops;
       once = subst DefineOnce (sym lines) (aimed_once line_mentioning (rank d.gone p) name (lines_now d) h.once);
-      few = let f = h.few in let s = aimed_as_many line_mentioning (rank d.gone p) name (lines_now d) in let t = ap (λ (x : List Line). length (places_of x)) lines in omega arith;
+      few = let f = h.few in let s = aimed_as_many line_mentioning (rank d.gone p) name (lines_now d) in let t = ap (λ (x : List ListingLine). length (places_of x)) lines in omega arith;
     }
 
 -- ---- the kept place before ----
@@ -196,38 +196,38 @@ kept_before gone q s p h e =
 -- ---- what is held ----
 
 -- the fields of a draft's struct, as contracts see it
-abbrev pub drafted : List Line → List Bool → List (Option Name) → Drafted
+abbrev pub drafted : List ListingLine → List Bool → List (Option Name) → Drafted
 drafted given gone aims = record { given = given; gone = gone; aims = aims }
 
-pub held_removed : (given : List Line) (gone new : List Bool) (aims : List (Option Name)) (now : Drafted) (p : ℕ) → drafted given gone aims ≡ now → IsDraft (drafted given gone aims) → p < length now.gone → is_gone now.gone p ≡ false → is_op_place (stands now p) ≡ true
+pub draft_after_removal : (given : List ListingLine) (gone new : List Bool) (aims : List (Option Name)) (now : Drafted) (p : ℕ) → drafted given gone aims ≡ now → IsDraft (drafted given gone aims) → p < length now.gone → is_gone now.gone p ≡ false → is_op_place (stands now p) ≡ true
     → new ≡ slice_set gone p true → IsDraft (drafted given new aims)
-held_removed given gone new aims now p v h =
+draft_after_removal given gone new aims now p v h =
     subst (λ (d : Drafted). p < length d.gone → is_gone d.gone p ≡ false → is_op_place (stands d p) ≡ true → new ≡ slice_set gone p true → IsDraft (drafted given new aims)) v
     (λ l k e s. subst (λ g. IsDraft (drafted given g aims)) (sym s) (still_draft (drafted given gone aims) p h l k e))
 
-pub lines_held_removed : (given : List Line) (gone new : List Bool) (aims : List (Option Name)) (now : Drafted) (p : ℕ) → drafted given gone aims ≡ now → IsDraft (drafted given gone aims) → p < length now.gone → is_gone now.gone p ≡ false → is_op_place (stands now p) ≡ true
+pub lines_after_removal : (given : List ListingLine) (gone new : List Bool) (aims : List (Option Name)) (now : Drafted) (p : ℕ) → drafted given gone aims ≡ now → IsDraft (drafted given gone aims) → p < length now.gone → is_gone now.gone p ≡ false → is_op_place (stands now p) ≡ true
     → new ≡ slice_set gone p true → now_of new aims given ≡ replaced_lines own_line (rank now.gone p) 1 [] (lines_now now)
-lines_held_removed given gone new aims now p v h =
+lines_after_removal given gone new aims now p v h =
     subst (λ (d : Drafted). p < length d.gone → is_gone d.gone p ≡ false → is_op_place (stands d p) ≡ true → new ≡ slice_set gone p true → now_of new aims given ≡ replaced_lines own_line (rank d.gone p) 1 [] (lines_now d)) v
     (λ l k e s. ap (λ g. now_of g aims given) s ∙ lines_removed (drafted given gone aims) p h l k e)
 
-pub held_aimed : (given : List Line) (gone : List Bool) (aims new : List (Option Name)) (now : Drafted) (p : ℕ) (name : Name) → drafted given gone aims ≡ now → IsDraft (drafted given gone aims) → p < length now.gone → is_gone now.gone p ≡ false → is_op_place (stands now p) ≡ true
+pub draft_after_aim : (given : List ListingLine) (gone : List Bool) (aims new : List (Option Name)) (now : Drafted) (p : ℕ) (name : Name) → drafted given gone aims ≡ now → IsDraft (drafted given gone aims) → p < length now.gone → is_gone now.gone p ≡ false → is_op_place (stands now p) ≡ true
     → new ≡ slice_set aims p (Some name) → IsDraft (drafted given gone new)
-held_aimed given gone aims new now p name v h =
+draft_after_aim given gone aims new now p name v h =
     subst (λ (d : Drafted). p < length d.gone → is_gone d.gone p ≡ false → is_op_place (stands d p) ≡ true → new ≡ slice_set aims p (Some name) → IsDraft (drafted given gone new)) v
     (λ l k e s. subst (λ x. IsDraft (drafted given gone x)) (sym s) (aimed_draft (drafted given gone aims) p name h l k e))
 
-pub lines_held_aimed : (given : List Line) (gone : List Bool) (aims new : List (Option Name)) (now : Drafted) (p : ℕ) (name : Name) → drafted given gone aims ≡ now → IsDraft (drafted given gone aims) → p < length now.gone → is_gone now.gone p ≡ false → is_op_place (stands now p) ≡ true
+pub lines_after_aim : (given : List ListingLine) (gone : List Bool) (aims new : List (Option Name)) (now : Drafted) (p : ℕ) (name : Name) → drafted given gone aims ≡ now → IsDraft (drafted given gone aims) → p < length now.gone → is_gone now.gone p ≡ false → is_op_place (stands now p) ≡ true
     → new ≡ slice_set aims p (Some name) → now_of gone new given ≡ aimed_lines line_mentioning (rank now.gone p) name (lines_now now)
-lines_held_aimed given gone aims new now p name v h =
+lines_after_aim given gone aims new now p name v h =
     subst (λ (d : Drafted). p < length d.gone → is_gone d.gone p ≡ false → is_op_place (stands d p) ≡ true → new ≡ slice_set aims p (Some name) → now_of gone new given ≡ aimed_lines line_mentioning (rank d.gone p) name (lines_now d)) v
     (λ l k e s. ap (λ x. now_of gone x given) s ∙ lines_aimed (drafted given gone aims) p name h l k e)
 
-pub held_instr : (given : List Line) (gone : List Bool) (aims : List (Option Name)) (now : Drafted) (p : ℕ) → drafted given gone aims ≡ now → IsDraft (drafted given gone aims) → is_gone now.gone p ≡ false → instr_in (slice_get (places_of given) p) ≡ instr_in (stands now p)
-held_instr given gone aims now p v h = subst (λ (d : Drafted). is_gone d.gone p ≡ false → instr_in (slice_get (places_of given) p) ≡ instr_in (stands d p)) v (λ k. instr_at (drafted given gone aims) p h k)
+pub instr_as_given : (given : List ListingLine) (gone : List Bool) (aims : List (Option Name)) (now : Drafted) (p : ℕ) → drafted given gone aims ≡ now → IsDraft (drafted given gone aims) → is_gone now.gone p ≡ false → instr_in (slice_get (places_of given) p) ≡ instr_in (stands now p)
+instr_as_given given gone aims now p v h = subst (λ (d : Drafted). is_gone d.gone p ≡ false → instr_in (slice_get (places_of given) p) ≡ instr_in (stands d p)) v (λ k. instr_at (drafted given gone aims) p h k)
 
-pub held_name : (given : List Line) (gone : List Bool) (aims : List (Option Name)) (now : Drafted) (p : ℕ) → drafted given gone aims ≡ now → IsDraft (drafted given gone aims) → is_gone now.gone p ≡ false → name_in (aimed_to (slice_get (places_of given) p) (aim_at aims p)) ≡ name_in (stands now p)
-held_name given gone aims now p v h = subst (λ (d : Drafted). is_gone d.gone p ≡ false → name_in (aimed_to (slice_get (places_of given) p) (aim_at aims p)) ≡ name_in (stands d p)) v (λ k. name_at (drafted given gone aims) p h k)
+pub name_as_aimed : (given : List ListingLine) (gone : List Bool) (aims : List (Option Name)) (now : Drafted) (p : ℕ) → drafted given gone aims ≡ now → IsDraft (drafted given gone aims) → is_gone now.gone p ≡ false → name_in (aimed_to (slice_get (places_of given) p) (aim_at aims p)) ≡ name_in (stands now p)
+name_as_aimed given gone aims now p v h = subst (λ (d : Drafted). is_gone d.gone p ≡ false → name_in (aimed_to (slice_get (places_of given) p) (aim_at aims p)) ≡ name_in (stands d p)) v (λ k. name_at (drafted given gone aims) p h k)
 
 pub aim_names : (os : List (Option (Vec ℕ Global))) (p : ℕ) (o : Option (Vec ℕ Global)) → slice_get os p ≡ Some o → aim_at (names_of os) p ≡ option_map (λ name. name.items) o
 aim_names [] p o e = absurd (cc)
@@ -249,9 +249,9 @@ name_same None = refl
 name_same (Some (Op i m)) = refl
 name_same (Some (Word v)) = refl
 
-module _ (given : List Line) (gone : List Bool) (os : List (Option (Vec ℕ Global))) (now : Drafted) (p : ℕ) (v : drafted given gone (names_of os) ≡ now) (h : IsDraft (drafted given gone (names_of os))) (k : is_gone now.gone p ≡ false) where
+module _ (given : List ListingLine) (gone : List Bool) (os : List (Option (Vec ℕ Global))) (now : Drafted) (p : ℕ) (v : drafted given gone (names_of os) ≡ now) (h : IsDraft (drafted given gone (names_of os))) (k : is_gone now.gone p ≡ false) where
   seen : (a : Option Name) → aim_at (names_of os) p ≡ a → name_in (aimed_to (slice_get (places_of given) p) a) ≡ name_in (stands now p)
-  seen a e = ap (λ x. name_in (aimed_to (slice_get (places_of given) p) x)) (sym e) ∙ held_name given gone (names_of os) now p v h k
+  seen a e = ap (λ x. name_in (aimed_to (slice_get (places_of given) p) x)) (sym e) ∙ name_as_aimed given gone (names_of os) now p v h k
 
   pub own_name : (name : Vec ℕ Global) → slice_get os p ≡ Some (Some name) → is_op_place (slice_get (places_of given) p) ≡ true → Some name.items ≡ name_in (stands now p)
   own_name name e op = sym (name_turned (slice_get (places_of given) p) name.items op) ∙ seen (Some name.items) (aim_names os p (Some name) e)
@@ -268,7 +268,7 @@ either : (b : Bool) (r p : ℕ) (o : Option ℕ) → (if b then Some r else o) �
 either true r p o e = inl (same_Some r p e)
 either false r p o e = inr e
 
-pub label_within : (name : Name) (r : ℕ) (ls : List Line) (p : ℕ) → label_place name (labels_from r ls) ≡ Some p → p ≤ r + length (places_of ls)
+pub label_within : (name : Name) (r : ℕ) (ls : List ListingLine) (p : ℕ) → label_place name (labels_from r ls) ≡ Some p → p ≤ r + length (places_of ls)
 label_within name r [] p e = absurd (cc)
 label_within name r (l ∷ ls) p e =
     let n : ℕ = length (places_in l.statement) in
@@ -311,10 +311,10 @@ op_within d q h e = elim (cases_lt q (length d.gone)) [
 
 -- ---- a new draft ----
 
-pub new_draft : (ls : List Line) (n : ℕ) (gone : List Bool) (aims : List (Option Name)) → n ≡ length (places_of ls) → n < 2 ^ 32 → gone ≡ replicate n false → aims ≡ replicate n None → DefineOnce ls → IsDraft (drafted ls gone aims)
+pub new_draft : (ls : List ListingLine) (n : ℕ) (gone : List Bool) (aims : List (Option Name)) → n ≡ length (places_of ls) → n < 2 ^ 32 → gone ≡ replicate n false → aims ≡ replicate n None → DefineOnce ls → IsDraft (drafted ls gone aims)
 new_draft ls n gone aims e f g a once =
     subst (λ x. IsDraft (drafted ls x aims)) (sym (g ∙ ap (λ k. replicate k false) e))
     (subst (λ y. IsDraft (drafted ls (replicate (length (places_of ls)) false) y)) (sym (a ∙ ap (λ k. replicate k None) e)) (first_draft ls once (omega (arith, e, f))))
 
-pub new_lines : (ls : List Line) (n : ℕ) (gone : List Bool) (aims : List (Option Name)) → gone ≡ replicate n false → aims ≡ replicate n None → now_of gone aims ls ≡ ls
+pub new_lines : (ls : List ListingLine) (n : ℕ) (gone : List Bool) (aims : List (Option Name)) → gone ≡ replicate n false → aims ≡ replicate n None → now_of gone aims ls ≡ ls
 new_lines ls n gone aims g a = ap (λ x. now_of x aims ls) g ∙ ap (λ y. now_of (replicate n false) y ls) a ∙ all_same n n ls

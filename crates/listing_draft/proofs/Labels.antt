@@ -3,7 +3,7 @@ use Rattle.std.proofs.Common.{◌≡◌, ◌∙◌, ℕ, suc, ◌+◌, Bool, tru
 use Rattle.std.specs.Prelude.{option_map}
 use Rattle.std.specs.Str.{bytes_eq}
 use Rattle.thumb_instr.specs.declared.instr.Instr.{Instr}
-use Rattle.thumb_model.specs.Listing.{Name, Mention, Statement, Nothing, Runs, Words, Aligns, Sets, Line, Op, Label, places_in, places_of, labels_at, labels_from}
+use Rattle.thumb_model.specs.Listing.{Name, Mention, Statement, Nothing, Instruction, Words, Aligns, Sets, ListingLine, Op, Label, places_in, places_of, labels_at, labels_from}
 use Rattle.thumb_model.specs.Steps.{label_place}
 use Rattle.thumb_model.specs.Replaced.{is_op, labels_kept}
 use Rattle.kept_places.specs.Marks.{is_gone, rank}
@@ -27,25 +27,25 @@ put_at f p r (n ∷ ns) e = ap (λ k. (let x : Label = record { name = n; place 
 
 -- ---- the labels of an instruction's line ----
 
-kept_labels : (r : ℕ) (l : Line) (ns : List Name) (rest : List Line) → labels_from r (labels_kept l ns ++ rest) ≡ labels_at r ns ++ labels_from r rest
+kept_labels : (r : ℕ) (l : ListingLine) (ns : List Name) (rest : List ListingLine) → labels_from r (labels_kept l ns ++ rest) ≡ labels_at r ns ++ labels_from r rest
 kept_labels r l [] rest = refl
 kept_labels r l (n ∷ ns) rest = ap (λ k. labels_at r (n ∷ ns) ++ labels_from k rest) (let e : r + 0 ≡ r = omega arith in e)
 
-branch_labels : (r : ℕ) (label : Name) (l : Line) (ns : List Name) (i : Instr) (m : Option Mention) (rest : List Line) → l.statement ≡ Runs i m
+branch_labels : (r : ℕ) (label : Name) (l : ListingLine) (ns : List Name) (i : Instr) (m : Option Mention) (rest : List ListingLine) → l.statement ≡ Instruction i m
     → labels_from r ((labels_kept l ns ++ (aimed_line line_mentioning label l ∷ [])) ++ rest) ≡ labels_at r ns ++ labels_from (r + 1) rest
 branch_labels r label l [] i m rest e = rw e refl
 branch_labels r label l (n ∷ ns) i m rest e = rw e (ap (λ k. labels_at r (n ∷ ns) ++ labels_from (k + 1) rest) (let e : r + 0 ≡ r = omega arith in e))
 
-op_labels : (r : ℕ) (a : Option Name) (l : Line) (i : Instr) (m : Option Mention) (rest : List Line) → l.statement ≡ Runs i m → labels_from r (line_now false a l ++ rest) ≡ labels_at r l.names ++ labels_from (r + 1) rest
+op_labels : (r : ℕ) (a : Option Name) (l : ListingLine) (i : Instr) (m : Option Mention) (rest : List ListingLine) → l.statement ≡ Instruction i m → labels_from r (line_now false a l ++ rest) ≡ labels_at r l.names ++ labels_from (r + 1) rest
 op_labels r None l i m rest e = rw e refl
 op_labels r (Some label) l i m rest e = branch_labels r label l l.names i m rest e
 
 -- ---- all labels ----
 
-abbrev Put : List Line → List Line → (ℕ → ℕ) → ℕ → ℕ → Type 0
+abbrev Put : List ListingLine → List ListingLine → (ℕ → ℕ) → ℕ → ℕ → Type 0
 Put new ls f p r = labels_from r new ≡ map (put_by f) (labels_from p ls)
 
-abbrev LabelsRec : List Line → Type 0
+abbrev LabelsRec : List ListingLine → Type 0
 LabelsRec ls = (gone : List Bool) (aims : List (Option Name)) (f : ℕ → ℕ) (p r : ℕ) → ((k : ℕ) → f (p + k) ≡ r + rank gone k) → OpsGone gone (places_of ls) → labels_from r (now_of gone aims ls) ≡ map (put_by f) (labels_from p ls)
 
 here : (f : ℕ → ℕ) (p r : ℕ) (gone : List Bool) → ((k : ℕ) → f (p + k) ≡ r + rank gone k) → f p ≡ r
@@ -56,13 +56,13 @@ here f p r gone h =
     omega arith
 
 -- behind a line
-joined : (f : ℕ → ℕ) (p r q : ℕ) (ns : List Name) (xs : List Label) (ls : List Line) → f p ≡ r → xs ≡ map (put_by f) (labels_from q ls) → labels_at r ns ++ xs ≡ map (put_by f) (labels_at p ns ++ labels_from q ls)
+joined : (f : ℕ → ℕ) (p r q : ℕ) (ns : List Name) (xs : List Label) (ls : List ListingLine) → f p ≡ r → xs ≡ map (put_by f) (labels_from q ls) → labels_at r ns ++ xs ≡ map (put_by f) (labels_at p ns ++ labels_from q ls)
 joined f p r q ns xs ls e h =
     ap (λ (l : List Label). l ++ xs) (put_at f p r ns e)
     ∙ ap (λ (l : List Label). map (put_by f) (labels_at p ns) ++ l) h
     ∙ sym (map_both (put_by f) (labels_at p ns) (labels_from q ls))
 
-op_put : (l : Line) (i : Instr) (m : Option Mention) (ls : List Line) → l.statement ≡ Runs i m → LabelsRec ls → (gone : List Bool) (aims : List (Option Name)) (f : ℕ → ℕ) (p r : ℕ) (g : Bool) → is_gone gone 0 ≡ g
+op_put : (l : ListingLine) (i : Instr) (m : Option Mention) (ls : List ListingLine) → l.statement ≡ Instruction i m → LabelsRec ls → (gone : List Bool) (aims : List (Option Name)) (f : ℕ → ℕ) (p r : ℕ) (g : Bool) → is_gone gone 0 ≡ g
     → ((k : ℕ) → f (p + k) ≡ r + rank gone k) → OpsGone gone (Op i m ∷ places_of ls)
     → labels_from r (line_now g (aim_at aims 0) l ++ now_of (drop 1 gone) (drop 1 aims) ls) ≡ map (put_by f) (labels_at p l.names ++ labels_from (p + 1) ls)
 op_put l i m ls e rec gone aims f p r true g h o =
@@ -84,7 +84,7 @@ op_put l i m ls e rec gone aims f p r false g h o =
     omega arith)
     (ops_behind (Op i m ∷ []) (places_of ls) gone o))
 
-other_put : (l : Line) (s : Statement) (ls : List Line) → is_op s ≡ false → LabelsRec ls → (gone : List Bool) (aims : List (Option Name)) (f : ℕ → ℕ) (p r : ℕ)
+other_put : (l : ListingLine) (s : Statement) (ls : List ListingLine) → is_op s ≡ false → LabelsRec ls → (gone : List Bool) (aims : List (Option Name)) (f : ℕ → ℕ) (p r : ℕ)
     → ((k : ℕ) → f (p + k) ≡ r + rank gone k) → OpsGone gone (places_in s ++ places_of ls)
     → labels_at r l.names ++ labels_from (r + length (places_in s)) (now_of (drop (length (places_in s)) gone) (drop (length (places_in s)) aims) ls) ≡ map (put_by f) (labels_at p l.names ++ labels_from (p + length (places_in s)) ls)
 other_put l s ls e rec gone aims f p r h o =
@@ -97,20 +97,20 @@ other_put l s ls e rec gone aims f p r h o =
     omega arith)
     (ops_behind (places_in s) (places_of ls) gone o))
 
-line_put : (l : Line) (s : Statement) (ls : List Line) → l.statement ≡ s → LabelsRec ls → (gone : List Bool) (aims : List (Option Name)) (f : ℕ → ℕ) (p r : ℕ) → ((k : ℕ) → f (p + k) ≡ r + rank gone k) → OpsGone gone (places_in s ++ places_of ls)
+line_put : (l : ListingLine) (s : Statement) (ls : List ListingLine) → l.statement ≡ s → LabelsRec ls → (gone : List Bool) (aims : List (Option Name)) (f : ℕ → ℕ) (p r : ℕ) → ((k : ℕ) → f (p + k) ≡ r + rank gone k) → OpsGone gone (places_in s ++ places_of ls)
     → labels_from r (if is_op s then line_now (is_gone gone 0) (aim_at aims 0) l ++ now_of (drop 1 gone) (drop 1 aims) ls else l ∷ now_of (drop (length (places_in s)) gone) (drop (length (places_in s)) aims) ls)
     ≡ map (put_by f) (labels_at p l.names ++ labels_from (p + length (places_in s)) ls)
-line_put l (Runs i m) ls e rec gone aims f p r h o = op_put l i m ls e rec gone aims f p r (is_gone gone 0) refl h o
+line_put l (Instruction i m) ls e rec gone aims f p r h o = op_put l i m ls e rec gone aims f p r (is_gone gone 0) refl h o
 line_put l Nothing ls e rec gone aims f p r h o = rw e (other_put l Nothing ls refl rec gone aims f p r h o)
 line_put l (Words vs) ls e rec gone aims f p r h o = rw e (other_put l (Words vs) ls refl rec gone aims f p r h o)
 line_put l (Aligns size most) ls e rec gone aims f p r h o = rw e (other_put l (Aligns size most) ls refl rec gone aims f p r h o)
 line_put l (Sets name address) ls e rec gone aims f p r h o = rw e (other_put l (Sets name address) ls refl rec gone aims f p r h o)
 
-pub labels_put : (ls : List Line) → LabelsRec ls
+pub labels_put : (ls : List ListingLine) → LabelsRec ls
 labels_put [] gone aims f p r h o = refl
 labels_put (l ∷ ls) gone aims f p r h o = line_put l l.statement ls refl (labels_put ls) gone aims f p r h o
 
-pub labels_ranked : (ls : List Line) (gone : List Bool) (aims : List (Option Name)) → OpsGone gone (places_of ls) → labels_from 0 (now_of gone aims ls) ≡ map (put_by (rank gone)) (labels_from 0 ls)
+pub labels_ranked : (ls : List ListingLine) (gone : List Bool) (aims : List (Option Name)) → OpsGone gone (places_of ls) → labels_from 0 (now_of gone aims ls) ≡ map (put_by (rank gone)) (labels_from 0 ls)
 labels_ranked ls gone aims o = labels_put ls gone aims (rank gone) 0 0 (λ k. let a : rank gone (0 + k) ≡ rank gone k = ap (rank gone) (let e : 0 + k ≡ k = omega arith in e) in omega arith) o
 
 -- ---- where a name leads ----
@@ -122,5 +122,5 @@ place_put f name (l ∷ ls) = elim (bytes_eq name l.name) as (λ b. (if b then S
   | false ↦ place_put f name ls
 ]
 
-pub place_ranked : (ls : List Line) (gone : List Bool) (aims : List (Option Name)) (name : Name) → OpsGone gone (places_of ls) → label_place name (labels_from 0 (now_of gone aims ls)) ≡ option_map (rank gone) (label_place name (labels_from 0 ls))
+pub place_ranked : (ls : List ListingLine) (gone : List Bool) (aims : List (Option Name)) (name : Name) → OpsGone gone (places_of ls) → label_place name (labels_from 0 (now_of gone aims ls)) ≡ option_map (rank gone) (label_place name (labels_from 0 ls))
 place_ranked ls gone aims name o = ap (label_place name) (labels_ranked ls gone aims o) ∙ place_put (rank gone) name (labels_from 0 ls)

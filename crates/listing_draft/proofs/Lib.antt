@@ -4,5 +4,5 @@ pub mod Labels
 pub mod Removed
 pub mod Aimed
 pub mod Drafts
-pub mod Prints
+pub mod Emits
 pub mod Standing

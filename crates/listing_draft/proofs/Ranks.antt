@@ -2,7 +2,7 @@
 use Rattle.std.proofs.Common.{◌≡◌, ◌∙◌, inl, inr, ℕ, zero, suc, ◌+◌, ◌-◌, ◌<◌, Bool, true, false, List, [], ◌∷◌, ◌++◌, length, drop, map, Option, refl, sym, ap, arith}
 use Rattle.std.specs.Prelude.{slice_get, slice_set}
 use Rattle.std.proofs.lemmas.Bool.{cases_Bool, cases_lt}
-use Rattle.thumb_model.specs.Listing.{Name, Value, Statement, Nothing, Runs, Words, Aligns, Sets, Place, Word, places_in, is_op_place}
+use Rattle.thumb_model.specs.Listing.{Name, Value, Statement, Nothing, Instruction, Words, Aligns, Sets, Place, Word, places_in, is_op_place}
 use Rattle.thumb_model.specs.Replaced.{is_op}
 use Rattle.thumb_model.proofs.Lists.{get_back}
 use Rattle.kept_places.specs.Marks.{is_gone, rank}
@@ -64,7 +64,7 @@ word_first (v ∷ vs) ys (suc k) h = word_first vs ys k (omega arith)
 -- what is no instruction's is no instruction
 no_op_first : (s : Statement) (ys : List Place) → is_op s ≡ false → (k : ℕ) → k < length (places_in s) → is_op_place (slice_get (places_in s ++ ys) k) ≡ false
 no_op_first Nothing ys e k h = absurd (omega arith)
-no_op_first (Runs i m) ys e k h = absurd (cc)
+no_op_first (Instruction i m) ys e k h = absurd (cc)
 no_op_first (Words vs) ys e k h = word_first vs ys k h
 no_op_first (Aligns size most) ys e k h = absurd (omega arith)
 no_op_first (Sets name address) ys e k h = absurd (omega arith)

@@ -3,7 +3,7 @@ use Rattle.std.proofs.Common.{◌≡◌, ◌∙◌, inl, inr, ℕ, zero, suc, �
 use Rattle.std.specs.Prelude.{slice_get}
 use Rattle.std.proofs.lemmas.Bool.{cases_lt}
 use Rattle.thumb_instr.specs.declared.instr.Instr.{Instr}
-use Rattle.thumb_model.specs.Listing.{Name, Mention, Value, Statement, Nothing, Runs, Words, Aligns, Sets, Line, Place, Op, Word, places_in, places_of, is_op_place}
+use Rattle.thumb_model.specs.Listing.{Name, Mention, Value, Statement, Nothing, Instruction, Words, Aligns, Sets, ListingLine, Place, Op, Word, places_in, places_of, is_op_place}
 use Rattle.thumb_model.specs.Replaced.{is_op, labels_kept}
 use Rattle.thumb_model.proofs.Lists.{get_back, get_front}
 use Rattle.kept_places.specs.Marks.{is_gone, rank}
@@ -32,21 +32,21 @@ same_op (Some (Word v)) a = refl
 
 -- ---- the places of an instruction's line ----
 
-branch_places : (label : Name) (l : Line) (ns : List Name) (i : Instr) (m : Option Mention) (rest : List Line) → l.statement ≡ Runs i m
+branch_places : (label : Name) (l : ListingLine) (ns : List Name) (i : Instr) (m : Option Mention) (rest : List ListingLine) → l.statement ≡ Instruction i m
     → places_of ((labels_kept l ns ++ (aimed_line line_mentioning label l ∷ [])) ++ rest) ≡ op_now (Some label) i m ∷ places_of rest
 branch_places label l [] i m rest e = rw e refl
 branch_places label l (n ∷ ns) i m rest e = rw e refl
 
-pub kept_places : (a : Option Name) (l : Line) (i : Instr) (m : Option Mention) (rest : List Line) → l.statement ≡ Runs i m → places_of (line_now false a l ++ rest) ≡ op_now a i m ∷ places_of rest
+pub kept_places : (a : Option Name) (l : ListingLine) (i : Instr) (m : Option Mention) (rest : List ListingLine) → l.statement ≡ Instruction i m → places_of (line_now false a l ++ rest) ≡ op_now a i m ∷ places_of rest
 kept_places None l i m rest e = rw e refl
 kept_places (Some label) l i m rest e = branch_places label l l.names i m rest e
 
 -- ---- all places ----
 
-abbrev StandsRec : List Line → Type 0
+abbrev StandsRec : List ListingLine → Type 0
 StandsRec ls = (gone : List Bool) (aims : List (Option Name)) (p : ℕ) → OpsGone gone (places_of ls) → is_gone gone p ≡ false → slice_get (places_of (now_of gone aims ls)) (rank gone p) ≡ aimed_to (slice_get (places_of ls) p) (aim_at aims p)
 
-op_stands : (l : Line) (i : Instr) (m : Option Mention) (ls : List Line) → l.statement ≡ Runs i m → StandsRec ls → (gone : List Bool) (aims : List (Option Name)) (p : ℕ) (g : Bool) → is_gone gone 0 ≡ g → OpsGone gone (Op i m ∷ places_of ls) → is_gone gone p ≡ false
+op_stands : (l : ListingLine) (i : Instr) (m : Option Mention) (ls : List ListingLine) → l.statement ≡ Instruction i m → StandsRec ls → (gone : List Bool) (aims : List (Option Name)) (p : ℕ) (g : Bool) → is_gone gone 0 ≡ g → OpsGone gone (Op i m ∷ places_of ls) → is_gone gone p ≡ false
     → slice_get (places_of (line_now g (aim_at aims 0) l ++ now_of (drop 1 gone) (drop 1 aims) ls)) (rank gone p) ≡ aimed_to (slice_get (Op i m ∷ places_of ls) p) (aim_at aims p)
 op_stands l i m ls e rec gone aims zero true f h k = let no : true ≡ false = sym f ∙ k in absurd (cc)
 op_stands l i m ls e rec gone aims zero false f h k =
@@ -71,7 +71,7 @@ word_same (v ∷ vs) ys a (suc k) h = word_same vs ys a k (omega arith)
 
 other_same : (s : Statement) (ys : List Place) (a : Option Name) (k : ℕ) → is_op s ≡ false → k < length (places_in s) → slice_get (places_in s ++ ys) k ≡ aimed_to (slice_get (places_in s ++ ys) k) a
 other_same Nothing ys a k e h = absurd (omega arith)
-other_same (Runs i m) ys a k e h = absurd (cc)
+other_same (Instruction i m) ys a k e h = absurd (cc)
 other_same (Words vs) ys a k e h = word_same vs ys a k h
 other_same (Aligns size most) ys a k e h = absurd (omega arith)
 other_same (Sets name address) ys a k e h = absurd (omega arith)
@@ -80,7 +80,7 @@ other_same (Sets name address) ys a k e h = absurd (omega arith)
 rank_first : (gone : List Bool) (n p : ℕ) → p ≤ n → ((k : ℕ) → k < n → is_gone gone k ≡ false) → rank gone p ≡ p
 rank_first gone n p h k = let r = rank_drop p gone 0 p (omega arith) (λ j l. k j (omega arith)) in let z = rank_zero (drop p gone) in omega arith
 
-other_stands : (s : Statement) (ls : List Line) → is_op s ≡ false → StandsRec ls → (gone : List Bool) (aims : List (Option Name)) (p : ℕ) → OpsGone gone (places_in s ++ places_of ls) → is_gone gone p ≡ false
+other_stands : (s : Statement) (ls : List ListingLine) → is_op s ≡ false → StandsRec ls → (gone : List Bool) (aims : List (Option Name)) (p : ℕ) → OpsGone gone (places_in s ++ places_of ls) → is_gone gone p ≡ false
     → slice_get (places_in s ++ places_of (now_of (drop (length (places_in s)) gone) (drop (length (places_in s)) aims) ls)) (rank gone p) ≡ aimed_to (slice_get (places_in s ++ places_of ls) p) (aim_at aims p)
 other_stands s ls e rec gone aims p h k =
     let n : ℕ = length (places_in s) in
@@ -101,16 +101,16 @@ other_stands s ls e rec gone aims p h k =
           ∙ ap (aimed_to (slice_get (places_in s ++ places_of ls) p)) (aim_drop n aims q p is))
     ]
 
-line_stands : (l : Line) (s : Statement) (ls : List Line) → l.statement ≡ s → StandsRec ls → (gone : List Bool) (aims : List (Option Name)) (p : ℕ) → OpsGone gone (places_in s ++ places_of ls) → is_gone gone p ≡ false
+line_stands : (l : ListingLine) (s : Statement) (ls : List ListingLine) → l.statement ≡ s → StandsRec ls → (gone : List Bool) (aims : List (Option Name)) (p : ℕ) → OpsGone gone (places_in s ++ places_of ls) → is_gone gone p ≡ false
     → slice_get (places_of (if is_op s then line_now (is_gone gone 0) (aim_at aims 0) l ++ now_of (drop 1 gone) (drop 1 aims) ls else l ∷ now_of (drop (length (places_in s)) gone) (drop (length (places_in s)) aims) ls)) (rank gone p)
     ≡ aimed_to (slice_get (places_in s ++ places_of ls) p) (aim_at aims p)
-line_stands l (Runs i m) ls e rec gone aims p h k = op_stands l i m ls e rec gone aims p (is_gone gone 0) refl h k
+line_stands l (Instruction i m) ls e rec gone aims p h k = op_stands l i m ls e rec gone aims p (is_gone gone 0) refl h k
 line_stands l Nothing ls e rec gone aims p h k = ap (λ x. slice_get (places_in x ++ places_of (now_of gone aims ls)) (rank gone p)) e ∙ other_stands Nothing ls refl rec gone aims p h k
 line_stands l (Words vs) ls e rec gone aims p h k = ap (λ x. slice_get (places_in x ++ places_of (now_of (drop (length (map Word vs)) gone) (drop (length (map Word vs)) aims) ls)) (rank gone p)) e ∙ other_stands (Words vs) ls refl rec gone aims p h k
 line_stands l (Aligns size most) ls e rec gone aims p h k = ap (λ x. slice_get (places_in x ++ places_of (now_of gone aims ls)) (rank gone p)) e ∙ other_stands (Aligns size most) ls refl rec gone aims p h k
 line_stands l (Sets name address) ls e rec gone aims p h k = ap (λ x. slice_get (places_in x ++ places_of (now_of gone aims ls)) (rank gone p)) e ∙ other_stands (Sets name address) ls refl rec gone aims p h k
 
 -- what stands at a kept place in the lines now
-pub stands_at : (ls : List Line) → StandsRec ls
+pub stands_at : (ls : List ListingLine) → StandsRec ls
 stands_at [] gone aims p h k = refl
 stands_at (l ∷ ls) gone aims p h k = line_stands l l.statement ls refl (stands_at ls) gone aims p h k

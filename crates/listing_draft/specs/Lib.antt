@@ -1,2 +1,2 @@
 pub mod Drafted
-pub mod Held
+pub mod Invariant

@@ -2,9 +2,9 @@
 ghost use Rattle.std.specs.Prelude.{◌≡◌, option_map, replicate, None, IfOk};
 ghost use Rattle.listing_parser.specs.Views.{place_view};
 ghost use Rattle.listing_draft.specs.Drafted.{instr_in, name_in};
-ghost use Rattle.listing_draft.specs.Held.{names_of};
+ghost use Rattle.listing_draft.specs.Invariant.{names_of};
 
-use crate::printing::print;
+use crate::emitting::emit;
 use kept_places::KeptPlaces;
 use listing_parser::{Listing, Memory, Place};
 use std::alloc::{AllocError, Global};
@@ -26,15 +26,15 @@ pub struct Draft {
 
 impl Model for Draft {
     ghost use Rattle.listing_draft.specs.Drafted.{Drafted};
-    ghost use Rattle.listing_draft.specs.Held.{names_of};
+    ghost use Rattle.listing_draft.specs.Invariant.{names_of};
 
     ghost Value = { Drafted };
 
-    ghost use Rattle.listing_draft.specs.Held.{IsHeld};
+    ghost use Rattle.listing_draft.specs.Invariant.{IsDraftInside};
 
     ghost view = { λ s. record { given = s.listing; gone = s.kept; aims = names_of s.aims.items } };
 
-    ghost invariant = { IsHeld };
+    ghost invariant = { IsDraftInside };
 }
 
 /// No label for each of so many places.
@@ -90,7 +90,7 @@ impl Draft {
     ghost use Rattle.listing_parser.specs.Parsing.{line_mentioning, own_line};
     ghost use Rattle.listing_parser.specs.Targets.{aimed_lines};
     ghost use Rattle.listing_draft.specs.Drafted.{instr_in, lines_now, name_in, stands, unchanged};
-    ghost use Rattle.listing_draft.specs.Held.{IsDraft};
+    ghost use Rattle.listing_draft.specs.Invariant.{IsDraft};
 
     /// A listing of which nothing is changed.
     pub fn new(alloc: Global, listing: Listing) -> Result<Self, AllocError>
@@ -258,7 +258,7 @@ impl Draft {
         if !is_changed {
             return Ok(listing);
         }
-        let lines = print(alloc, listing.into_lines(), &kept, &aims)?;
+        let lines = emit(alloc, listing.into_lines(), &kept, &aims)?;
         Listing::of(alloc, lines)
     }
 }

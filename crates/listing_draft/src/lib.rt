@@ -4,7 +4,7 @@
 #![tactic(auto)]
 
 mod draft;
-mod printing;
+mod emitting;
 mod writing;
 
 pub use draft::Draft;

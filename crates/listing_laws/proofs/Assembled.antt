@@ -5,7 +5,7 @@ use Rattle.std.specs.Str.{bytes_eq}
 use Rattle.std.proofs.lemmas.Bool.Decides.{nat_tests}
 use Rattle.std.proofs.lemmas.Bool.{cases_Bool, and_from, and_parts}
 use Rattle.std.proofs.lemmas.Slice.Eq.{bytes_eq-Decides}
-use Rattle.thumb_model.specs.Listing.{Name, Value, Number, OfName, Statement, Nothing, Runs, Words, Aligns, Sets, Line, Place, Word, places_in, places_of, labels_from, code_of, has_label, is_mentioned, value_mentions, place_mentions}
+use Rattle.thumb_model.specs.Listing.{Name, Value, Number, OfName, Statement, Nothing, Instruction, Words, Aligns, Sets, ListingLine, Place, Word, places_in, places_of, labels_from, code_of, has_label, is_mentioned, value_mentions, place_mentions}
 use Rattle.thumb_model.specs.Layout.{end_of, label_address, lies_in, set_address, set_in}
 use Rattle.thumb_model.specs.Naming.{Fits, is_in_range, laid, last_is_call}
 use Rattle.listing_parser.specs.Parsing.{text_of_lines}
@@ -47,8 +47,8 @@ mentioned_in name (x ∷ xs) ys e = elim (cases_Bool (place_mentions name x)) [
 
 -- ---- what lies where ----
 
-module _ (base : ℕ) (all : List Line) where
-  first_sound : (n : ℕ) (l : Line) (ls : List Line) → flaws_from base all n (l ∷ ls) ≡ None → flaw_of base all l.statement ≡ None
+module _ (base : ℕ) (all : List ListingLine) where
+  first_sound : (n : ℕ) (l : ListingLine) (ls : List ListingLine) → flaws_from base all n (l ∷ ls) ≡ None → flaw_of base all l.statement ≡ None
   first_sound n l ls e = elim (cases_Bool (is_some (flaw_of base all l.statement))) [
     | inl h ↦ let some = some_is (flaw_of base all l.statement) h in absurd (let bad : Some (n, some.0) ≡ None = rw some.1 at e in cc)
     | inr h ↦ none_is (flaw_of base all l.statement) h
@@ -79,8 +79,8 @@ module _ (base : ℕ) (all : List Line) where
 
   statement_lies : (name : Name) (s : Statement) → is_fair all s ≡ true → flaw_of base all s ≡ None → is_mentioned name (places_in s) ≡ true → Lies name
   unfolding Lies
-  statement_lies name (Runs i None) f e m none = true≢false (sym m)
-  statement_lies name (Runs i (Some x)) f e m none = elim (or_true (bytes_eq name x.name) false m) [
+  statement_lies name (Instruction i None) f e m none = true≢false (sym m)
+  statement_lies name (Instruction i (Some x)) f e m none = elim (or_true (bytes_eq name x.name) false m) [
     | inl h ↦
         let same : name ≡ x.name = (bytes_eq-Decides name x.name).0 h in
         let gone : lies_in base all x.name ≡ None = ap (lies_in base all) (sym same) ∙ none in
@@ -93,7 +93,7 @@ module _ (base : ℕ) (all : List Line) where
   statement_lies name (Aligns size most) f e m none = true≢false (sym m)
   statement_lies name (Sets other address) f e m none = true≢false (sym m)
 
-  lines_lie : (name : Name) (n : ℕ) (ls : List Line) → are_fair all ls ≡ true → flaws_from base all n ls ≡ None → is_mentioned name (places_of ls) ≡ true → Lies name
+  lines_lie : (name : Name) (n : ℕ) (ls : List ListingLine) → are_fair all ls ≡ true → flaws_from base all n ls ≡ None → is_mentioned name (places_of ls) ≡ true → Lies name
   lines_lie name n [] f e m = absurd (true≢false (sym m))
   lines_lie name n (l ∷ ls) f e m =
       let fair = and_parts (is_fair all l.statement) (are_fair all ls) f in
@@ -122,11 +122,11 @@ module _ (base : ℕ) (all : List Line) where
     | inr h ↦ inr (rw h at e)
   ]
   statement_outside name Nothing rest address f e = inr e
-  statement_outside name (Runs i mention) rest address f e = inr e
+  statement_outside name (Instruction i mention) rest address f e = inr e
   statement_outside name (Words vs) rest address f e = inr e
   statement_outside name (Aligns size most) rest address f e = inr e
 
-  set_outside : (name : Name) (n : ℕ) (ls : List Line) (address : ℕ) → flaws_from base all n ls ≡ None → set_address name ls ≡ Some address → lies_inside base all address ≡ false
+  set_outside : (name : Name) (n : ℕ) (ls : List ListingLine) (address : ℕ) → flaws_from base all n ls ≡ None → set_address name ls ≡ Some address → lies_inside base all address ≡ false
   set_outside name n [] address f e = absurd (let bad : None ≡ Some address = e in cc)
   set_outside name n (l ∷ ls) address f e =
       let here : flaw_of base all l.statement ≡ None = first_sound n l ls f in
@@ -151,12 +151,12 @@ range_outside low end word true out behind = elim (cases_Bool (nat_le low word))
 
 -- ---- all together ----
 
-module _ (base : ℕ) (set : Name → ℕ) (lines : List Line) (bytes : List ℕ) (is : IsAssembled base lines bytes) (out : IsOutside base set lines) where
+module _ (base : ℕ) (set : Name → ℕ) (lines : List ListingLine) (bytes : List ℕ) (is : IsAssembled base lines bytes) (out : IsOutside base set lines) where
   fair : are_fair lines lines ≡ true
   fair = listed_fair (text_of_lines lines) lines is.listed
 
-  even : (before after : List Line) → lines ≡ before ++ after → end_of base before % 2 ≡ 0
-  even before after cut = end_even lines base before (fair_front lines before after (subst (λ (ls : List Line). are_fair lines ls ≡ true) cut fair)) is.even
+  even : (before after : List ListingLine) → lines ≡ before ++ after → end_of base before % 2 ≡ 0
+  even before after cut = end_even lines base before (fair_front lines before after (subst (λ (ls : List ListingLine). are_fair lines ls ≡ true) cut fair)) is.even
 
   outside : (n : Name) → is_mentioned n (places_of lines) ≡ true → has_label n (labels_from 0 lines) ≡ false → is_in_range (laid base set lines) (set n) ≡ false
   outside n mentioned unlabelled =

@@ -7,7 +7,7 @@ use Rattle.std.proofs.lemmas.List.{length-append}
 use Rattle.std.proofs.lemmas.Slice.Eq.{bytes_eq-Decides}
 use Rattle.thumb_instr.specs.declared.instr.Instr.{Instr}
 use Rattle.thumb_instr.specs.declared.instr.Instr.TheVariants as instr
-use Rattle.thumb_model.specs.Listing.{Name, Mention, Value, Statement, Nothing, Runs, Words, Aligns, Sets, Line, Place, Op, Word, Label, places_in, places_of, labels_at, labels_from, code_of, has_label, is_call, is_call_instr, is_code, place_among, place_of, call_count}
+use Rattle.thumb_model.specs.Listing.{Name, Mention, Value, Statement, Nothing, Instruction, Words, Aligns, Sets, ListingLine, Place, Op, Word, Label, places_in, places_of, labels_at, labels_from, code_of, has_label, is_call, is_call_instr, is_code, place_among, place_of, call_count}
 use Rattle.thumb_model.specs.Layout.{instr_size, size_at, end_of, is_among, label_address}
 use Rattle.thumb_model.specs.Naming.{Naming, Fits, is_in_range, is_odd, points, points_of, returns_from, laid, word_by, ends_in_call, last_is_call, return_address}
 use Rattle.thumb_model.specs.Steps.{label_place}
@@ -34,13 +34,13 @@ two_bytes i = omega arith
 
 -- each place takes two bytes or more
 statement_room : (s : Statement) (at : ℕ) → 2 * length (places_in s) ≤ size_at s at
-statement_room (Runs i mention) at = two_bytes i
+statement_room (Instruction i mention) at = two_bytes i
 statement_room (Words vs) at = let n = words_length vs in omega arith
 statement_room Nothing at = omega arith
 statement_room (Aligns size most) at = omega arith
 statement_room (Sets name address) at = omega arith
 
-room : (at : ℕ) (ls : List Line) → at + 2 * length (places_of ls) ≤ end_of at ls
+room : (at : ℕ) (ls : List ListingLine) → at + 2 * length (places_of ls) ≤ end_of at ls
 room at [] = omega arith
 room at (l ∷ ls) =
     let here = statement_room l.statement at in
@@ -49,14 +49,14 @@ room at (l ∷ ls) =
     omega arith
 
 -- of two cuts of the same lines one is within the other
-record IsWithin (xs zs : List Line) : Type 0 where
-  between : List Line
+record IsWithin (xs zs : List ListingLine) : Type 0 where
+  between : List ListingLine
   cut : zs ≡ xs ++ between
 
-within_more : (x z : Line) (xs zs : List Line) → x ≡ z → IsWithin xs zs → IsWithin (x ∷ xs) (z ∷ zs)
-within_more x z xs zs e h = record { between = h.between; cut = ap (λ (y : Line). y ∷ zs) (sym e) ∙ ap (λ (ls : List Line). x ∷ ls) h.cut }
+within_more : (x z : ListingLine) (xs zs : List ListingLine) → x ≡ z → IsWithin xs zs → IsWithin (x ∷ xs) (z ∷ zs)
+within_more x z xs zs e h = record { between = h.between; cut = ap (λ (y : ListingLine). y ∷ zs) (sym e) ∙ ap (λ (ls : List ListingLine). x ∷ ls) h.cut }
 
-two_cuts : (xs ys zs ws : List Line) → xs ++ ys ≡ zs ++ ws → IsWithin xs zs ⊎ IsWithin zs xs
+two_cuts : (xs ys zs ws : List ListingLine) → xs ++ ys ≡ zs ++ ws → IsWithin xs zs ⊎ IsWithin zs xs
 two_cuts [] ys zs ws e = inl (record { between = zs; cut = refl })
 two_cuts (x ∷ xs) ys [] ws e = inr (record { between = x ∷ xs; cut = refl })
 two_cuts (x ∷ xs) ys (z ∷ zs) ws e =
@@ -69,18 +69,18 @@ two_cuts (x ∷ xs) ys (z ∷ zs) ws e =
     ]
 
 -- a cut further on, with more places before it, lies further on
-cut_later : (base : ℕ) (xs zs : List Line) → IsWithin xs zs → end_of base xs + 2 * (length (places_of zs) - length (places_of xs)) ≤ end_of base zs
+cut_later : (base : ℕ) (xs zs : List ListingLine) → IsWithin xs zs → end_of base xs + 2 * (length (places_of zs) - length (places_of xs)) ≤ end_of base zs
 cut_later base xs zs h =
     let more = room (end_of base xs) h.between in
     let ends : end_of base zs ≡ end_of (end_of base xs) h.between = ap (end_of base) h.cut ∙ end_append base xs h.between in
     let count : length (places_of zs) ≡ length (places_of xs) + length (places_of h.between) =
-    ap (λ (ls : List Line). length (places_of ls)) h.cut ∙ ap length (places_append xs h.between) ∙ length-append (places_of xs) (places_of h.between) in
+    ap (λ (ls : List ListingLine). length (places_of ls)) h.cut ∙ ap length (places_append xs h.between) ∙ length-append (places_of xs) (places_of h.between) in
     omega arith
 
-within_count : (xs zs : List Line) → IsWithin xs zs → length (places_of xs) ≤ length (places_of zs)
+within_count : (xs zs : List ListingLine) → IsWithin xs zs → length (places_of xs) ≤ length (places_of zs)
 within_count xs zs h =
     let count : length (places_of zs) ≡ length (places_of xs) + length (places_of h.between) =
-    ap (λ (ls : List Line). length (places_of ls)) h.cut ∙ ap length (places_append xs h.between) ∙ length-append (places_of xs) (places_of h.between) in
+    ap (λ (ls : List ListingLine). length (places_of ls)) h.cut ∙ ap length (places_append xs h.between) ∙ length-append (places_of xs) (places_of h.between) in
     omega arith
 
 -- ---- labels ----
@@ -94,18 +94,18 @@ has_at name p (n ∷ ns) rest = elim (cases_Bool (bytes_eq name n)) [
 ]
 
 -- the lines before the first one that has the label
-record LabelCut (name : Name) (base p a q : ℕ) (all : List Line) : Type 0 where
-  before : List Line
-  after : List Line
+record LabelCut (name : Name) (base p a q : ℕ) (all : List ListingLine) : Type 0 where
+  before : List ListingLine
+  after : List ListingLine
   cut : all ≡ before ++ after
   address : a ≡ end_of base before
   place : q ≡ p + length (places_of before)
 
 -- where a name has a label, it has an address too, at one cut
-abbrev HasCut : (name : Name) (base p q : ℕ) (all : List Line) → Type 0
+abbrev HasCut : (name : Name) (base p q : ℕ) (all : List ListingLine) → Type 0
 HasCut name base p q all = (a : ℕ) × (label_address name base all ≡ Some a) × LabelCut name base p a q all
 
-cut_later_on : (name : Name) (base p q : ℕ) (l : Line) (ls : List Line) → is_among name l.names ≡ false → HasCut name (base + size_at l.statement base) (p + length (places_in l.statement)) q ls → HasCut name base p q (l ∷ ls)
+cut_later_on : (name : Name) (base p q : ℕ) (l : ListingLine) (ls : List ListingLine) → is_among name l.names ≡ false → HasCut name (base + size_at l.statement base) (p + length (places_in l.statement)) q ls → HasCut name base p q (l ∷ ls)
 cut_later_on name base p q l ls t (a, address, c) =
     let size = length-append (places_in l.statement) (places_of c.before) in
     let place = c.place in (
@@ -114,13 +114,13 @@ cut_later_on name base p q l ls t (a, address, c) =
       record {
         before = l ∷ c.before;
         after = c.after;
-        cut = ap (λ (x : List Line). l ∷ x) c.cut;
+        cut = ap (λ (x : List ListingLine). l ∷ x) c.cut;
         address = c.address;
         place = omega arith;
       },
     )
 
-label_cut : (name : Name) (base p q : ℕ) (all : List Line) → label_place name (labels_from p all) ≡ Some q → HasCut name base p q all
+label_cut : (name : Name) (base p q : ℕ) (all : List ListingLine) → label_place name (labels_from p all) ≡ Some q → HasCut name base p q all
 label_cut name base p q [] e = absurd (let bad : None ≡ Some q = e in cc)
 label_cut name base p q (l ∷ ls) e = elim (cases_Bool (is_among name l.names)) [
   | inl t ↦
@@ -132,14 +132,14 @@ label_cut name base p q (l ∷ ls) e = elim (cases_Bool (is_among name l.names))
       cut_later_on name base p q l ls t (label_cut name (base + size_at l.statement base) (p + length (places_in l.statement)) q ls later)
 ]
 
-pub no_address : (name : Name) (base p : ℕ) (all : List Line) → has_label name (labels_from p all) ≡ false → label_address name base all ≡ None
+pub no_address : (name : Name) (base p : ℕ) (all : List ListingLine) → has_label name (labels_from p all) ≡ false → label_address name base all ≡ None
 no_address name base p [] e = refl
 no_address name base p (l ∷ ls) e = elim (cases_Bool (is_among name l.names)) [
   | inl t ↦ absurd (true≢false (sym (has_at name p l.names _ ∙ rw t refl) ∙ e))
   | inr t ↦ rw t (no_address name (base + size_at l.statement base) (p + length (places_in l.statement)) ls (sym (has_at name p l.names _ ∙ rw t refl) ∙ e))
 ]
 
-address_low : (name : Name) (base a : ℕ) (all : List Line) → label_address name base all ≡ Some a → a ≤ end_of base all
+address_low : (name : Name) (base a : ℕ) (all : List ListingLine) → label_address name base all ≡ Some a → a ≤ end_of base all
 address_low name base a [] e = absurd (let bad : None ≡ Some a = e in cc)
 address_low name base a (l ∷ ls) e = elim (cases_Bool (is_among name l.names)) [
   | inl t ↦
@@ -150,7 +150,7 @@ address_low name base a (l ∷ ls) e = elim (cases_Bool (is_among name l.names))
   | inr t ↦ address_low name (base + size_at l.statement base) a ls (rw t at e)
 ]
 
-return_low : (k at : ℕ) (ls : List Line) → (return_address k at ls ≡ 0) ⊎ (return_address k at ls ≤ end_of at ls)
+return_low : (k at : ℕ) (ls : List ListingLine) → (return_address k at ls ≡ 0) ⊎ (return_address k at ls ≤ end_of at ls)
 return_low k at [] = inl refl
 return_low zero at (l ∷ ls) = elim (cases_Bool (ends_in_call l.statement)) [
   | inl t ↦ rw t (inr (let more = room (at + size_at l.statement at) ls in omega arith))
@@ -217,7 +217,7 @@ word_small None c s h f = h
 word_small (Some a) None s h f = let low = f a refl in omega arith
 word_small (Some a) (Some p) s h f = let low = f a refl in omega arith
 
-module _ (base : ℕ) (set : Name → ℕ) (all : List Line) (is : LiesApart base set all) where
+module _ (base : ℕ) (set : Name → ℕ) (all : List ListingLine) (is : LiesApart base set all) where
   abbrev names : Naming
   names = laid base set all
 
@@ -235,15 +235,15 @@ module _ (base : ℕ) (set : Name → ℕ) (all : List Line) (is : LiesApart bas
 
   -- a cut of the lines, whose address and 1 more is the word
   record IsCut (w p : ℕ) : Type 0 where
-    before : List Line
-    after : List Line
+    before : List ListingLine
+    after : List ListingLine
     cut : all ≡ before ++ after
     word : w ≡ end_of base before + 1
     place : p ≡ length (places_of before)
     inside : end_of base before + 2 ≤ names.high
 
   -- what stands behind a cut takes room
-  behind : (before after : List Line) → all ≡ before ++ after → end_of base before + 2 * length (places_of after) ≤ end_of base all
+  behind : (before after : List ListingLine) → all ≡ before ++ after → end_of base before + 2 * length (places_of after) ≤ end_of base all
   behind before after cut =
       let more = room (end_of base before) after in
       let ends : end_of base all ≡ end_of (end_of base before) after = ap (end_of base) cut ∙ end_append base before after in
@@ -261,7 +261,7 @@ module _ (base : ℕ) (set : Name → ℕ) (all : List Line) (is : LiesApart bas
       let within = op_within (places_of all) h.label.place h.code in
       let rest = behind c.2.before c.2.after c.2.cut in
       let count : length (places_of all) ≡ length (places_of c.2.before) + length (places_of c.2.after) =
-      ap (λ (ls : List Line). length (places_of ls)) c.2.cut ∙ ap length (places_append c.2.before c.2.after) ∙ length-append (places_of c.2.before) (places_of c.2.after) in
+      ap (λ (ls : List ListingLine). length (places_of ls)) c.2.cut ∙ ap length (places_append c.2.before c.2.after) ∙ length-append (places_of c.2.before) (places_of c.2.after) in
       let address = c.2.address in
       let place = c.2.place in
       let past = high_past in
@@ -276,14 +276,14 @@ module _ (base : ℕ) (set : Name → ℕ) (all : List Line) (is : LiesApart bas
 
   -- ---- those of calls ----
 
-  next_calls : (before : List Line) (l : Line) → call_count (places_of (before ++ l ∷ [])) ≡ call_count (places_of before) + call_count (places_in l.statement)
+  next_calls : (before : List ListingLine) (l : ListingLine) → call_count (places_of (before ++ l ∷ [])) ≡ call_count (places_of before) + call_count (places_in l.statement)
   next_calls before l =
       let a = ap call_count (places_append before (l ∷ [])) in
       let b = count_append (places_of before) (places_in l.statement ++ []) in
       let c = count_append (places_in l.statement) [] in
       omega arith
 
-  next_places : (before : List Line) (l : Line) → length (places_of (before ++ l ∷ [])) ≡ length (places_of before) + length (places_in l.statement)
+  next_places : (before : List ListingLine) (l : ListingLine) → length (places_of (before ++ l ∷ [])) ≡ length (places_of before) + length (places_in l.statement)
   next_places before l =
       let a = ap length (places_append before (l ∷ [])) in
       let b = length-append (places_of before) (places_in l.statement ++ []) in
@@ -291,7 +291,7 @@ module _ (base : ℕ) (set : Name → ℕ) (all : List Line) (is : LiesApart bas
       omega arith
 
   -- behind a call the range goes on
-  call_inside : (before after : List Line) (l : Line) (i : Instr) (mention : Option Mention) → all ≡ before ++ l ∷ after → l.statement ≡ Runs i mention → is_call_instr i ≡ true → end_of base (before ++ l ∷ []) + 2 ≤ names.high
+  call_inside : (before after : List ListingLine) (l : ListingLine) (i : Instr) (mention : Option Mention) → all ≡ before ++ l ∷ after → l.statement ≡ Instruction i mention → is_call_instr i ≡ true → end_of base (before ++ l ∷ []) + 2 ≤ names.high
   call_inside before after l i mention cut t h = by (places_of after) refl where
     next : all ≡ (before ++ l ∷ []) ++ after
     next = cut ∙ sym (append_assoc before (l ∷ []) after)
@@ -311,10 +311,10 @@ module _ (base : ℕ) (set : Name → ℕ) (all : List Line) (is : LiesApart bas
         omega arith
 
   -- the return points of the lines behind a cut
-  abbrev AreReturns : List Line → List Line → Type 0
+  abbrev AreReturns : List ListingLine → List ListingLine → Type 0
   AreReturns before ls = (k p : ℕ) → k ≡ call_count (places_of before) → p ≡ length (places_of before) → (j w q : ℕ) → slice_get (returns_from names k p (places_of ls)) j ≡ Some (w, q) → IsCut w q
 
-  returns_next : (before ls : List Line) (l : Line) → all ≡ before ++ l ∷ ls → all ≡ (before ++ l ∷ []) ++ ls → AreReturns (before ++ l ∷ []) ls → AreReturns before (l ∷ ls)
+  returns_next : (before ls : List ListingLine) (l : ListingLine) → all ≡ before ++ l ∷ ls → all ≡ (before ++ l ∷ []) ++ ls → AreReturns (before ++ l ∷ []) ls → AreReturns before (l ∷ ls)
   returns_next before ls l cut next rest k p c n j w q e = by l.statement refl e where
     -- how many calls and places stand before the next line
     calls : (m : ℕ) → m ≡ k + call_count (places_in l.statement) → m ≡ call_count (places_of (before ++ l ∷ []))
@@ -323,7 +323,7 @@ module _ (base : ℕ) (set : Name → ℕ) (all : List Line) (is : LiesApart bas
     places : (m : ℕ) → m ≡ p + length (places_in l.statement) → m ≡ length (places_of (before ++ l ∷ []))
     places m h = let more = next_places before l in omega arith
 
-    here : (i : Instr) (mention : Option Mention) → l.statement ≡ Runs i mention → is_call_instr i ≡ true → (j : ℕ) → slice_get ((names.return_word k, p + 1) ∷ returns_from names (k + 1) (p + 1) (places_of ls)) j ≡ Some (w, q) → IsCut w q
+    here : (i : Instr) (mention : Option Mention) → l.statement ≡ Instruction i mention → is_call_instr i ≡ true → (j : ℕ) → slice_get ((names.return_word k, p + 1) ∷ returns_from names (k + 1) (p + 1) (places_of ls)) j ≡ Some (w, q) → IsCut w q
     here i mention t h zero e =
         let same : ◌≡◌ {A = ℕ × ℕ} (names.return_word k, p + 1) (w, q) = cc in
         let first : names.return_word k ≡ w = ap (λ (x : ℕ × ℕ). x.0) same in
@@ -345,7 +345,7 @@ module _ (base : ℕ) (set : Name → ℕ) (all : List Line) (is : LiesApart bas
         rest (k + 1) (p + 1) (calls (k + 1) (omega arith)) (places (p + 1) (omega arith)) j w q e
 
     by : (s : Statement) → l.statement ≡ s → slice_get (returns_from names k p (places_in s ++ places_of ls)) j ≡ Some (w, q) → IsCut w q
-    by (Runs i mention) t e = elim (cases_Bool (is_call_instr i)) [
+    by (Instruction i mention) t e = elim (cases_Bool (is_call_instr i)) [
       | inl h ↦ here i mention t h j (rw h at e)
       | inr h ↦
           let one : length (places_in l.statement) ≡ 1 = ap (λ (s : Statement). length (places_in s)) t in
@@ -361,7 +361,7 @@ module _ (base : ℕ) (set : Name → ℕ) (all : List Line) (is : LiesApart bas
         let call : call_count (places_in l.statement) ≡ 0 = ap (λ (s : Statement). call_count (places_in s)) t in
         rest k p (calls k (omega arith)) (places p (omega arith)) j w q e
 
-  of_returns : (before ls : List Line) → all ≡ before ++ ls → AreReturns before ls
+  of_returns : (before ls : List ListingLine) → all ≡ before ++ ls → AreReturns before ls
   of_returns before [] cut = λ k p c n j w q e. absurd (let bad : None ≡ Some (w, q) = e in cc)
   of_returns before (l ∷ ls) cut =
       let next : all ≡ (before ++ l ∷ []) ++ ls = cut ∙ sym (append_assoc before (l ∷ []) ls) in

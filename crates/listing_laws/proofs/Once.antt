@@ -4,7 +4,7 @@ use Rattle.std.specs.Prelude.{slice_get}
 use Rattle.std.specs.Str.{bytes_eq}
 use Rattle.std.proofs.lemmas.Bool.{or_right as or_more}
 use Rattle.std.proofs.lemmas.Slice.Eq.{bytes_eq-Decides}
-use Rattle.thumb_model.specs.Listing.{Name, Line, Label, labels_at, labels_from}
+use Rattle.thumb_model.specs.Listing.{Name, ListingLine, Label, labels_at, labels_from}
 use Rattle.thumb_model.specs.Layout.{is_among}
 use Rattle.thumb_model.specs.Steps.{label_place}
 use Rattle.listing_parser.specs.Parsing.{IsListing}
@@ -26,5 +26,5 @@ there p (n ∷ ns) zero l e =
     subst (IsThere p (n ∷ ns)) is (record { place = refl; named = rw ((bytes_eq-Decides n n).1 refl) refl })
 there p (n ∷ ns) (suc k) l e = let next = there p ns k l e in record { place = next.place; named = or_more (bytes_eq l.name n) _ next.named }
 
-pub each_once : (bytes : List ℕ) (lines : List Line) → IsListing bytes lines → (k : ℕ) (l : Label) → slice_get (labels_from 0 lines) k ≡ Some l → label_place l.name (labels_from 0 lines) ≡ Some l.place
+pub each_once : (bytes : List ℕ) (lines : List ListingLine) → IsListing bytes lines → (k : ℕ) (l : Label) → slice_get (labels_from 0 lines) k ≡ Some l → label_place l.name (labels_from 0 lines) ≡ Some l.place
 each_once bytes lines is = own 1 0 [] lines (once_none lines is.once)

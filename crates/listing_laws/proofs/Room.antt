@@ -16,12 +16,12 @@ use Rattle.thumb_instr.specs.declared.instr.Instr.{Instr}
 use Rattle.thumb_instr.specs.declared.instr.Instr.TheVariants as instr
 use Rattle.thumb_syntax.specs.Operands.{is_name}
 use Rattle.thumb_syntax.specs.Rows.{Shown, reading}
-use Rattle.thumb_model.specs.Listing.{Name, Value, Statement, Nothing, Runs, Words, Aligns, Sets, Line}
+use Rattle.thumb_model.specs.Listing.{Name, Value, Statement, Nothing, Instruction, Words, Aligns, Sets, ListingLine}
 use Rattle.thumb_model.specs.Layout.{instr_size, padding, size_at, end_of}
 use Rattle.listing_parser.specs.declared.directive.Directive.{Directive}
 use Rattle.listing_parser.specs.declared.directive.Directive.TheVariants as directive
 use Rattle.listing_parser.specs.Values.{value, values, onto_values, alone, gapped, pair}
-use Rattle.listing_parser.specs.Directives.{Unmarked, NextMarked, NameMarked, Said, Plain, Instruction, Told, says, says_if, marks, size_of, aligns_at_most, whole_size, aligned, sets, sets_by, typed_by, directed, directed_by, directive_named, is_word_byte, is_bare, is_alone, is_code_section, instruction, said, statement}
+use Rattle.listing_parser.specs.Directives.{Unmarked, NextMarked, NameMarked, Said, Plain, ByKind, Told, says, says_if, marks, size_of, aligns_at_most, whole_size, aligned, sets, sets_by, typed_by, directed, directed_by, directive_named, is_word_byte, is_bare, is_alone, is_code_section, instruction, said, statement}
 use Rattle.listing_parser.specs.Grammar.{Bare, Read, labels_at_front, body, code, read_lines, said_of, bare}
 use Rattle.listing_parser.proofs.ReadingLemmas.{rest_short}
 use Rattle.listing_parser.proofs.PrintLemmas.{OfLine, of_checked, cut, none_read}
@@ -32,14 +32,14 @@ use Rattle.listing_laws.specs.Limits.{TextsEndInCode}
 
 abbrev pub most_of : Statement → ℕ
 most_of Nothing = 0
-most_of (Runs i mention) = 4
+most_of (Instruction i mention) = 4
 most_of (Words vs) = 4 * length vs
 most_of (Aligns size most) = size - 1
 most_of (Sets name address) = 0
 
 abbrev pub room : Said → ℕ
 room (Plain s) = most_of s
-room (Instruction s) = 4
+room (ByKind s) = 4
 
 abbrev pub rooms : List Read → ℕ
 rooms [] = 0
@@ -69,7 +69,7 @@ instr_small i = omega arith
 
 size_room : (s : Statement) (at : ℕ) → size_at s at ≤ room (said_of s)
 size_room Nothing at = omega arith
-size_room (Runs i mention) at = instr_small i
+size_room (Instruction i mention) at = instr_small i
 size_room (Words vs) at = omega arith
 size_room (Aligns size most) at = let h = padding_most size most at in omega arith
 size_room (Sets name address) at = omega arith
@@ -188,7 +188,7 @@ directed_by_room : (o : Option Directive) (bs : List ℕ) (t : Told) → directe
 directed_by_room None bs t e = absurd (let bad : None ≡ Some t = e in cc)
 directed_by_room (Some d) bs t e = directed_room d bs t e
 
-small_by : (o : Option Shown) → Small (option_map (λ (s : Shown). (let x : Told = record { said = Instruction s; mark = Unmarked } in x)) o)
+small_by : (o : Option Shown) → Small (option_map (λ (s : Shown). (let x : Told = record { said = ByKind s; mark = Unmarked } in x)) o)
 small_by None = small_none
 small_by (Some s) = small_some _ (omega arith)
 
@@ -231,7 +231,7 @@ all_room n start (t ∷ ts) rs e =
     let sum = ap rooms c.is in
     omega arith
 
-end_room : (at : ℕ) (rs : List Read) (ls : List Line) → map (λ r. r.line) rs ≡ map bare ls → end_of at ls ≤ at + rooms rs
+end_room : (at : ℕ) (rs : List Read) (ls : List ListingLine) → map (λ r. r.line) rs ≡ map bare ls → end_of at ls ≤ at + rooms rs
 end_room at [] [] e = omega arith
 end_room at [] (l ∷ ls) e = absurd (cc)
 end_room at (r ∷ rs) [] e = absurd (cc)

@@ -1,13 +1,13 @@
 -- The laid naming of an assembled listing fits it, and so its image's run is the listing's.
 use Rattle.std.specs.Prelude.{◌≡◌, ℕ, ◌+◌, ◌^◌, ◌<◌, ◌≤◌, true, List, Some}
-use Rattle.thumb_model.specs.Listing.{Name, Line, code_of, places_of, is_mentioned}
+use Rattle.thumb_model.specs.Listing.{Name, ListingLine, code_of, places_of, is_mentioned}
 use Rattle.thumb_model.specs.Layout.{end_of, set_address}
 use Rattle.thumb_model.specs.Naming.{Fits, laid, last_is_call}
 use Rattle.thumb_assembler.specs.Bytes.{IsSetBy}
-use Rattle.thumb_assembler.specs.Runs.{IsAssembled, Follows}
+use Rattle.thumb_assembler.specs.Runs.{IsAssembled, ImageFollows}
 
 -- what stands for external names is what the lines set for them, and a word. Behind a call at the end the code goes on for two bytes: there no name that is mentioned is set
-pub record IsOutside (base : ℕ) (set : Name → ℕ) (lines : List Line) : Type 0 where
+pub record IsOutside (base : ℕ) (set : Name → ℕ) (lines : List ListingLine) : Type 0 where
   pub set_by : IsSetBy lines set
   pub words : (n : Name) → set n < 2 ^ 32
   pub behind : last_is_call (places_of lines) ≡ true → (n : Name) (address : ℕ) → is_mentioned n (places_of lines) ≡ true → set_address n lines ≡ Some address
@@ -15,8 +15,8 @@ pub record IsOutside (base : ℕ) (set : Name → ℕ) (lines : List Line) : Typ
 
 -- its laid naming fits it
 abbrev pub AssembledListingsFit : Type 0
-AssembledListingsFit = (base : ℕ) (set : Name → ℕ) (lines : List Line) (bytes : List ℕ) → IsAssembled base lines bytes → IsOutside base set lines → Fits (laid base set lines) (code_of lines)
+AssembledListingsFit = (base : ℕ) (set : Name → ℕ) (lines : List ListingLine) (bytes : List ℕ) → IsAssembled base lines bytes → IsOutside base set lines → Fits (laid base set lines) (code_of lines)
 
 -- and so its image's run meets its own
 abbrev pub AssembledImagesFollow : Type 0
-AssembledImagesFollow = (base : ℕ) (set : Name → ℕ) (lines : List Line) (bytes : List ℕ) → IsAssembled base lines bytes → IsOutside base set lines → Follows base set lines bytes lines
+AssembledImagesFollow = (base : ℕ) (set : Name → ℕ) (lines : List ListingLine) (bytes : List ℕ) → IsAssembled base lines bytes → IsOutside base set lines → ImageFollows base set lines bytes lines

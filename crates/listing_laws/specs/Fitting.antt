@@ -1,14 +1,14 @@
 -- When the laid naming of lines fits them.
 use Rattle.std.specs.Prelude.{◌≡◌, ℕ, ◌+◌, ◌%◌, ◌^◌, ◌<◌, true, false, List, ◌++◌, Some, slice_get}
-use Rattle.thumb_model.specs.Listing.{Name, Line, Label, code_of, places_of, labels_from, has_label, is_mentioned}
+use Rattle.thumb_model.specs.Listing.{Name, ListingLine, Label, code_of, places_of, labels_from, has_label, is_mentioned}
 use Rattle.thumb_model.specs.Layout.{end_of}
 use Rattle.thumb_model.specs.Naming.{Fits, is_in_range, laid}
 use Rattle.thumb_model.specs.Steps.{label_place}
 
 -- lines that lie low, with one label a name, and external names whose words lie elsewhere
-pub record LiesApart (base : ℕ) (set : Name → ℕ) (lines : List Line) : Type 0 where
+pub record LiesApart (base : ℕ) (set : Name → ℕ) (lines : List ListingLine) : Type 0 where
   -- each line begins at an even address, and the last one ends at one
-  pub even : (before after : List Line) → lines ≡ before ++ after → end_of base before % 2 ≡ 0
+  pub even : (before after : List ListingLine) → lines ≡ before ++ after → end_of base before % 2 ≡ 0
   pub low : end_of base lines + 2 < 2 ^ 32
   -- each label is the first one of its name
   pub once : (k : ℕ) (l : Label) → slice_get (labels_from 0 lines) k ≡ Some l → label_place l.name (labels_from 0 lines) ≡ Some l.place
@@ -18,4 +18,4 @@ pub record LiesApart (base : ℕ) (set : Name → ℕ) (lines : List Line) : Typ
 
 -- their laid naming fits them
 abbrev pub LaidNamingsFit : Type 0
-LaidNamingsFit = (base : ℕ) (set : Name → ℕ) (lines : List Line) → LiesApart base set lines → Fits (laid base set lines) (code_of lines)
+LaidNamingsFit = (base : ℕ) (set : Name → ℕ) (lines : List ListingLine) → LiesApart base set lines → Fits (laid base set lines) (code_of lines)

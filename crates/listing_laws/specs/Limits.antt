@@ -1,6 +1,6 @@
 -- Listings end in the Code region of the system address map (0x00000000 to 0x1FFFFFFF).
 use Rattle.std.specs.Prelude.{ℕ, ◌^◌, ◌<◌, ◌≤◌, List, length}
-use Rattle.thumb_model.specs.Listing.{Line}
+use Rattle.thumb_model.specs.Listing.{ListingLine}
 use Rattle.thumb_model.specs.Layout.{end_of}
 use Rattle.listing_parser.specs.Parsing.{IsListing}
 
@@ -10,4 +10,4 @@ most_bytes = 67108864
 
 -- from a base in the region's lower half on, the lines of a listing whose text has no more bytes than a text may have end within the region
 abbrev pub TextsEndInCode : Type 0
-TextsEndInCode = (base : ℕ) (bytes : List ℕ) (lines : List Line) → IsListing bytes lines → length bytes ≤ most_bytes → base ≤ 2 ^ 28 → end_of base lines < 2 ^ 29
+TextsEndInCode = (base : ℕ) (bytes : List ℕ) (lines : List ListingLine) → IsListing bytes lines → length bytes ≤ most_bytes → base ≤ 2 ^ 28 → end_of base lines < 2 ^ 29

@@ -29,7 +29,7 @@ use Rattle.thumb_syntax.proofs.Written.{written}
 use Rattle.thumb_syntax.proofs.RoundTrip.{writing_reads_back}
 use Rattle.thumb_model.specs.Listing.{Name, Nothing}
 use Rattle.listing_parser.specs.Grammar.{front_of, Read, is_no_colon, is_no_at, begins_hash, is_some_byte, without_first, front_name, from_colon, begins_label, labels_at_front, without_return, body, code, with_labels, read_line, checked_line, shown_of, most_lines}
-use Rattle.listing_parser.specs.Directives.{Unmarked, Plain, Instruction, Told, says, instruction, said, statement}
+use Rattle.listing_parser.specs.Directives.{Unmarked, Plain, ByKind, Told, says, instruction, said, statement}
 use Rattle.listing_parser.specs.Replacing.{names_no_label}
 use Rattle.listing_parser.proofs.ReadingLemmas.{last_other, labels_more, labels_none}
 
@@ -331,12 +331,12 @@ clear_line t bs c (inr e) = record {
   begins = ap (rest is_blank) e ∙ rest_of_text t c;
 }
 
-text_says : (t : List ℕ) (s : Shown) → Canonical t → reading t ≡ Some s → said t ≡ Some (record { said = Instruction s; mark = Unmarked })
+text_says : (t : List ℕ) (s : Shown) → Canonical t → reading t ≡ Some s → said t ≡ Some (record { said = ByKind s; mark = Unmarked })
 unfolding instruction
 text_says t s c e =
     let other = (letter_else c.first c.letter).2 in
     ap said c.is
-    ∙ rw other (ap (λ (w : List ℕ). instruction w) (sym c.is) ∙ ap (option_map (λ (x : Shown). (let y : Told = record { said = Instruction x; mark = Unmarked } in y))) e)
+    ∙ rw other (ap (λ (w : List ℕ). instruction w) (sym c.is) ∙ ap (option_map (λ (x : Shown). (let y : Told = record { said = ByKind x; mark = Unmarked } in y))) e)
 
 statement_is : (bs t : List ℕ) (o : Option Told) → rest is_blank bs ≡ t → said t ≡ o → statement bs ≡ o
 unfolding statement
@@ -344,7 +344,7 @@ statement_is bs t o e f = ap said e ∙ f
 
 -- what is read of an instruction's text
 abbrev pub told_of : Instr → Told
-told_of i = record { said = Instruction (shown_of i None); mark = Unmarked }
+told_of i = record { said = ByKind (shown_of i None); mark = Unmarked }
 
 no_hash : (t bs : List ℕ) → Canonical t → rest is_blank bs ≡ t → begins_hash (rest is_blank bs) ≡ false
 no_hash t bs c e = ap begins_hash (e ∙ c.is) ∙ (letter_else c.first c.letter).1

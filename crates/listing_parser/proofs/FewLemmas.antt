@@ -10,11 +10,11 @@ use Rattle.ascii_scan.specs.Names.{is_name_byte}
 use Rattle.thumb_syntax.specs.Operands.{is_name}
 use Rattle.thumb_syntax.specs.Rows.{Shown, reading}
 use Rattle.thumb_model.proofs.Lists.{length_map}
-use Rattle.thumb_model.specs.Listing.{Name, Value, Statement, Nothing, Runs, Words, Aligns, Sets, Line, Word, places_in, places_of}
+use Rattle.thumb_model.specs.Listing.{Name, Value, Statement, Nothing, Instruction, Words, Aligns, Sets, ListingLine, Word, places_in, places_of}
 use Rattle.listing_parser.specs.declared.directive.Directive.{Directive}
 use Rattle.listing_parser.specs.declared.directive.Directive.TheVariants as directive
 use Rattle.listing_parser.specs.Grammar.{Bare, Read, begins_label, from_colon, without_first, without_return, labels_within, labels_at_front, is_no_at, begins_hash, body, code, read_lines, said_of, bare, most_lines}
-use Rattle.listing_parser.specs.Directives.{Unmarked, NextMarked, NameMarked, Said, Plain, Instruction, Told, says, says_if, marks, aligns_at_most, aligned, sets, sets_by, typed_by, directed, directed_by, directive_named, is_word_byte, is_bare, is_alone, is_code_section, instruction, said, statement}
+use Rattle.listing_parser.specs.Directives.{Unmarked, NextMarked, NameMarked, Said, Plain, ByKind, Told, says, says_if, marks, aligns_at_most, aligned, sets, sets_by, typed_by, directed, directed_by, directive_named, is_word_byte, is_bare, is_alone, is_code_section, instruction, said, statement}
 use Rattle.listing_parser.specs.Values.{value, values, onto_values, alone, gapped, pair}
 use Rattle.listing_parser.proofs.ReadingLemmas.{rest_short, after_shorter}
 use Rattle.listing_parser.proofs.PrintLemmas.{OfLine, of_checked, cut, none_read}
@@ -23,7 +23,7 @@ use Rattle.listing_parser.proofs.CanonicalLines.{front_short}
 -- how many places a statement has
 pub count : Said → ℕ
 count (Plain s) = length (places_in s)
-count (Instruction s) = 1
+count (ByKind s) = 1
 
 pub counts : List Read → ℕ
 counts [] = 0
@@ -147,11 +147,11 @@ directed_by_few : (o : Option Directive) (bs : List ℕ) (t : Told) → directed
 directed_by_few None bs t e = absurd (let bad : None ≡ Some t = e in cc)
 directed_by_few (Some d) bs t e = directed_few d bs t e
 
-instruction_by : (o : Option Shown) (t : Told) → option_map (λ (s : Shown). (let x : Told = record { said = Instruction s; mark = Unmarked } in x)) o ≡ Some t → count t.said ≡ 1
+instruction_by : (o : Option Shown) (t : Told) → option_map (λ (s : Shown). (let x : Told = record { said = ByKind s; mark = Unmarked } in x)) o ≡ Some t → count t.said ≡ 1
 unfolding count
 instruction_by None t e = absurd (let bad : None ≡ Some t = e in cc)
 instruction_by (Some s) t e =
-    let x : Told = record { said = Instruction s; mark = Unmarked } in
+    let x : Told = record { said = ByKind s; mark = Unmarked } in
     let same : Some x ≡ Some t = e in
     let is : x ≡ t = cc in
     ap (λ (y : Told). count y.said) (sym is)
@@ -243,12 +243,12 @@ all_few n start (t ∷ ts) rs e h =
 count_said : (s : Statement) → count (said_of s) ≡ length (places_in s)
 unfolding count
 count_said Nothing = refl
-count_said (Runs i m) = refl
+count_said (Instruction i m) = refl
 count_said (Words vs) = refl
 count_said (Aligns size most) = refl
 count_said (Sets name address) = refl
 
-pub counts_places : {A : Type 0} (f : A → Line) (g : A → Read) (xs : List A) → ((x : A) → (g x).line ≡ bare (f x)) → counts (map g xs) ≡ length (places_of (map f xs))
+pub counts_places : {A : Type 0} (f : A → ListingLine) (g : A → Read) (xs : List A) → ((x : A) → (g x).line ≡ bare (f x)) → counts (map g xs) ≡ length (places_of (map f xs))
 unfolding counts
 counts_places f g [] same = refl
 counts_places f g (x ∷ xs) same =
@@ -256,7 +256,7 @@ counts_places f g (x ∷ xs) same =
     let next = counts_places f g xs same in
     omega (arith, length-append (places_in (f x).statement) (places_of (map f xs)))
 
-pub counts_bare : (rs : List Read) (ls : List Line) → map (λ r. r.line) rs ≡ map bare ls → counts rs ≡ length (places_of ls)
+pub counts_bare : (rs : List Read) (ls : List ListingLine) → map (λ r. r.line) rs ≡ map bare ls → counts rs ≡ length (places_of ls)
 unfolding counts
 counts_bare [] [] e = refl
 counts_bare [] (l ∷ ls) e = absurd (cc)
@@ -268,7 +268,7 @@ counts_bare (r ∷ rs) (l ∷ ls) e =
     let next = counts_bare rs ls others in
     omega (arith, length-append (places_in l.statement) (places_of ls))
 
-pub few_places : {A : Type 0} (f : A → Line) (g : A → Read) (bytes : List ℕ) (xs : List A) → ((x : A) → (g x).line ≡ bare (f x)) → read_lines (lines_in bytes) ≡ Ok (map g xs) → length (places_of (map f xs)) < 2 ^ 32
+pub few_places : {A : Type 0} (f : A → ListingLine) (g : A → Read) (bytes : List ℕ) (xs : List A) → ((x : A) → (g x).line ≡ bare (f x)) → read_lines (lines_in bytes) ≡ Ok (map g xs) → length (places_of (map f xs)) < 2 ^ 32
 few_places f g bytes xs same e =
     let few = all_few 1 0 (lines_of bytes) (map g xs) e (omega arith) in
     let sum = counts_places f g xs same in

@@ -6,9 +6,9 @@ use Rattle.std.proofs.lemmas.Bool.{cases_Bool, ltb-false}
 use Rattle.ascii_scan.specs.Lines.{Placed, lines_of, onto_first, placed, placed_from}
 use Rattle.ascii_scan.specs.FirstLine.{is_inside}
 use Rattle.ascii_scan.proofs.LineLemmas.{lines_nil, lines_newline, lines_other}
-use Rattle.thumb_model.specs.Listing.{Line}
-use Rattle.listing_parser.specs.declared.errors.Kind.{Kind}
-use Rattle.listing_parser.specs.declared.errors.Kind.TheVariants as kind
+use Rattle.thumb_model.specs.Listing.{ListingLine}
+use Rattle.listing_parser.specs.declared.errors.ListingFault.{ListingFault}
+use Rattle.listing_parser.specs.declared.errors.ListingFault.TheVariants as kind
 use Rattle.listing_parser.specs.Grammar.{Bare, Read, read_line, checked_line, with_first, read_lines, bare, most_lines}
 use Rattle.listing_parser.specs.Parsing.{text_of_lines}
 use Rattle.listing_parser.proofs.LabelLemmas.{or_false}
@@ -57,10 +57,10 @@ text_ended (b ∷ bs) = elim (cases_Bool (b == 10)) [
 ]
 
 -- the texts of lines
-abbrev pub text : Line → List ℕ
+abbrev pub text : ListingLine → List ℕ
 text l = l.text
 
-pub joined_split : (ls : List Line) → AreEnded (map text ls) → lines_of (text_of_lines ls) ≡ map text ls
+pub joined_split : (ls : List ListingLine) → AreEnded (map text ls) → lines_of (text_of_lines ls) ≡ map text ls
 unfolding AreEnded
 joined_split [] h = lines_nil
 joined_split (l ∷ ls) (inl c, more) = c.next (text_of_lines ls) ∙ ap (λ (ts : List (List ℕ)). l.text ∷ ts) (joined_split ls more)
@@ -94,17 +94,17 @@ reads_anywhere t r n start e m begin few =
 -- ---- all lines ----
 
 -- the line is read as this
-pub record IsRead (l : Line) (r : Read) : Type 0 where
+pub record IsRead (l : ListingLine) (r : Read) : Type 0 where
   pub same : r.line ≡ bare l
   pub reads : ReadsAs l.text r
 
-unfoldable pub AreRead : List Line → List Read → Type 0
+unfoldable pub AreRead : List ListingLine → List Read → Type 0
 AreRead [] [] = Unit {0}
 AreRead [] (r ∷ rs) = ⊥
 AreRead (l ∷ ls) [] = ⊥
 AreRead (l ∷ ls) (r ∷ rs) = IsRead l r × AreRead ls rs
 
-pub all_same : (ls : List Line) (rs : List Read) → AreRead ls rs → map (λ (r : Read). r.line) rs ≡ map bare ls
+pub all_same : (ls : List ListingLine) (rs : List Read) → AreRead ls rs → map (λ (r : Read). r.line) rs ≡ map bare ls
 unfolding AreRead
 all_same [] [] h = refl
 all_same [] (r ∷ rs) h = absurd h
@@ -115,13 +115,13 @@ all_same (l ∷ ls) (r ∷ rs) h = cons_same r.line (bare l) _ _ h.0.same (all_s
 
 read_more : (l : Placed) (ls : List Placed) (r : Read) (rs : List Read) → checked_line l ≡ Ok r → read_lines ls ≡ Ok rs → read_lines (l ∷ ls) ≡ Ok (r ∷ rs)
 unfolding read_lines
-read_more l ls r rs e f = ap (λ (x : Result Read (ℕ × Kind)). with_first x (read_lines ls)) e ∙ ap (with_first (Ok r)) f
+read_more l ls r rs e f = ap (λ (x : Result Read (ℕ × ListingFault)). with_first x (read_lines ls)) e ∙ ap (with_first (Ok r)) f
 
 read_nothing : read_lines [] ≡ Ok []
 unfolding read_lines
 read_nothing = refl
 
-pub all_read : (ls : List Line) (rs : List Read) (n start : ℕ) → AreRead ls rs → n + length ls ≤ most_lines + 1 → read_lines (placed_from n start (map text ls)) ≡ Ok rs
+pub all_read : (ls : List ListingLine) (rs : List Read) (n start : ℕ) → AreRead ls rs → n + length ls ≤ most_lines + 1 → read_lines (placed_from n start (map text ls)) ≡ Ok rs
 unfolding AreRead ReadsAs
 all_read [] [] n start h few = read_nothing
 all_read [] (r ∷ rs) n start h few = absurd h

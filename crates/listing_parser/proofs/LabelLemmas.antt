@@ -5,7 +5,7 @@ use Rattle.std.specs.Str.{bytes_eq}
 use Rattle.std.proofs.lemmas.Bool.{cases_Bool}
 use Rattle.std.proofs.lemmas.List.{length-append}
 use Rattle.std.proofs.lemmas.Slice.Eq.{bytes_eq-Decides}
-use Rattle.thumb_model.specs.Listing.{Name, Line, Place, Label, places_in, places_of, labels_at, labels_from, is_op_place, place_among, has_label}
+use Rattle.thumb_model.specs.Listing.{Name, ListingLine, Place, Label, places_in, places_of, labels_at, labels_from, is_op_place, place_among, has_label}
 use Rattle.thumb_model.specs.Layout.{is_among}
 use Rattle.thumb_model.specs.Steps.{label_place}
 use Rattle.listing_parser.specs.TableWords.{label_line, passed_from}
@@ -32,13 +32,13 @@ label_at name p (n ∷ ns) rest = elim (cases_Bool (bytes_eq name n)) [
 ]
 
 -- the line of the name's first label, counted from n, and its place
-pub record Labelled (name : Name) (n m p : ℕ) (ls : List Line) : Type 0 where
+pub record Labelled (name : Name) (n m p : ℕ) (ls : List ListingLine) : Type 0 where
   pub index : ℕ
   pub at : m ≡ n + index
   pub within : index < length ls
   pub place : label_place name (labels_from p ls) ≡ Some (p + length (places_of (take index ls)))
 
-pub labelled : (name : Name) (n m p : ℕ) (ls : List Line) → label_line name n ls ≡ Some m → Labelled name n m p ls
+pub labelled : (name : Name) (n m p : ℕ) (ls : List ListingLine) → label_line name n ls ≡ Some m → Labelled name n m p ls
 labelled name n m p [] e = absurd (let bad : None ≡ Some m = e in cc)
 labelled name n m p (l ∷ ls) e = elim (cases_Bool (is_among name l.names)) [
   | inl h ↦
@@ -61,7 +61,7 @@ labelled name n m p (l ∷ ls) e = elim (cases_Bool (is_among name l.names)) [
       }
 ]
 
-pub unlabelled : (name : Name) (n p : ℕ) (ls : List Line) → label_line name n ls ≡ None → label_place name (labels_from p ls) ≡ None
+pub unlabelled : (name : Name) (n p : ℕ) (ls : List ListingLine) → label_line name n ls ≡ None → label_place name (labels_from p ls) ≡ None
 unlabelled name n p [] e = refl
 unlabelled name n p (l ∷ ls) e = elim (cases_Bool (is_among name l.names)) [
   | inl h ↦ absurd (let bad : Some n ≡ None = rw h at e in cc)
@@ -108,7 +108,7 @@ unfoldable pub code_place : List Place → Option ℕ → Option ℕ
 code_place places None = None
 code_place places (Some p) = if is_op_place (slice_get places p) then Some p else None
 
-known_once : (name : Name) (places : List Place) (n p : ℕ) (known : List Name) (ls : List Line) → first_twice n known ls ≡ None → is_among name known ≡ true → place_among name places (labels_from p ls) ≡ None
+known_once : (name : Name) (places : List Place) (n p : ℕ) (known : List Name) (ls : List ListingLine) → first_twice n known ls ≡ None → is_among name known ≡ true → place_among name places (labels_from p ls) ≡ None
 known_once name places n p known [] e k = refl
 known_once name places n p known (l ∷ ls) e k = elim (cases_Bool (is_again known (defined_in l))) [
   | inl h ↦ absurd (let bad : Some n ≡ None = rw h at e in cc)
@@ -130,7 +130,7 @@ code_at name places p known (n ∷ ns) rest e k none = elim (cases_Bool (bytes_e
 ]
 
 -- where no name is defined twice, the code label of a name is its label, if it is code
-pub one_label : (name : Name) (places : List Place) (n p : ℕ) (known : List Name) (ls : List Line) → first_twice n known ls ≡ None → place_among name places (labels_from p ls) ≡ code_place places (label_place name (labels_from p ls))
+pub one_label : (name : Name) (places : List Place) (n p : ℕ) (known : List Name) (ls : List ListingLine) → first_twice n known ls ≡ None → place_among name places (labels_from p ls) ≡ code_place places (label_place name (labels_from p ls))
 unfolding code_place
 one_label name places n p known [] e = refl
 one_label name places n p known (l ∷ ls) e = elim (cases_Bool (is_again known (defined_in l))) [
@@ -157,7 +157,7 @@ one_label name places n p known (l ∷ ls) e = elim (cases_Bool (is_again known 
   last false e = e
 
 -- the label's line is told, and its place by what stands before the line
-pub label_found : (name : Name) (ls : List Line) (xs : List Passed) (m : ℕ) (x : Passed) → label_line name 0 ls ≡ Some m → xs ≡ passed_from 0 ls → x ≡ get_or xs m x
+pub label_found : (name : Name) (ls : List ListingLine) (xs : List Passed) (m : ℕ) (x : Passed) → label_line name 0 ls ≡ Some m → xs ≡ passed_from 0 ls → x ≡ get_or xs m x
     → Some x.places ≡ label_place name (labels_from 0 ls)
 label_found name ls xs m x e all at =
     let l = labelled name 0 m 0 ls e in
@@ -165,7 +165,7 @@ label_found name ls xs m x e all at =
     let told = before_line ls xs m x (omega (arith, l.within)) all at in
     sym (l.place ∙ ap (λ (n : ℕ). Some n) (let h : 0 + length (places_of (take l.index ls)) ≡ x.places = omega (arith, told.0, ap (λ (k : ℕ). length (places_of (take k ls))) same) in h))
 
-pub label_within : (name : Name) (ls : List Line) (m : ℕ) → label_line name 0 ls ≡ Some m → m < length ls
+pub label_within : (name : Name) (ls : List ListingLine) (m : ℕ) → label_line name 0 ls ≡ Some m → m < length ls
 label_within name ls m e = let l = labelled name 0 m 0 ls e in omega (arith, l.at, l.within)
 
 -- a name is a label where some line has it
@@ -176,21 +176,21 @@ label_among name p (n ∷ ns) rest = elim (cases_Bool (bytes_eq name n)) [
   | inr e ↦ rw e (label_among name p ns rest)
 ]
 
-pub label_is : (name : Name) (n p : ℕ) (ls : List Line) → has_label name (labels_from p ls) ≡ is_some (label_line name n ls)
+pub label_is : (name : Name) (n p : ℕ) (ls : List ListingLine) → has_label name (labels_from p ls) ≡ is_some (label_line name n ls)
 label_is name n p [] = refl
 label_is name n p (l ∷ ls) = elim (cases_Bool (is_among name l.names)) [
   | inl e ↦ label_among name p l.names _ ∙ rw e refl
   | inr e ↦ label_among name p l.names _ ∙ rw e (label_is name (n + 1) (p + length (places_in l.statement)) ls)
 ]
 
-pub no_label_from : (name : Name) (n : ℕ) (ls : List Line) → label_line name n ls ≡ None → from_label name ls ≡ []
+pub no_label_from : (name : Name) (n : ℕ) (ls : List ListingLine) → label_line name n ls ≡ None → from_label name ls ≡ []
 no_label_from name n [] e = refl
 no_label_from name n (l ∷ ls) e = elim (cases_Bool (is_among name l.names)) [
   | inl h ↦ absurd (let bad : Some n ≡ None = rw h at e in cc)
   | inr h ↦ rw h (no_label_from name (n + 1) ls (rw h at e))
 ]
 
-pub label_from_line : (name : Name) (n m k : ℕ) (ls : List Line) → label_line name n ls ≡ Some m → n + k ≡ m → from_label name ls ≡ drop k ls
+pub label_from_line : (name : Name) (n m k : ℕ) (ls : List ListingLine) → label_line name n ls ≡ Some m → n + k ≡ m → from_label name ls ≡ drop k ls
 label_from_line name n m k [] e h = absurd (let bad : None ≡ Some m = e in cc)
 label_from_line name n m zero (l ∷ ls) e h = elim (cases_Bool (is_among name l.names)) [
   | inl a ↦ rw a refl

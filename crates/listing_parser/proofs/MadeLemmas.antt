@@ -3,9 +3,9 @@ use Rattle.std.proofs.Common.{◌≡◌, ◌∙◌, ℕ, List, [], ◌∷◌, ma
 use Rattle.ascii_scan.specs.Lines.{lines_in}
 use Rattle.thumb_instr.proofs.PartLemmas.{same_parts}
 use Rattle.thumb_syntax.specs.Rows.{Shown}
-use Rattle.thumb_model.specs.Listing.{Mention, Statement, Runs, Line}
+use Rattle.thumb_model.specs.Listing.{Mention, Statement, Instruction, ListingLine}
 use Rattle.listing_parser.specs.Grammar.{Bare, Read, read_lines, shown_of, said_of, bare}
-use Rattle.listing_parser.specs.Directives.{Plain, Instruction}
+use Rattle.listing_parser.specs.Directives.{Plain, ByKind}
 use Rattle.listing_parser.specs.Verdicts.{OneListing}
 
 -- ---- lines ----
@@ -24,20 +24,20 @@ same_mention (Some m) (Some n) e =
 same_plain : (s t : Statement) → Plain s ≡ Plain t → s ≡ t
 same_plain s t e = cc
 
-same_shown : (s t : Shown) → Instruction s ≡ Instruction t → s ≡ t
+same_shown : (s t : Shown) → ByKind s ≡ ByKind t → s ≡ t
 same_shown s t e = cc
 
 same_said : (s t : Statement) → said_of s ≡ said_of t → s ≡ t
-same_said (Runs i m) (Runs j n) e =
+same_said (Instruction i m) (Instruction j n) e =
     let shown = same_shown (shown_of i m) (shown_of j n) e in
     let instrs : i ≡ j = same_parts i j (ap (λ (x : Shown). x.made) shown) in
     let mentions : m ≡ n = same_mention m n (ap (λ (x : Shown). x.label) shown) in
     cc
-same_said (Runs i m) t e = absurd (cc)
-same_said s (Runs j n) e = absurd (cc)
+same_said (Instruction i m) t e = absurd (cc)
+same_said s (Instruction j n) e = absurd (cc)
 same_said s t e = same_plain s t e
 
-same_bare : (l m : Line) → bare l ≡ bare m → l ≡ m
+same_bare : (l m : ListingLine) → bare l ≡ bare m → l ≡ m
 same_bare l m e =
     let names : l.names ≡ m.names = ap (λ (b : Bare). b.names) e in
     let statements : l.statement ≡ m.statement = same_said l.statement m.statement (ap (λ (b : Bare). b.said) e) in
@@ -45,7 +45,7 @@ same_bare l m e =
     let fronts : l.front ≡ m.front = ap (λ (b : Bare). b.front) e in
     λ i. record { names = names i; statement = statements i; text = texts i; front = fronts i }
 
-pub same_lines : (ls ms : List Line) → map bare ls ≡ map bare ms → ls ≡ ms
+pub same_lines : (ls ms : List ListingLine) → map bare ls ≡ map bare ms → ls ≡ ms
 same_lines [] [] e = refl
 same_lines [] (m ∷ ms) e = absurd (cc)
 same_lines (l ∷ ls) [] e = absurd (cc)

@@ -7,7 +7,7 @@ use Rattle.std.proofs.lemmas.Bool.{cases_Bool}
 use Rattle.std.proofs.lemmas.List.{length-append}
 use Rattle.std.proofs.lemmas.Option.{slice_get_within}
 use Rattle.ascii_scan.specs.Lines.{lines_of}
-use Rattle.thumb_model.specs.Listing.{Name, Line, Place, Label, Code, places_in, places_of, labels_at, labels_from, code_of, has_label, is_call, is_code, is_op_place, place_of, return_places}
+use Rattle.thumb_model.specs.Listing.{Name, ListingLine, Place, Label, Code, places_in, places_of, labels_at, labels_from, code_of, has_label, is_call, is_code, is_op_place, place_of, return_places}
 use Rattle.thumb_model.specs.Layout.{is_among}
 use Rattle.thumb_model.specs.Naming.{Naming, Fits, is_in_range, is_odd, points, points_of, returns_from}
 use Rattle.thumb_model.specs.Steps.{label_place}
@@ -50,7 +50,7 @@ there p (n ∷ ns) (suc k) l e =
     or_more false b h = h
 
 -- a label of these lines has none of the names that were known before
-pub fresh : (n p : ℕ) (known : List Name) (ls : List Line) → first_twice n known ls ≡ None → (k : ℕ) (l : Label) → slice_get (labels_from p ls) k ≡ Some l → is_among l.name known ≡ false
+pub fresh : (n p : ℕ) (known : List Name) (ls : List ListingLine) → first_twice n known ls ≡ None → (k : ℕ) (l : Label) → slice_get (labels_from p ls) k ≡ Some l → is_among l.name known ≡ false
 fresh n p known [] e k l at = absurd (let bad : None ≡ Some l = at in cc)
 fresh n p known (x ∷ ls) e k l at = elim (cases_Bool (is_again known (defined_in x))) [
   | inl h ↦ absurd (let bad : Some n ≡ None = rw h at e in cc)
@@ -66,7 +66,7 @@ fresh n p known (x ∷ ls) e k l at = elim (cases_Bool (is_again known (defined_
 ]
 
 -- where no name is defined twice, a label stands at its name's place
-pub own : (n p : ℕ) (known : List Name) (ls : List Line) → first_twice n known ls ≡ None → (k : ℕ) (l : Label) → slice_get (labels_from p ls) k ≡ Some l → label_place l.name (labels_from p ls) ≡ Some l.place
+pub own : (n p : ℕ) (known : List Name) (ls : List ListingLine) → first_twice n known ls ≡ None → (k : ℕ) (l : Label) → slice_get (labels_from p ls) k ≡ Some l → label_place l.name (labels_from p ls) ≡ Some l.place
 own n p known [] e k l at = absurd (let bad : None ≡ Some l = at in cc)
 own n p known (x ∷ ls) e k l at = elim (cases_Bool (is_again known (defined_in x))) [
   | inl h ↦ absurd (let bad : Some n ≡ None = rw h at e in cc)
@@ -85,7 +85,7 @@ unfolding code_place
 op_same places None = refl
 op_same places (Some p) = refl
 
-pub code_labels_are_labels : (bytes : List ℕ) (lines : List Line) → IsListing bytes lines → (name : Name) → place_of (code_of lines) name ≡ if_op (places_of lines) (label_place name (labels_from 0 lines))
+pub code_labels_are_labels : (bytes : List ℕ) (lines : List ListingLine) → IsListing bytes lines → (name : Name) → place_of (code_of lines) name ≡ if_op (places_of lines) (label_place name (labels_from 0 lines))
 code_labels_are_labels bytes lines is name = one_label name (places_of lines) 1 0 [] lines (once_none lines is.once) ∙ op_same (places_of lines) (label_place name (labels_from 0 lines))
 
 -- ---- the naming ----
@@ -170,7 +170,7 @@ return_within p k (x ∷ xs) = elim (cases_Bool (is_call x)) [
   | inr h ↦ rw h (let g = return_within (p + 1) k xs in omega arith)
 ]
 
-label_within : (name : Name) (p q : ℕ) (ls : List Line) → label_place name (labels_from p ls) ≡ Some q → q ≤ p + length (places_of ls)
+label_within : (name : Name) (p q : ℕ) (ls : List ListingLine) → label_place name (labels_from p ls) ≡ Some q → q ≤ p + length (places_of ls)
 label_within name p q [] e = absurd (let bad : None ≡ Some q = e in cc)
 label_within name p q (l ∷ ls) e = elim (cases_Bool (is_among name l.names)) [
   | inl h ↦ let is = first_label name p q l ls h e in omega arith
@@ -186,13 +186,13 @@ no_label name (l ∷ ls) e = let h = or_false (bytes_eq name l.name) _ e in rw h
 
 -- ---- all together ----
 
-few_of : (bytes : List ℕ) (lines : List Line) → IsListing bytes lines → length (places_of lines) ≤ 1025 * most_lines
+few_of : (bytes : List ℕ) (lines : List ListingLine) → IsListing bytes lines → length (places_of lines) ≤ 1025 * most_lines
 few_of bytes lines is =
     let few = all_few 1 0 (lines_of bytes) is.reads is.are.read (omega arith) in
     let sum = counts_bare is.reads lines is.are.same in
     omega (arith, few.0, few.1)
 
-module _ (bytes : List ℕ) (lines : List Line) (is : IsListing bytes lines) where
+module _ (bytes : List ℕ) (lines : List ListingLine) (is : IsListing bytes lines) where
   point : (k w p : ℕ) → slice_get (points (by_place (code_of lines)) (code_of lines)) k ≡ Some (w, p) → IsWord (length (places_of lines)) w p
   unfolding AreWorded AreReturns
   point k w p e = elim (either_part (points_of (by_place (code_of lines)) (places_of lines) (labels_from 0 lines)) _ k (w, p) e) [

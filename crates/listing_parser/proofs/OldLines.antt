@@ -11,12 +11,12 @@ use Rattle.ascii_scan.specs.Numeral.{numeral}
 use Rattle.ascii_scan.specs.Tokens.{is_blank, front, rest, tokens}
 use Rattle.thumb_syntax.specs.Operands.{is_name}
 use Rattle.thumb_syntax.specs.Rows.{Shown, reading}
-use Rattle.thumb_model.specs.Listing.{Name, Value, Statement, Nothing, Runs, Words, Aligns, Sets, Line}
+use Rattle.thumb_model.specs.Listing.{Name, Value, Statement, Nothing, Instruction, Words, Aligns, Sets, ListingLine}
 use Rattle.thumb_model.specs.Replaced.{is_op}
 use Rattle.listing_parser.specs.declared.directive.Directive.{Directive}
 use Rattle.listing_parser.specs.declared.directive.Directive.TheVariants as directive
 use Rattle.listing_parser.specs.Grammar.{body, code, labels_at_front, Bare, Read, read_line, checked_line, read_lines, said_of, bare}
-use Rattle.listing_parser.specs.Directives.{Mark, Unmarked, NameMarked, Said, Plain, Instruction, Told, says, marks, instruction, aligns_at_most, whole_size, aligned, sets, sets_by, typed_by, says_if, is_bare, is_alone, directed, directive_named, directed_by, is_word_byte, said, statement}
+use Rattle.listing_parser.specs.Directives.{FunctionMark, Unmarked, NameMarked, Said, Plain, ByKind, Told, says, marks, instruction, aligns_at_most, whole_size, aligned, sets, sets_by, typed_by, says_if, is_bare, is_alone, directed, directive_named, directed_by, is_word_byte, said, statement}
 use Rattle.listing_parser.specs.Values.{alone as alone_word, pair, gapped, values}
 use Rattle.listing_parser.proofs.PrintLemmas.{of_read, cut, none_read}
 use Rattle.listing_parser.proofs.CanonicalLines.{labels_only, read_checked}
@@ -27,14 +27,14 @@ use Rattle.listing_parser.proofs.JoinedLines.{Ends, inside_ends, text, checked_p
 
 abbrev is_instruction : Said → Bool
 is_instruction (Plain s) = false
-is_instruction (Instruction s) = true
+is_instruction (ByKind s) = true
 
 -- what is told marks nothing, if it is an instruction
 abbrev IsCalm : Option Told → Type 0
 IsCalm None = Unit {0}
 IsCalm (Some t) = is_instruction t.said ≡ true → t.mark ≡ Unmarked
 
-calm_instruction : (o : Option Shown) → IsCalm (option_map (λ (s : Shown). (let t : Told = record { said = Instruction s; mark = Unmarked } in t)) o)
+calm_instruction : (o : Option Shown) → IsCalm (option_map (λ (s : Shown). (let t : Told = record { said = ByKind s; mark = Unmarked } in t)) o)
 calm_instruction None = tt
 calm_instruction (Some s) = λ e. refl
 
@@ -60,7 +60,7 @@ calm_set : (r : Option (List ℕ × List ℕ)) → IsCalm (sets_by r)
 calm_set None = tt
 calm_set (Some r) = calm_sets r.0 (numeral r.1)
 
-calm_marks : (m : Mark) → IsCalm (Some (marks m))
+calm_marks : (m : FunctionMark) → IsCalm (Some (marks m))
 calm_marks m = λ e. absurd (true≢false (sym e))
 
 calm_typed : (r : Option (List ℕ × List ℕ)) → IsCalm (Some (typed_by r))
@@ -102,7 +102,7 @@ calm_statement bs = calm_said (rest is_blank bs)
 
 op_said : (s : Statement) → is_op s ≡ true → is_instruction (said_of s) ≡ true
 op_said Nothing e = e
-op_said (Runs i m) e = refl
+op_said (Instruction i m) e = refl
 op_said (Words vs) e = e
 op_said (Aligns size most) e = e
 op_said (Sets name address) e = e
@@ -110,7 +110,7 @@ op_said (Sets name address) e = e
 calm_at : (o : Option Told) (t : Told) → o ≡ Some t → IsCalm o → is_instruction t.said ≡ true → t.mark ≡ Unmarked
 calm_at o t e calm = let same : IsCalm (Some t) = subst IsCalm e calm in same
 
-op_unmarked : (p : Placed) (l : Line) (r : Read) → read_line p ≡ Some r → r.line ≡ bare l → is_op l.statement ≡ true → r.mark ≡ Unmarked
+op_unmarked : (p : Placed) (l : ListingLine) (r : Read) → read_line p ≡ Some r → r.line ≡ bare l → is_op l.statement ≡ true → r.mark ≡ Unmarked
 op_unmarked p l r e same op =
     let of = of_read p r e in
     let says' : of.told.said ≡ said_of l.statement = sym of.said ∙ ap (λ (b : Bare). b.said) same in
@@ -156,18 +156,18 @@ front_reads t n start r e some =
 -- ---- all lines ----
 
 -- the line was read as this
-pub record IsOld (l : Line) (r : Read) : Type 0 where
+pub record IsOld (l : ListingLine) (r : Read) : Type 0 where
   pub read : IsRead l r
   pub unmarked : is_op l.statement ≡ true → r.mark ≡ Unmarked
   pub front : (l.names ≡ [] → ⊥) → FrontReads l.names l.front
 
-unfoldable pub AreOld : List Line → List Read → Type 0
+unfoldable pub AreOld : List ListingLine → List Read → Type 0
 AreOld [] [] = Unit {0}
 AreOld [] (r ∷ rs) = ⊥
 AreOld (l ∷ ls) [] = ⊥
 AreOld (l ∷ ls) (r ∷ rs) = IsOld l r × AreOld ls rs
 
-old_line : (t : List ℕ) (n start : ℕ) (l : Line) (r : Read) → whole (placed n start t) ≡ t → checked_line (placed n start t) ≡ Ok r → r.line ≡ bare l → (l.text ≡ t) × IsOld l r
+old_line : (t : List ℕ) (n start : ℕ) (l : ListingLine) (r : Read) → whole (placed n start t) ≡ t → checked_line (placed n start t) ≡ Ok r → r.line ≡ bare l → (l.text ≡ t) × IsOld l r
 old_line t n start l r w e same =
     let parts = checked_parts (placed n start t) r e in
     let text' : l.text ≡ t = sym (ap (λ (b : Bare). b.text) same) ∙ (of_read (placed n start t) r parts.1).text ∙ w in (
@@ -182,21 +182,21 @@ old_line t n start l r w e same =
 cons_parts : {A : Type 0} (x y : A) (xs ys : List A) → x ∷ xs ≡ y ∷ ys → (x ≡ y) × (xs ≡ ys)
 cons_parts x y xs ys e = (cc, cc)
 
-pub record OldRead (ls : List Line) (rs : List Read) (ts : List (List ℕ)) : Type 0 where
+pub record OldRead (ls : List ListingLine) (rs : List Read) (ts : List (List ℕ)) : Type 0 where
   pub texts : map text ls ≡ ts
   pub old : AreOld ls rs
 
-old_cons : (t : List ℕ) (ts : List (List ℕ)) (l : Line) (ls : List Line) (r : Read) (rs : List Read) → l.text ≡ t → IsOld l r → OldRead ls rs ts → OldRead (l ∷ ls) (r ∷ rs) (t ∷ ts)
+old_cons : (t : List ℕ) (ts : List (List ℕ)) (l : ListingLine) (ls : List ListingLine) (r : Read) (rs : List Read) → l.text ≡ t → IsOld l r → OldRead ls rs ts → OldRead (l ∷ ls) (r ∷ rs) (t ∷ ts)
 unfolding AreOld
 old_cons t ts l ls r rs e old more = record { texts = both l.text t (map text ls) ts e more.texts; old = (old, more.old) } where
   both : (x y : List ℕ) (xs ys : List (List ℕ)) → x ≡ y → xs ≡ ys → x ∷ xs ≡ y ∷ ys
   both x y xs ys e f = cc
 
-pub old_read : (ts : List (List ℕ)) (n start : ℕ) (rs : List Read) (ls : List Line) → map whole (placed_from n start ts) ≡ ts → read_lines (placed_from n start ts) ≡ Ok rs
+pub old_read : (ts : List (List ℕ)) (n start : ℕ) (rs : List Read) (ls : List ListingLine) → map whole (placed_from n start ts) ≡ ts → read_lines (placed_from n start ts) ≡ Ok rs
     → map (λ (r : Read). r.line) rs ≡ map bare ls → OldRead ls rs ts
 unfolding AreOld
 old_read [] n start rs ls w e same = nothing ls rs (none_read rs e) same where
-  nothing : (ls : List Line) (rs : List Read) → rs ≡ [] → map (λ (r : Read). r.line) rs ≡ map bare ls → OldRead ls rs []
+  nothing : (ls : List ListingLine) (rs : List Read) → rs ≡ [] → map (λ (r : Read). r.line) rs ≡ map bare ls → OldRead ls rs []
   nothing [] [] h f = record { texts = refl; old = tt }
   nothing (l ∷ ls) [] h f = absurd (cc)
   nothing ls (r ∷ rs) h f = absurd (cc)
@@ -204,9 +204,9 @@ old_read (t ∷ ts) n start rs ls w e same =
     let c = cut (placed n start t) (placed_from (n + 1) (start + length t) ts) rs e in
     let parts = cons_parts (whole (placed n start t)) t (map whole (placed_from (n + 1) (start + length t) ts)) ts w in
     subst (λ (xs : List Read). OldRead ls xs (t ∷ ts)) (sym c.is) (by ls c.first c.others c.checked c.read (ap (map (λ (r : Read). r.line)) (sym c.is) ∙ same) parts.0 parts.1 (λ ls rs k f g. old_read ts (n + 1) (start + length t) rs ls k f g)) where
-      by : (ls : List Line) (r : Read) (rs : List Read) → checked_line (placed n start t) ≡ Ok r → read_lines (placed_from (n + 1) (start + length t) ts) ≡ Ok rs → r.line ∷ map (λ (x : Read). x.line) rs ≡ map bare ls
+      by : (ls : List ListingLine) (r : Read) (rs : List Read) → checked_line (placed n start t) ≡ Ok r → read_lines (placed_from (n + 1) (start + length t) ts) ≡ Ok rs → r.line ∷ map (λ (x : Read). x.line) rs ≡ map bare ls
           → whole (placed n start t) ≡ t → map whole (placed_from (n + 1) (start + length t) ts) ≡ ts
-          → ((ls : List Line) (rs : List Read) → map whole (placed_from (n + 1) (start + length t) ts) ≡ ts → read_lines (placed_from (n + 1) (start + length t) ts) ≡ Ok rs → map (λ (x : Read). x.line) rs ≡ map bare ls → OldRead ls rs ts)
+          → ((ls : List ListingLine) (rs : List Read) → map whole (placed_from (n + 1) (start + length t) ts) ≡ ts → read_lines (placed_from (n + 1) (start + length t) ts) ≡ Ok rs → map (λ (x : Read). x.line) rs ≡ map bare ls → OldRead ls rs ts)
           → OldRead ls (r ∷ rs) (t ∷ ts)
       by [] r rs e f g h k more = absurd (cc)
       by (l ∷ ls) r rs e f g h k more =

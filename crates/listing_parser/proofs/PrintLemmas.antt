@@ -5,9 +5,9 @@ use Rattle.std.specs.List.{flat_map}
 use Rattle.std.proofs.lemmas.Bool.{cases_Bool}
 use Rattle.ascii_scan.specs.Lines.{Placed, lines_in, whole}
 use Rattle.ascii_scan.proofs.LineLemmas.{lines_join_whole}
-use Rattle.thumb_model.specs.Listing.{Name, Line}
-use Rattle.listing_parser.specs.declared.errors.Kind.{Kind}
-use Rattle.listing_parser.specs.declared.errors.Kind.TheVariants as kind
+use Rattle.thumb_model.specs.Listing.{Name, ListingLine}
+use Rattle.listing_parser.specs.declared.errors.ListingFault.{ListingFault}
+use Rattle.listing_parser.specs.declared.errors.ListingFault.TheVariants as kind
 use Rattle.listing_parser.specs.Grammar.{front_of, Bare, Read, body, code, labels_at_front, read_line, shaped, checked_line, with_first, read_lines, bare, most_lines}
 use Rattle.listing_parser.specs.Directives.{Told, statement}
 use Rattle.listing_parser.specs.Parsing.{text_of_lines}
@@ -64,7 +64,7 @@ pub record Cut (l : Placed) (ls : List Placed) (rs : List Read) : Type 0 where
   pub checked : checked_line l ≡ Ok first
   pub read : read_lines ls ≡ Ok others
 
-cut_by : (l : Placed) (ls : List Placed) (rs : List Read) (a : Result Read (ℕ × Kind)) (b : Result (List Read) (ℕ × Kind)) → checked_line l ≡ a → read_lines ls ≡ b → with_first a b ≡ Ok rs → Cut l ls rs
+cut_by : (l : Placed) (ls : List Placed) (rs : List Read) (a : Result Read (ℕ × ListingFault)) (b : Result (List Read) (ℕ × ListingFault)) → checked_line l ≡ a → read_lines ls ≡ b → with_first a b ≡ Ok rs → Cut l ls rs
 cut_by l ls rs (Err x) b e f g = absurd (let bad : Err x ≡ Ok rs = g in cc)
 cut_by l ls rs (Ok r) (Err x) e f g = absurd (let bad : Err x ≡ Ok rs = g in cc)
 cut_by l ls rs (Ok r) (Ok xs) e f g =
@@ -92,7 +92,7 @@ texts_of : (rs : List Read) (bs : List Bare) → map (λ (r : Read). r.line) rs 
 texts_of [] bs e = ap (flat_map (λ (b : Bare). b.text)) e
 texts_of (r ∷ rs) bs e = ap (λ (w : List ℕ). r.line.text ++ w) (texts_of rs (map (λ (r : Read). r.line) rs) refl) ∙ ap (flat_map (λ (b : Bare). b.text)) e
 
-texts_bare : (ls : List Line) → flat_map (λ (b : Bare). b.text) (map bare ls) ≡ text_of_lines ls
+texts_bare : (ls : List ListingLine) → flat_map (λ (b : Bare). b.text) (map bare ls) ≡ text_of_lines ls
 texts_bare [] = refl
 texts_bare (l ∷ ls) = ap (λ (w : List ℕ). l.text ++ w) (texts_bare ls)
 

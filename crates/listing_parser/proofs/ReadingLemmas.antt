@@ -5,7 +5,7 @@ use Rattle.ascii_scan.specs.Tokens.{rest, is_blank}
 use Rattle.ascii_scan.specs.Lines.{Placed}
 use Rattle.thumb_model.specs.Listing.{Name}
 use Rattle.thumb_syntax.specs.Operands.{is_name}
-use Rattle.listing_parser.specs.declared.errors.Kind.{Kind}
+use Rattle.listing_parser.specs.declared.errors.ListingFault.{ListingFault}
 use Rattle.listing_parser.specs.declared.errors.ListingError.{ListingError}
 use Rattle.listing_parser.specs.declared.errors.ListingError.TheVariants as errors
 use Rattle.listing_parser.specs.Grammar.{is_no_colon, without_first, is_some_byte, front_name, from_colon, begins_label, labels_within, labels_at_front, without_return, Read, with_front, with_first, checked_line, read_lines}
@@ -118,11 +118,11 @@ last_other (b ∷ c ∷ bs) last e = ap (λ w. b ∷ w) (last_other (c ∷ bs) l
 
 -- ---- line by line ----
 
-front_none : (r : Result (List Read) (ℕ × Kind)) → with_front [] r ≡ r
+front_none : (r : Result (List Read) (ℕ × ListingFault)) → with_front [] r ≡ r
 front_none (Ok rs) = refl
 front_none (Err e) = refl
 
-front_more : (rs : List Read) (x : Read) (r : Result (List Read) (ℕ × Kind)) → with_front rs (with_front (x ∷ []) r) ≡ with_front (rs ++ x ∷ []) r
+front_more : (rs : List Read) (x : Read) (r : Result (List Read) (ℕ × ListingFault)) → with_front rs (with_front (x ∷ []) r) ≡ with_front (rs ++ x ∷ []) r
 front_more rs x (Ok xs) = ap (λ ys. Ok ys) (sym (append_assoc rs (x ∷ []) xs))
 front_more rs x (Err e) = refl
 
@@ -130,21 +130,21 @@ read_step : (l : Placed) (ls : List Placed) → read_lines (l ∷ ls) ≡ with_f
 unfolding read_lines
 read_step l ls = refl
 
-pub read_start : (r : Result (List Read) (ℕ × Kind)) → with_front [] r ≡ r
+pub read_start : (r : Result (List Read) (ℕ × ListingFault)) → with_front [] r ≡ r
 read_start r = front_none r
 
-pub read_end : (rs : List Read) (ls : List Placed) (r : Result (List Read) (ℕ × Kind)) → ls ≡ [] → with_front rs (read_lines ls) ≡ r → r ≡ Ok rs
+pub read_end : (rs : List Read) (ls : List Placed) (r : Result (List Read) (ℕ × ListingFault)) → ls ≡ [] → with_front rs (read_lines ls) ≡ r → r ≡ Ok rs
 unfolding read_lines
 read_end rs ls r e so_far = sym so_far ∙ rw e (ap (λ ys. Ok ys) (append-nil rs))
 
-pub read_ok : (rs : List Read) (ls rest : List Placed) (l : Placed) (x : Read) (r : Result (List Read) (ℕ × Kind)) → ls ≡ l ∷ rest → checked_line l ≡ Ok x
+pub read_ok : (rs : List Read) (ls rest : List Placed) (l : Placed) (x : Read) (r : Result (List Read) (ℕ × ListingFault)) → ls ≡ l ∷ rest → checked_line l ≡ Ok x
     → with_front rs (read_lines ls) ≡ r → with_front (rs ++ x ∷ []) (read_lines rest) ≡ r
 read_ok rs ls rest l x r e ok so_far =
     sym (front_more rs x (read_lines rest))
     ∙ ap (with_front rs) (sym (ap read_lines e ∙ read_step l rest ∙ ap (λ y. with_first y (read_lines rest)) ok))
     ∙ so_far
 
-pub read_err : (rs : List Read) (ls rest : List Placed) (l : Placed) (e : ListingError) (r : Result (List Read) (ℕ × Kind)) → ls ≡ l ∷ rest → Fails e (checked_line l)
+pub read_err : (rs : List Read) (ls rest : List Placed) (l : Placed) (e : ListingError) (r : Result (List Read) (ℕ × ListingFault)) → ls ≡ l ∷ rest → Fails e (checked_line l)
     → with_front rs (read_lines ls) ≡ r → Fails e r
 read_err rs ls rest l errors.Memory r is fails so_far = tt
 read_err rs ls rest l (errors.Line number k) r is fails so_far =

@@ -5,7 +5,7 @@ use Rattle.std.proofs.lemmas.Bool.{cases_Bool, false_from_ne_true}
 use Rattle.std.proofs.lemmas.List.{length-append}
 use Rattle.std.proofs.Math.Seq.{drop-cons}
 use Rattle.thumb_instr.specs.declared.instr.Instr.{Instr}
-use Rattle.thumb_model.specs.Listing.{Name, Statement, Nothing, Runs, Words, Aligns, Sets, Line, Mention, Place, Op, Word, plain, places_in, places_of, is_op_place}
+use Rattle.thumb_model.specs.Listing.{Name, Statement, Nothing, Instruction, Words, Aligns, Sets, ListingLine, Mention, Place, Op, Word, plain, places_in, places_of, is_op_place}
 use Rattle.thumb_model.specs.Layout.{is_among}
 use Rattle.thumb_model.specs.Replaced.{is_op, without, labels_kept, new_line, replaced_lines}
 use Rattle.thumb_model.specs.Cuts.{AreOps}
@@ -56,23 +56,23 @@ not_again_within other known (n ∷ ns) w e =
     rw new (not_again_within (other ++ n ∷ []) (known ++ n ∷ []) ns (within_same other known (n ∷ []) w) parts.1)
 
 -- the first line and the others
-pub once_parts : (n : ℕ) (known : List Name) (l : Line) (ls : List Line) → first_twice n known (l ∷ ls) ≡ None → (is_again known (defined_in l) ≡ false) × (first_twice (n + 1) (known ++ defined_in l) ls ≡ None)
+pub once_parts : (n : ℕ) (known : List Name) (l : ListingLine) (ls : List ListingLine) → first_twice n known (l ∷ ls) ≡ None → (is_again known (defined_in l) ≡ false) × (first_twice (n + 1) (known ++ defined_in l) ls ≡ None)
 once_parts n known l ls e = elim (cases_Bool (is_again known (defined_in l))) [
   | inl h ↦ absurd (let bad : Some n ≡ None = rw h at e in cc)
   | inr h ↦ (h, rw h at e)
 ]
 
-once_from : (n : ℕ) (known : List Name) (l : Line) (ls : List Line) → is_again known (defined_in l) ≡ false → first_twice (n + 1) (known ++ defined_in l) ls ≡ None → first_twice n known (l ∷ ls) ≡ None
+once_from : (n : ℕ) (known : List Name) (l : ListingLine) (ls : List ListingLine) → is_again known (defined_in l) ≡ false → first_twice (n + 1) (known ++ defined_in l) ls ≡ None → first_twice n known (l ∷ ls) ≡ None
 once_from n known l ls h e = rw h e
 
-once_within : (k j : ℕ) (known other : List Name) (ls : List Line) → Within other known → first_twice k known ls ≡ None → first_twice j other ls ≡ None
+once_within : (k j : ℕ) (known other : List Name) (ls : List ListingLine) → Within other known → first_twice k known ls ≡ None → first_twice j other ls ≡ None
 once_within k j known other [] w e = refl
 once_within k j known other (l ∷ ls) w e =
     let parts = once_parts k known l ls e in
     once_from j other l ls (not_again_within other known (defined_in l) w parts.0)
     (once_within (k + 1) (j + 1) (known ++ defined_in l) (other ++ defined_in l) ls (within_same other known (defined_in l) w) parts.1)
 
-once_without : (n k j : ℕ) (known other : List Name) (ls : List Line) → Within other known → first_twice k known ls ≡ None → first_twice j other (without n ls) ≡ None
+once_without : (n k j : ℕ) (known other : List Name) (ls : List ListingLine) → Within other known → first_twice k known ls ≡ None → first_twice j other (without n ls) ≡ None
 once_without n k j known other [] w e = refl
 once_without zero k j known other (l ∷ ls) w e = once_within k j known other (l ∷ ls) w e
 once_without (suc n) k j known other (l ∷ ls) w e =
@@ -84,22 +84,22 @@ once_without (suc n) k j known other (l ∷ ls) w e =
     ]
 
 -- lines that are defined nowhere twice, whatever of the known names is known before them
-Once : List Name → List Line → Type 0
+Once : List Name → List ListingLine → Type 0
 Once known ls = (j : ℕ) (other : List Name) → Within other known → first_twice j other ls ≡ None
 
-once_new : (write : Instr → List ℕ) (known : List Name) (is : List Instr) (ls : List Line) → Once known ls → Once known (map (new_line write) is ++ ls)
+once_new : (write : Instr → List ℕ) (known : List Name) (is : List Instr) (ls : List ListingLine) → Once known ls → Once known (map (new_line write) is ++ ls)
 unfolding Once
 once_new write known [] ls f j other w = f j other w
 once_new write known (i ∷ is) ls f j other w = once_new write known is ls f (j + 1) (other ++ []) (within_none other known w)
 
 op_sets : (s : Statement) → is_op s ≡ true → set_names s ≡ []
 op_sets Nothing e = refl
-op_sets (Runs i m) e = refl
+op_sets (Instruction i m) e = refl
 op_sets (Words vs) e = refl
 op_sets (Aligns size most) e = refl
 op_sets (Sets name address) e = absurd (true≢false (sym e))
 
-once_kept : (k : ℕ) (known : List Name) (l : Line) (names : List Name) (ls : List Line) → is_again known (names ++ []) ≡ false → Once (known ++ (names ++ [])) ls → Once known (labels_kept l names ++ ls)
+once_kept : (k : ℕ) (known : List Name) (l : ListingLine) (names : List Name) (ls : List ListingLine) → is_again known (names ++ []) ≡ false → Once (known ++ (names ++ [])) ls → Once known (labels_kept l names ++ ls)
 unfolding Once
 once_kept k known l [] ls h f j other w = f j other (within_more other known ([] ++ []) w)
 once_kept k known l (n ∷ ns) ls h f j other w =
@@ -111,7 +111,7 @@ pub and_first : (a b : Bool) → (a && b) ≡ true → a ≡ true
 and_first true b e = refl
 and_first false b e = absurd (true≢false (sym e))
 
-once_replaced : (write : Instr → List ℕ) (p count : ℕ) (is : List Instr) (k j : ℕ) (known other : List Name) (ls : List Line) → Within other known → first_twice k known ls ≡ None
+once_replaced : (write : Instr → List ℕ) (p count : ℕ) (is : List Instr) (k j : ℕ) (known other : List Name) (ls : List ListingLine) → Within other known → first_twice k known ls ≡ None
     → first_twice j other (replaced_lines write p count is ls) ≡ None
 unfolding Once
 once_replaced write p count is k j known other [] w e = refl
@@ -131,7 +131,7 @@ once_replaced write p count is k j known other (l ∷ ls) w e =
           (once_replaced write (p - length (places_in l.statement)) count is (k + 1) (j + 1) (known ++ defined_in l) (other ++ defined_in l) ls (within_same other known (defined_in l) w) parts.1))
     ]
 
-pub still_once : (write : Instr → List ℕ) (p count : ℕ) (is : List Instr) (ls : List Line) → DefineOnce ls → DefineOnce (replaced_lines write p count is ls)
+pub still_once : (write : Instr → List ℕ) (p count : ℕ) (is : List Instr) (ls : List ListingLine) → DefineOnce ls → DefineOnce (replaced_lines write p count is ls)
 still_once write p count is ls once = none_once (replaced_lines write p count is ls) (once_replaced write p count is 1 1 [] [] ls (within_self []) (once_none ls once))
 
 -- ---- no more places ----
@@ -153,7 +153,7 @@ take_most zero ps = omega arith
 take_most (suc n) [] = omega arith
 take_most (suc n) (p ∷ ps) = let more = take_most n ps in omega arith
 
-pub still_few : (write : Instr → List ℕ) (p count : ℕ) (is : List Instr) (ls : List Line) → 1 ≤ count → length is ≤ count
+pub still_few : (write : Instr → List ℕ) (p count : ℕ) (is : List Instr) (ls : List ListingLine) → 1 ≤ count → length is ≤ count
     → ((k : ℕ) → k < count → is_op_place (slice_get (places_of ls) (p + k)) ≡ true) → length (places_of ls) < 2 ^ 32 → length (places_of (replaced_lines write p count is ls)) < 2 ^ 32
 still_few write p zero is ls one few ops limit = absurd (omega arith)
 still_few write p (suc n) is ls one few ops limit =
@@ -172,12 +172,12 @@ still_few write p (suc n) is ls one few ops limit =
 
 aimed_sets : (label : Name) (s : Statement) → is_op s ≡ true → set_names (aimed label s) ≡ []
 aimed_sets label Nothing e = refl
-aimed_sets label (Runs i m) e = refl
+aimed_sets label (Instruction i m) e = refl
 aimed_sets label (Words vs) e = refl
 aimed_sets label (Aligns size most) e = refl
 aimed_sets label (Sets name address) e = absurd (true≢false (sym e))
 
-once_branch : (write : Instr → Option Mention → List ℕ) (label : Name) (known : List Name) (l : Line) (ls : List Line) → is_op l.statement ≡ true → Once known ls → Once known (aimed_line write label l ∷ ls)
+once_branch : (write : Instr → Option Mention → List ℕ) (label : Name) (known : List Name) (l : ListingLine) (ls : List ListingLine) → is_op l.statement ≡ true → Once known ls → Once known (aimed_line write label l ∷ ls)
 unfolding Once
 once_branch write label known l ls op f j other w =
     let sets : set_names (aimed label l.statement) ≡ [] = aimed_sets label l.statement op in
@@ -185,7 +185,7 @@ once_branch write label known l ls op f j other w =
     (ap (is_again other) sets)
     (ap (λ (ns : List Name). first_twice (j + 1) (other ++ ns) ls) sets ∙ f (j + 1) (other ++ []) (within_none other known w))
 
-once_aimed : (write : Instr → Option Mention → List ℕ) (p : ℕ) (label : Name) (k j : ℕ) (known other : List Name) (ls : List Line) → Within other known → first_twice k known ls ≡ None
+once_aimed : (write : Instr → Option Mention → List ℕ) (p : ℕ) (label : Name) (k j : ℕ) (known other : List Name) (ls : List ListingLine) → Within other known → first_twice k known ls ≡ None
     → first_twice j other (aimed_lines write p label ls) ≡ None
 unfolding Once
 once_aimed write p label k j known other [] w e = refl
@@ -205,17 +205,17 @@ once_aimed write p label k j known other (l ∷ ls) w e =
           (once_aimed write (p - length (places_in l.statement)) label (k + 1) (j + 1) (known ++ defined_in l) (other ++ defined_in l) ls (within_same other known (defined_in l) w) parts.1))
     ]
 
-pub aimed_once : (write : Instr → Option Mention → List ℕ) (p : ℕ) (label : Name) (ls : List Line) → DefineOnce ls → DefineOnce (aimed_lines write p label ls)
+pub aimed_once : (write : Instr → Option Mention → List ℕ) (p : ℕ) (label : Name) (ls : List ListingLine) → DefineOnce ls → DefineOnce (aimed_lines write p label ls)
 aimed_once write p label ls once = none_once (aimed_lines write p label ls) (once_aimed write p label 1 1 [] [] ls (within_self []) (once_none ls once))
 
 pub aimed_place : (label : Name) (s : Statement) → length (places_in (aimed label s)) ≡ length (places_in s)
 aimed_place label Nothing = refl
-aimed_place label (Runs i m) = refl
+aimed_place label (Instruction i m) = refl
 aimed_place label (Words vs) = refl
 aimed_place label (Aligns size most) = refl
 aimed_place label (Sets name address) = refl
 
-pub aimed_as_many : (write : Instr → Option Mention → List ℕ) (p : ℕ) (label : Name) (ls : List Line) → length (places_of (aimed_lines write p label ls)) ≡ length (places_of ls)
+pub aimed_as_many : (write : Instr → Option Mention → List ℕ) (p : ℕ) (label : Name) (ls : List ListingLine) → length (places_of (aimed_lines write p label ls)) ≡ length (places_of ls)
 aimed_as_many write p label [] = refl
 aimed_as_many write p label (l ∷ ls) = elim (cases_Bool (is_op l.statement && (p == 0))) [
   | inl h ↦ rw h
@@ -231,43 +231,43 @@ aimed_as_many write p label (l ∷ ls) = elim (cases_Bool (is_op l.statement && 
 
 -- ---- line by line ----
 
-pub without_op : (n : ℕ) (l : Line) (ls : List Line) → (nat_lt 0 n && is_op l.statement) ≡ true → without n (l ∷ ls) ≡ without (n - 1) ls
+pub without_op : (n : ℕ) (l : ListingLine) (ls : List ListingLine) → (nat_lt 0 n && is_op l.statement) ≡ true → without n (l ∷ ls) ≡ without (n - 1) ls
 without_op zero l ls e = absurd (true≢false (sym e))
 without_op (suc n) l ls e = let some : nat_lt 0 (suc n) ≡ true = lt-ltb 0 (suc n) (omega arith) in let op : is_op l.statement ≡ true = rw some at e in rw op (ap (λ (m : ℕ). without m ls) (let h : n ≡ suc n - 1 = omega arith in h))
 
-pub without_other : (n : ℕ) (l : Line) (ls : List Line) → (nat_lt 0 n && is_op l.statement) ≡ false → without n (l ∷ ls) ≡ l ∷ without n ls
-without_other zero l ls e = ap (λ (ms : List Line). l ∷ ms) (sym (without_none ls))
+pub without_other : (n : ℕ) (l : ListingLine) (ls : List ListingLine) → (nat_lt 0 n && is_op l.statement) ≡ false → without n (l ∷ ls) ≡ l ∷ without n ls
+without_other zero l ls e = ap (λ (ms : List ListingLine). l ∷ ms) (sym (without_none ls))
 without_other (suc n) l ls e = let some : nat_lt 0 (suc n) ≡ true = lt-ltb 0 (suc n) (omega arith) in let other : is_op l.statement ≡ false = rw some at e in rw other refl
 
 drop_step : {A : Type 0} (xs : List A) (i : ℕ) (x : A) → i < length xs → x ≡ get_or xs i x → drop i xs ≡ x ∷ drop (i + 1) xs
 drop_step xs i x h at =
     drop-cons xs i x h ∙ ap (λ y. y ∷ drop (suc i) xs) (sym at) ∙ ap (λ (n : ℕ). x ∷ drop n xs) (let e : suc i ≡ i + 1 = omega arith in e)
 
-pub kept_step : {A : Type 0} (f : A → Line) (out all : List Line) (xs : List A) (i n : ℕ) (x : A) (new : Line) → i < length xs → x ≡ get_or xs i x → (nat_lt 0 n && is_op (f x).statement) ≡ false → new ≡ f x
+pub kept_step : {A : Type 0} (f : A → ListingLine) (out all : List ListingLine) (xs : List A) (i n : ℕ) (x : A) (new : ListingLine) → i < length xs → x ≡ get_or xs i x → (nat_lt 0 n && is_op (f x).statement) ≡ false → new ≡ f x
     → out ++ without n (map f (drop i xs)) ≡ all → (out ++ new ∷ []) ++ without n (map f (drop (i + 1) xs)) ≡ all
 kept_step f out all xs i n x new h at other is so_far =
     append_assoc out (new ∷ []) (without n (map f (drop (i + 1) xs)))
-    ∙ ap (λ (ls : List Line). out ++ ls)
-    (ap (λ (l : Line). l ∷ without n (map f (drop (i + 1) xs))) is
+    ∙ ap (λ (ls : List ListingLine). out ++ ls)
+    (ap (λ (l : ListingLine). l ∷ without n (map f (drop (i + 1) xs))) is
     ∙ sym (without_other n (f x) (map f (drop (i + 1) xs)) other)
     ∙ ap (λ ys. without n (map f ys)) (sym (drop_step xs i x h at)))
     ∙ so_far
 
 -- the branch's own line, in place of what stands there
-pub branch_step : {A : Type 0} (f : A → Line) (write : Instr → Option Mention → List ℕ) (label : Name) (out named branched new after all : List Line) (xs : List A) (i p : ℕ) (x : A) (branch : Instr) (m : Option Mention) (own : Line)
-    → i < length xs → x ≡ get_or xs i x → p ≡ 0 → (f x).statement ≡ Runs branch m
-    → own ≡ record { names = []; statement = Runs branch (Some (record { name = label; plus = 0 })); text = write branch (Some (record { name = label; plus = 0 })); front = [] }
+pub branch_step : {A : Type 0} (f : A → ListingLine) (write : Instr → Option Mention → List ℕ) (label : Name) (out named branched new after all : List ListingLine) (xs : List A) (i p : ℕ) (x : A) (branch : Instr) (m : Option Mention) (own : ListingLine)
+    → i < length xs → x ≡ get_or xs i x → p ≡ 0 → (f x).statement ≡ Instruction branch m
+    → own ≡ record { names = []; statement = Instruction branch (Some (record { name = label; plus = 0 })); text = write branch (Some (record { name = label; plus = 0 })); front = [] }
     → named ≡ out ++ labels_kept (f x) (f x).names → branched ≡ named ++ own ∷ [] → new ≡ branched ++ without 0 after → after ≡ map f (drop (i + 1) xs)
     → out ++ aimed_lines write p label (map f (drop i xs)) ≡ all → new ≡ all
 branch_step f write label out named branched new after all xs i p x branch m own h at z op is names own_line others behind so_far =
-    let kept : List Line = labels_kept (f x) (f x).names in
+    let kept : List ListingLine = labels_kept (f x) (f x).names in
     let here : aimed_lines write p label (map f (drop i xs)) ≡ kept ++ own ∷ map f (drop (i + 1) xs) = rw (drop_step xs i x h at, z, op, is) refl in
     others
-    ∙ ap (λ (ls : List Line). branched ++ ls) (without_none after ∙ behind)
-    ∙ ap (λ (ls : List Line). ls ++ map f (drop (i + 1) xs)) (own_line ∙ ap (λ (ls : List Line). ls ++ own ∷ []) names)
+    ∙ ap (λ (ls : List ListingLine). branched ++ ls) (without_none after ∙ behind)
+    ∙ ap (λ (ls : List ListingLine). ls ++ map f (drop (i + 1) xs)) (own_line ∙ ap (λ (ls : List ListingLine). ls ++ own ∷ []) names)
     ∙ append_assoc (out ++ kept) (own ∷ []) (map f (drop (i + 1) xs))
     ∙ append_assoc out kept (own ∷ map f (drop (i + 1) xs))
-    ∙ ap (λ (ls : List Line). out ++ ls) (sym here)
+    ∙ ap (λ (ls : List ListingLine). out ++ ls) (sym here)
     ∙ so_far
 
 pub ruleset skipping = (without_op, without_other)

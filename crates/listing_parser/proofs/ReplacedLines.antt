@@ -8,7 +8,7 @@ use Rattle.ascii_scan.specs.FirstLine.{is_inside}
 use Rattle.ascii_scan.proofs.LineLemmas.{map-whole}
 use Rattle.thumb_instr.specs.declared.instr.Instr.{Instr}
 use Rattle.thumb_syntax.specs.Spelling.{text_of}
-use Rattle.thumb_model.specs.Listing.{Name, Line, places_in, places_of, is_op_place}
+use Rattle.thumb_model.specs.Listing.{Name, ListingLine, places_in, places_of, is_op_place}
 use Rattle.thumb_model.specs.Layout.{is_among}
 use Rattle.thumb_model.specs.Replaced.{is_op, without, labels_kept, new_line, replaced_lines}
 use Rattle.thumb_model.specs.Cuts.{AreOps}
@@ -17,7 +17,7 @@ use Rattle.listing_parser.specs.Targets.{defined_in, set_names, DefineOnce, mark
 use Rattle.listing_parser.proofs.TwiceLemmas.{once_none, or_last, among_first as among_self}
 use Rattle.listing_parser.proofs.FirstTwice.{first_twice}
 use Rattle.listing_parser.specs.Grammar.{Bare, Read, read_lines, shown_of, most_lines}
-use Rattle.listing_parser.specs.Directives.{Mark, Unmarked}
+use Rattle.listing_parser.specs.Directives.{FunctionMark, Unmarked}
 use Rattle.listing_parser.specs.Parsing.{IsListing, text_of_lines, own_line}
 use Rattle.listing_parser.specs.Replacing.{names_no_label}
 use Rattle.listing_parser.specs.ReadAgain.{KeepsCode, ReplacedReadsAgain}
@@ -35,24 +35,24 @@ is_unnamed [] = true
 is_unnamed (n ∷ ns) = false
 
 -- the next n instructions have no labels
-abbrev are_unnamed : ℕ → List Line → Bool
+abbrev are_unnamed : ℕ → List ListingLine → Bool
 are_unnamed n [] = true
 are_unnamed zero (l ∷ ls) = true
 are_unnamed (suc n) (l ∷ ls) = if is_op l.statement then is_unnamed l.names && are_unnamed n ls else are_unnamed (suc n) ls
 
 -- those behind the first of the window
-abbrev gone_unnamed : ℕ → ℕ → List Line → Bool
+abbrev gone_unnamed : ℕ → ℕ → List ListingLine → Bool
 gone_unnamed p n [] = true
 gone_unnamed p n (l ∷ ls) = if is_op l.statement && (p == 0) then are_unnamed n ls else gone_unnamed (p - length (places_in l.statement)) n ls
 
-no_more : (name : Name) (k : ℕ) (known : List Name) (ls : List Line) → first_twice k known ls ≡ None → is_among name known ≡ true → has_name name ls ≡ false
+no_more : (name : Name) (k : ℕ) (known : List Name) (ls : List ListingLine) → first_twice k known ls ≡ None → is_among name known ≡ true → has_name name ls ≡ false
 no_more name k known [] e a = refl
 no_more name k known (l ∷ ls) e a =
     let parts = once_parts k known l ls e in
     let here : is_among name l.names ≡ false = not_again name known l.names (again_front known l.names (set_names l.statement) parts.0) a in
     rw here (no_more name (k + 1) (known ++ defined_in l) ls parts.1 (among_front name known (defined_in l) a))
 
-opens_named : (name : Name) (ls : List Line) → opens name ls ≡ true → has_name name ls ≡ true
+opens_named : (name : Name) (ls : List ListingLine) → opens name ls ≡ true → has_name name ls ≡ true
 opens_named name [] e = e
 opens_named name (l ∷ ls) e = elim (cases_Bool (is_among name l.names)) [
   | inl a ↦ rw a refl
@@ -60,22 +60,22 @@ opens_named name (l ∷ ls) e = elim (cases_Bool (is_among name l.names)) [
 ]
 
 -- a label's name is nowhere behind its line
-only_here : (name : Name) (k : ℕ) (known : List Name) (l : Line) (ls : List Line) → first_twice k known (l ∷ ls) ≡ None → is_among name l.names ≡ true → has_name name ls ≡ false
+only_here : (name : Name) (k : ℕ) (known : List Name) (l : ListingLine) (ls : List ListingLine) → first_twice k known (l ∷ ls) ≡ None → is_among name l.names ≡ true → has_name name ls ≡ false
 only_here name k known l ls e a =
     no_more name (k + 1) (known ++ defined_in l) ls (once_parts k known l ls e).1
     (among_append name known (defined_in l) ∙ or_behind (is_among name known) (is_among name (defined_in l)) (among_front name l.names (set_names l.statement) a))
 
-later : (name : Name) (k : ℕ) (known : List Name) (l : Line) (ls : List Line) → first_twice k known (l ∷ ls) ≡ None → opens name ls ≡ true → is_among name l.names ≡ false
+later : (name : Name) (k : ℕ) (known : List Name) (l : ListingLine) (ls : List ListingLine) → first_twice k known (l ∷ ls) ≡ None → opens name ls ≡ true → is_among name l.names ≡ false
 later name k known l ls e o = elim (cases_Bool (is_among name l.names)) [
   | inl a ↦ absurd (true≢false (sym (opens_named name ls o) ∙ only_here name k known l ls e a))
   | inr a ↦ a
 ]
 
 -- names whose labels stand before an instruction do so afterwards
-abbrev AreKept : List Line → List Line → Type 0
+abbrev AreKept : List ListingLine → List ListingLine → Type 0
 AreKept ls new = (name : Name) → opens name ls ≡ true → opens name new ≡ true
 
-unnamed_op : (n k : ℕ) (known : List Name) (l : Line) (ls : List Line) (ns : List Name) → l.names ≡ ns → is_op l.statement ≡ true → first_twice k known (l ∷ ls) ≡ None → AreOps (suc n) (places_of (l ∷ ls)) → AreKept (l ∷ ls) (without (suc n) (l ∷ ls)) → is_unnamed ns ≡ true
+unnamed_op : (n k : ℕ) (known : List Name) (l : ListingLine) (ls : List ListingLine) (ns : List Name) → l.names ≡ ns → is_op l.statement ≡ true → first_twice k known (l ∷ ls) ≡ None → AreOps (suc n) (places_of (l ∷ ls)) → AreKept (l ∷ ls) (without (suc n) (l ∷ ls)) → is_unnamed ns ≡ true
 unnamed_op n k known l ls [] e o once h kept = refl
 unnamed_op n k known l ls (m ∷ ms) e o once h kept =
     let here : is_among m l.names ≡ true = ap (is_among m) e ∙ among_self m ms in
@@ -83,7 +83,7 @@ unnamed_op n k known l ls (m ∷ ms) e o once h kept =
     let after : opens m (without n ls) ≡ true = rw o at (kept m first) in
     absurd (true≢false (sym (named_without m n ls (opens_named m (without n ls) after)) ∙ only_here m k known l ls once here))
 
-unnamed_from : (n k : ℕ) (known : List Name) (ls : List Line) → first_twice k known ls ≡ None → AreOps n (places_of ls) → AreKept ls (without n ls) → are_unnamed n ls ≡ true
+unnamed_from : (n k : ℕ) (known : List Name) (ls : List ListingLine) → first_twice k known ls ≡ None → AreOps n (places_of ls) → AreKept ls (without n ls) → are_unnamed n ls ≡ true
 unnamed_from n k known [] once h kept = refl
 unnamed_from zero k known (l ∷ ls) once h kept = refl
 unnamed_from (suc n) k known (l ∷ ls) once h kept =
@@ -96,7 +96,7 @@ unnamed_from (suc n) k known (l ∷ ls) once h kept =
           (λ name e. let a = later name k known l ls once e in let before : opens name (l ∷ ls) ≡ true = rw a e in rw a at (rw o at (kept name before))))
     ]
 
-gone_from : (write : Instr → List ℕ) (n p : ℕ) (is : List Instr) (k : ℕ) (known : List Name) (ls : List Line) → first_twice k known ls ≡ None → IsWindow p n (places_of ls) → AreKept ls (replaced_lines write p (suc n) is ls) → gone_unnamed p n ls ≡ true
+gone_from : (write : Instr → List ℕ) (n p : ℕ) (is : List Instr) (k : ℕ) (known : List Name) (ls : List ListingLine) → first_twice k known ls ≡ None → IsWindow p n (places_of ls) → AreKept ls (replaced_lines write p (suc n) is ls) → gone_unnamed p n ls ≡ true
 gone_from write n p is k known [] once h kept = refl
 gone_from write n p is k known (l ∷ ls) once h kept =
     let parts = once_parts k known l ls once in
@@ -105,7 +105,7 @@ gone_from write n p is k known (l ∷ ls) once h kept =
           (λ name e.
           let a = later name k known l ls once e in
           let before : opens name (l ∷ ls) ≡ true = rw a e in
-          ap (λ (ms : List Line). is_op_first (places_of ms)) (sym (from_here name write n is l ls a)) ∙ (rw o at (kept name before))))
+          ap (λ (ms : List ListingLine). is_op_first (places_of ms)) (sym (from_here name write n is l ls a)) ∙ (rw o at (kept name before))))
       | inr o ↦ rw o (gone_from write n (p - length (places_in l.statement)) is (k + 1) (known ++ defined_in l) ls parts.1 (window_next n p l.statement (places_of ls) o h)
           (λ name e. let a = later name k known l ls once e in let before : opens name (l ∷ ls) ≡ true = rw a e in rw a at (rw o at (kept name before))))
     ]
@@ -115,7 +115,7 @@ gone_from write n p is k known (l ∷ ls) once h kept =
 -- a line without a mark
 unmarked : (waits : Bool) (r : Read) (rs : List Read) (ns : List Name) → r.line.names ≡ ns → r.mark ≡ Unmarked → functions waits (r ∷ rs) ≡ (marked_first waits ns ++ []) ++ functions (still_waits waits ns || false) rs
 unmarked waits r rs ns e f =
-    ap (λ (m : Mark). (marked_first waits r.line.names ++ marked_by_name m) ++ functions (still_waits waits r.line.names || is_next m) rs) f
+    ap (λ (m : FunctionMark). (marked_first waits r.line.names ++ marked_by_name m) ++ functions (still_waits waits r.line.names || is_next m) rs) f
     ∙ ap (λ (ms : List Name). (marked_first waits ms ++ []) ++ functions (still_waits waits ms || false) rs) e
 
 -- a line without a mark and without labels
@@ -125,24 +125,24 @@ passed_over waits r rs e f = unmarked waits r rs [] e f ∙ ap (λ (b : Bool). f
 -- ---- the new lines are read ----
 
 -- new lines in place of old ones, of which these were read
-record NewRead (ls : List Line) (rs : List Read) : Type 0 where
+record NewRead (ls : List ListingLine) (rs : List Read) : Type 0 where
   reads : List Read
   are : AreRead ls reads
   ended : AreEnded (map text ls)
   marked : (waits : Bool) → functions waits reads ≡ functions waits rs
 
-abbrev EndsAt : Line → List Line → Type 0
+abbrev EndsAt : ListingLine → List ListingLine → Type 0
 EndsAt l ls = Ends l.text ⊎ ((map text ls ≡ []) × IsOpen l.text)
 
-no_lines : (ls : List Line) → map text ls ≡ [] → ls ≡ []
+no_lines : (ls : List ListingLine) → map text ls ≡ [] → ls ≡ []
 no_lines [] e = refl
 no_lines (l ∷ ls) e = absurd (cc)
 
-ends_still : (l : Line) (ls new : List Line) → (ls ≡ [] → new ≡ []) → EndsAt l ls → EndsAt l new
+ends_still : (l : ListingLine) (ls new : List ListingLine) → (ls ≡ [] → new ≡ []) → EndsAt l ls → EndsAt l new
 ends_still l ls new f (inl c) = inl c
 ends_still l ls new f (inr o) = inr (ap (map text) (f (no_lines ls o.0)), o.1)
 
-kept_line : (l : Line) (r : Read) (ls : List Line) (rs : List Read) → IsOld l r → EndsAt l ls → NewRead ls rs → NewRead (l ∷ ls) (r ∷ rs)
+kept_line : (l : ListingLine) (r : Read) (ls : List ListingLine) (rs : List Read) → IsOld l r → EndsAt l ls → NewRead ls rs → NewRead (l ∷ ls) (r ∷ rs)
 unfolding AreRead AreEnded
 kept_line l r ls rs old ends more = record {
   reads = r ∷ more.reads;
@@ -151,7 +151,7 @@ kept_line l r ls rs old ends more = record {
   marked = λ waits. ap (λ (ns : List Name). (marked_first waits r.line.names ++ marked_by_name r.mark) ++ ns) (more.marked (still_waits waits r.line.names || is_next r.mark));
 }
 
-same_lines : (ls : List Line) (rs : List Read) → AreOld ls rs → AreEnded (map text ls) → NewRead ls rs
+same_lines : (ls : List ListingLine) (rs : List Read) → AreOld ls rs → AreEnded (map text ls) → NewRead ls rs
 unfolding AreOld AreRead AreEnded
 same_lines [] [] old ended = record { reads = []; are = tt; ended = tt; marked = λ waits. refl }
 same_lines [] (r ∷ rs) old ended = absurd old
@@ -162,7 +162,7 @@ unnamed_is : (ns : List Name) → is_unnamed ns ≡ true → ns ≡ []
 unnamed_is [] e = refl
 unnamed_is (n ∷ ns) e = absurd (true≢false (sym e))
 
-gone_line : (l : Line) (r : Read) (ls : List Line) (rs : List Read) → IsOld l r → l.names ≡ [] → is_op l.statement ≡ true → NewRead ls rs → NewRead ls (r ∷ rs)
+gone_line : (l : ListingLine) (r : Read) (ls : List ListingLine) (rs : List Read) → IsOld l r → l.names ≡ [] → is_op l.statement ≡ true → NewRead ls rs → NewRead ls (r ∷ rs)
 gone_line l r ls rs old none op more = record {
   reads = more.reads;
   are = more.are;
@@ -170,7 +170,7 @@ gone_line l r ls rs old none op more = record {
   marked = λ waits. more.marked waits ∙ sym (passed_over waits r rs (ap (λ (b : Bare). b.names) old.read.same ∙ none) (old.unmarked op));
 }
 
-without_lines : (n : ℕ) (ls : List Line) (rs : List Read) → AreOld ls rs → are_unnamed n ls ≡ true → AreEnded (map text ls) → NewRead (without n ls) rs
+without_lines : (n : ℕ) (ls : List ListingLine) (rs : List Read) → AreOld ls rs → are_unnamed n ls ≡ true → AreEnded (map text ls) → NewRead (without n ls) rs
 unfolding AreOld AreEnded
 without_lines n [] rs old none ended = same_lines [] rs old ended
 without_lines zero (l ∷ ls) rs old none ended = same_lines (l ∷ ls) rs old ended
@@ -216,7 +216,7 @@ own_read i e n start few =
     let all : whole (placed n start (own_line i)) ≡ own_line i = whole_ended (placed n start (own_line i)) ended ∙ ap (λ (w : List ℕ). w ++ 10 ∷ []) bytes ∙ sym (own_is i) in
     canonical_line_checked i (placed n start (own_line i)) e (inr bytes) few ∙ ap (λ (w : List ℕ). Ok (unnamed (told_of i) w)) all
 
-own_lines : (is : List Instr) (ls : List Line) (rs : List Read) → list_all names_no_label is ≡ true → NewRead ls rs → NewRead (map (new_line own_line) is ++ ls) rs
+own_lines : (is : List Instr) (ls : List ListingLine) (rs : List Read) → list_all names_no_label is ≡ true → NewRead ls rs → NewRead (map (new_line own_line) is ++ ls) rs
 unfolding AreRead AreEnded
 own_lines [] ls rs e more = more
 own_lines (i ∷ is) ls rs e more =
@@ -232,7 +232,7 @@ own_lines (i ∷ is) ls rs e more =
 
 -- ---- the labels of the first instruction's line ----
 
-label_lines : (l : Line) (r : Read) (ns : List Name) (ls : List Line) (rs : List Read) → l.names ≡ ns → IsOld l r → is_op l.statement ≡ true → NewRead ls rs → NewRead (labels_kept l ns ++ ls) (r ∷ rs)
+label_lines : (l : ListingLine) (r : Read) (ns : List Name) (ls : List ListingLine) (rs : List Read) → l.names ≡ ns → IsOld l r → is_op l.statement ≡ true → NewRead ls rs → NewRead (labels_kept l ns ++ ls) (r ∷ rs)
 unfolding AreRead AreEnded
 label_lines l r [] ls rs e old op more = gone_line l r ls rs old e op more
 label_lines l r (n ∷ ns) ls rs e old op more =
@@ -246,10 +246,10 @@ label_lines l r (n ∷ ns) ls rs e old op more =
           ∙ sym (unmarked waits r rs (n ∷ ns) (ap (λ (b : Bare). b.names) old.read.same ∙ e) (old.unmarked op));
     }
 
-nothing_replaced : (write : Instr → List ℕ) (p n : ℕ) (is : List Instr) (ls : List Line) → ls ≡ [] → replaced_lines write p n is ls ≡ []
+nothing_replaced : (write : Instr → List ℕ) (p n : ℕ) (is : List Instr) (ls : List ListingLine) → ls ≡ [] → replaced_lines write p n is ls ≡ []
 nothing_replaced write p n is ls e = ap (replaced_lines write p n is) e
 
-new_lines : (n p : ℕ) (is : List Instr) (ls : List Line) (rs : List Read) → list_all names_no_label is ≡ true → AreOld ls rs → gone_unnamed p n ls ≡ true → AreEnded (map text ls) → NewRead (replaced_lines own_line p (suc n) is ls) rs
+new_lines : (n p : ℕ) (is : List Instr) (ls : List ListingLine) (rs : List Read) → list_all names_no_label is ≡ true → AreOld ls rs → gone_unnamed p n ls ≡ true → AreEnded (map text ls) → NewRead (replaced_lines own_line p (suc n) is ls) rs
 unfolding AreOld AreEnded
 new_lines n p is [] rs plain old none ended = same_lines [] rs old ended
 new_lines n p is (l ∷ ls) [] plain old none ended = absurd old
@@ -266,11 +266,11 @@ new_lines n p is (l ∷ ls) (r ∷ rs) plain old none ended = elim (cases_Bool (
 
 -- ---- all ----
 
-listed_again : (bytes : List ℕ) (lines : List Line) (place n : ℕ) (is : List Instr) (new : List Line) → IsListing bytes lines → new ≡ replaced_lines own_line place (suc n) is lines
+listed_again : (bytes : List ℕ) (lines : List ListingLine) (place n : ℕ) (is : List Instr) (new : List ListingLine) → IsListing bytes lines → new ≡ replaced_lines own_line place (suc n) is lines
     → ((k : ℕ) → k < suc n → is_op_place (slice_get (places_of lines) (place + k)) ≡ true) → list_all names_no_label is ≡ true → KeepsCode lines new → length new ≤ most_lines → IsListing (text_of_lines new) new
 listed_again bytes lines place n is new h e ops plain kept few =
     let window : IsWindow place n (places_of lines) = are_ops (suc n) (drop place (places_of lines)) (λ k less. ap is_op_place (get_drop place (places_of lines) k (place + k) refl) ∙ ops k less) in
-    let replaced : List Line = replaced_lines own_line place (suc n) is lines in
+    let replaced : List ListingLine = replaced_lines own_line place (suc n) is lines in
     let kept' : KeepsCode lines replaced = subst (KeepsCode lines) e kept in
     let once = once_none lines h.once in
     let still : DefineOnce replaced = still_once own_line place (suc n) is lines h.once in
@@ -279,7 +279,7 @@ listed_again bytes lines place n is new h e ops plain kept few =
     let gone = gone_from own_line n place is 1 [] lines once window (λ name o. sym (code_opens name replaced again) ∙ kept' name (code_opens name lines once ∙ o)) in
     let read = new_lines n place is lines h.reads plain old.old gone (subst AreEnded (sym old.texts) (text_ended bytes)) in
     let split = joined_split replaced read.ended in
-    let size : 1 + length replaced ≤ most_lines + 1 = let k = ap (λ (ls : List Line). length ls) e in omega arith in
+    let size : 1 + length replaced ≤ most_lines + 1 = let k = ap (λ (ls : List ListingLine). length ls) e in omega arith in
     let is_listing : IsListing (text_of_lines replaced) replaced =
     record {
       reads = read.reads;
@@ -289,7 +289,7 @@ listed_again bytes lines place n is new h e ops plain kept few =
           ap (λ (marked : List Name). first_target replaced marked 1 replaced) (read.marked false)
           ∙ still_aimed own_line lines replaced (functions false h.reads) n place 1 1 is lines (keeps own_line n place is lines once again window kept') h.aimed;
     } in
-    subst (λ (ls : List Line). IsListing (text_of_lines ls) ls) (sym e) is_listing
+    subst (λ (ls : List ListingLine). IsListing (text_of_lines ls) ls) (sym e) is_listing
 
 pub replaced_reads_again : ReplacedReadsAgain
 replaced_reads_again bytes lines place zero is new h a = absurd (let one : 1 ≤ 0 = a.some in omega arith)

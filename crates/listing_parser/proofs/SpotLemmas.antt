@@ -6,7 +6,7 @@ use Rattle.std.proofs.lemmas.List.{length-append}
 use Rattle.std.proofs.lemmas.Option.{slice_get_past, slice_get_read, slice_get-map}
 use Rattle.listing_parser.specs.declared.line.Value.{Value as Values}
 use Rattle.listing_parser.specs.Views.{value_view}
-use Rattle.thumb_model.specs.Listing.{Line, Place, Word, places_in, places_of}
+use Rattle.thumb_model.specs.Listing.{ListingLine, Place, Word, places_in, places_of}
 use Rattle.thumb_model.proofs.Lists.{get_front, get_back}
 use Rattle.listing_parser.specs.TableWords.{spots_at, spots_from, passed_from}
 use Rattle.listing_parser.specs.declared.index.Spot.{Spot}
@@ -16,7 +16,7 @@ spots_at_length : (line item : ℕ) (ps : List Place) → length (spots_at line 
 spots_at_length line item [] = refl
 spots_at_length line item (p ∷ ps) = ap suc (spots_at_length line (item + 1) ps)
 
-pub spots_length : (n : ℕ) (ls : List Line) → length (spots_from n ls) ≡ length (places_of ls)
+pub spots_length : (n : ℕ) (ls : List ListingLine) → length (spots_from n ls) ≡ length (places_of ls)
 spots_length n [] = refl
 spots_length n (l ∷ ls) =
     let rest = spots_length (n + 1) ls in
@@ -34,14 +34,14 @@ spots_at_get line item zero (x ∷ ps) s e =
 spots_at_get line item (suc p) (x ∷ ps) s e = let next = spots_at_get line (item + 1) p ps s e in (next.0, omega (arith, next.1))
 
 -- where the p-th place of lines stands, whose first is line n
-pub record Stands (n : ℕ) (ls : List Line) (p : ℕ) (s : Spot) : Type 0 where
-  pub line : Line
+pub record Stands (n : ℕ) (ls : List ListingLine) (p : ℕ) (s : Spot) : Type 0 where
+  pub line : ListingLine
   pub index : ℕ
   pub at : s.line ≡ n + index
   pub is_line : slice_get ls index ≡ Some line
   pub same : slice_get (places_of ls) p ≡ slice_get (places_in line.statement) s.item
 
-pub stands : (n : ℕ) (ls : List Line) (p : ℕ) (s : Spot) → slice_get (spots_from n ls) p ≡ Some s → Stands n ls p s
+pub stands : (n : ℕ) (ls : List ListingLine) (p : ℕ) (s : Spot) → slice_get (spots_from n ls) p ≡ Some s → Stands n ls p s
 stands n [] p s e = absurd (let bad : None ≡ Some s = e in cc)
 stands n (l ∷ ls) p s e = elim (cases_lt p (length (places_in l.statement))) [
   | inl h ↦
@@ -68,7 +68,7 @@ stands n (l ∷ ls) p s e = elim (cases_lt p (length (places_in l.statement))) [
 
 -- ---- before a line ----
 
-pub passed_get : (p : ℕ) (ls : List Line) (i : ℕ) (x : Passed) → slice_get (passed_from p ls) i ≡ Some x → x.places ≡ p + length (places_of (take i ls))
+pub passed_get : (p : ℕ) (ls : List ListingLine) (i : ℕ) (x : Passed) → slice_get (passed_from p ls) i ≡ Some x → x.places ≡ p + length (places_of (take i ls))
 passed_get p [] i x e = absurd (let bad : None ≡ Some x = e in cc)
 passed_get p (l ∷ ls) zero x e =
     let same : Some (let t : Passed = record { places = p } in t) ≡ Some x = e in
@@ -79,19 +79,19 @@ passed_get p (l ∷ ls) (suc i) x e =
     let size = length-append (places_in l.statement) (places_of (take i ls)) in
     omega (arith, next)
 
-pub passed_length : (p : ℕ) (ls : List Line) → length (passed_from p ls) ≡ length ls
+pub passed_length : (p : ℕ) (ls : List ListingLine) → length (passed_from p ls) ≡ length ls
 passed_length p [] = refl
 passed_length p (l ∷ ls) = ap suc (passed_length (p + length (places_in l.statement)) ls)
 
 -- the places of the first lines are no more than all
-pub places_take : (i : ℕ) (ls : List Line) → length (places_of (take i ls)) ≤ length (places_of ls)
+pub places_take : (i : ℕ) (ls : List ListingLine) → length (places_of (take i ls)) ≤ length (places_of ls)
 places_take zero ls = omega arith
 places_take (suc i) [] = omega arith
 places_take (suc i) (l ∷ ls) =
     omega (arith, places_take i ls, length-append (places_in l.statement) (places_of (take i ls)), length-append (places_in l.statement) (places_of ls))
 
 -- what is told of line i by the list of what stands before each line
-pub before_line : (ls : List Line) (xs : List Passed) (i : ℕ) (x : Passed) → i < length ls → xs ≡ passed_from 0 ls → x ≡ get_or xs i x
+pub before_line : (ls : List ListingLine) (xs : List Passed) (i : ℕ) (x : Passed) → i < length ls → xs ≡ passed_from 0 ls → x ≡ get_or xs i x
     → (x.places ≡ length (places_of (take i ls))) × (x.places ≤ length (places_of ls))
 before_line ls xs i x h all at =
     let size : length xs ≡ length ls = ap length all ∙ passed_length 0 ls in

@@ -7,7 +7,7 @@ use Rattle.std.proofs.lemmas.Bool.{cases_Bool, or_cases, false_from_ne_true}
 use Rattle.std.specs.Str.{bytes_eq}
 use Rattle.std.specs.declared.alloc.Global.{Global}
 use Rattle.std.proofs.lemmas.Slice.Eq.{bytes_eq-Decides}
-use Rattle.thumb_model.specs.Listing.{Name, Line}
+use Rattle.thumb_model.specs.Listing.{Name, ListingLine}
 use Rattle.listing_parser.proofs.LabelLemmas.{among_append, among_front, among_last}
 use Rattle.thumb_model.specs.Layout.{is_among}
 use Rattle.listing_parser.specs.Targets.{defined_in, DefineOnce, IsAgain, Known, Twice, IsFirstAgain}
@@ -137,60 +137,60 @@ again_is known names b d = one_answer b (is_again known names) d (again_decides 
 -- ---- the first line that defines a name again ----
 
 -- where these names are known, no line defines a name again
-abbrev OnceBehind : List Name → List Line → Type 0
-OnceBehind known lines = (before : List Line) (l : Line) (after : List Line) → lines ≡ before ++ l ∷ after → IsAgain (known ++ flat_map defined_in before) (defined_in l) → ⊥
+abbrev OnceBehind : List Name → List ListingLine → Type 0
+OnceBehind known lines = (before : List ListingLine) (l : ListingLine) (after : List ListingLine) → lines ≡ before ++ l ∷ after → IsAgain (known ++ flat_map defined_in before) (defined_in l) → ⊥
 
-once_tail : (known : List Name) (x : Line) (xs : List Line) → OnceBehind known (x ∷ xs) → OnceBehind (known ++ defined_in x) xs
+once_tail : (known : List Name) (x : ListingLine) (xs : List ListingLine) → OnceBehind known (x ∷ xs) → OnceBehind (known ++ defined_in x) xs
 once_tail known x xs once before l after e a =
-    once (x ∷ before) l after (ap (λ (ls : List Line). x ∷ ls) e)
+    once (x ∷ before) l after (ap (λ (ls : List ListingLine). x ∷ ls) e)
     (subst (λ (ns : List Name). IsAgain ns (defined_in l)) (append_assoc known (defined_in x) (flat_map defined_in before)) a)
 
-none_from : (n : ℕ) (known : List Name) (ls : List Line) → OnceBehind known ls → first_twice n known ls ≡ None
+none_from : (n : ℕ) (known : List Name) (ls : List ListingLine) → OnceBehind known ls → first_twice n known ls ≡ None
 none_from n known [] once = refl
 none_from n known (x ∷ xs) once =
     let new : is_again known (defined_in x) ≡ false =
     false_from_ne_true (is_again known (defined_in x)) (λ h. once [] x xs refl (subst (λ (ns : List Name). IsAgain ns (defined_in x)) (sym (append-nil known)) (is_told known (defined_in x) h))) in
     rw new (none_from (n + 1) (known ++ defined_in x) xs (once_tail known x xs once))
 
-first_line : (known : List Name) (x : Line) (n : ℕ) (xs : List Line) → first_twice n known (x ∷ xs) ≡ None → (is_again known (defined_in x) ≡ false) × (first_twice (n + 1) (known ++ defined_in x) xs ≡ None)
+first_line : (known : List Name) (x : ListingLine) (n : ℕ) (xs : List ListingLine) → first_twice n known (x ∷ xs) ≡ None → (is_again known (defined_in x) ≡ false) × (first_twice (n + 1) (known ++ defined_in x) xs ≡ None)
 first_line known x n xs e = elim (cases_Bool (is_again known (defined_in x))) [
   | inl h ↦ absurd (let bad : Some n ≡ None = rw h at e in cc)
   | inr h ↦ (h, rw h at e)
 ]
 
-from_none : (n : ℕ) (known : List Name) (ls : List Line) → first_twice n known ls ≡ None → OnceBehind known ls
+from_none : (n : ℕ) (known : List Name) (ls : List ListingLine) → first_twice n known ls ≡ None → OnceBehind known ls
 from_none n known [] e [] l after cut a = absurd (cc)
 from_none n known [] e (b ∷ bs) l after cut a = absurd (cc)
 from_none n known (x ∷ xs) e [] l after cut a =
     let same : x ≡ l = cc in
     let new = (first_line known x n xs e).0 in
     let again : is_again known (defined_in x) ≡ true =
-    told_is known (defined_in x) (subst (λ (y : Line). IsAgain known (defined_in y)) (sym same) (subst (λ (ns : List Name). IsAgain ns (defined_in l)) (append-nil known) a)) in
+    told_is known (defined_in x) (subst (λ (y : ListingLine). IsAgain known (defined_in y)) (sym same) (subst (λ (ns : List Name). IsAgain ns (defined_in l)) (append-nil known) a)) in
     cc
 from_none n known (x ∷ xs) e (b ∷ bs) l after cut a =
     let same : x ≡ b = cc in
     let rest : xs ≡ bs ++ l ∷ after = cc in
     from_none (n + 1) (known ++ defined_in x) xs (first_line known x n xs e).1 bs l after rest
     (subst (λ (ns : List Name). IsAgain ns (defined_in l)) (sym (append_assoc known (defined_in x) (flat_map defined_in bs)))
-    (subst (λ (y : Line). IsAgain (known ++ (defined_in y ++ flat_map defined_in bs)) (defined_in l)) (sym same) a))
+    (subst (λ (y : ListingLine). IsAgain (known ++ (defined_in y ++ flat_map defined_in bs)) (defined_in l)) (sym same) a))
 
-pub once_none : (ls : List Line) → DefineOnce ls → first_twice 1 [] ls ≡ None
+pub once_none : (ls : List ListingLine) → DefineOnce ls → first_twice 1 [] ls ≡ None
 once_none ls once = none_from 1 [] ls once
 
-pub none_once : (ls : List Line) → first_twice 1 [] ls ≡ None → DefineOnce ls
+pub none_once : (ls : List ListingLine) → first_twice 1 [] ls ≡ None → DefineOnce ls
 none_once ls e = from_none 1 [] ls e
 
 -- the first line that defines a name again where these names are known
-record IsFirst (n m : ℕ) (known : List Name) (lines : List Line) : Type 0 where
-  before : List Line
-  line : Line
-  after : List Line
+record IsFirst (n m : ℕ) (known : List Name) (lines : List ListingLine) : Type 0 where
+  before : List ListingLine
+  line : ListingLine
+  after : List ListingLine
   cut : lines ≡ before ++ line ∷ after
   number : m ≡ n + length before
   again : IsAgain (known ++ flat_map defined_in before) (defined_in line)
   once : first_twice n known before ≡ None
 
-first_from : (n m : ℕ) (known : List Name) (ls : List Line) → first_twice n known ls ≡ Some m → IsFirst n m known ls
+first_from : (n m : ℕ) (known : List Name) (ls : List ListingLine) → first_twice n known ls ≡ Some m → IsFirst n m known ls
 first_from n m known [] e = absurd (cc)
 first_from n m known (x ∷ xs) e = elim (cases_Bool (is_again known (defined_in x))) [
   | inl h ↦
@@ -210,19 +210,19 @@ first_from n m known (x ∷ xs) e = elim (cases_Bool (is_again known (defined_in
         before = x ∷ r.before;
         line = r.line;
         after = r.after;
-        cut = ap (λ (ls : List Line). x ∷ ls) r.cut;
+        cut = ap (λ (ls : List ListingLine). x ∷ ls) r.cut;
         number = omega (arith, r.number);
         again = subst (λ (ns : List Name). IsAgain ns (defined_in r.line)) (append_assoc known (defined_in x) (flat_map defined_in r.before)) r.again;
         once = rw h r.once;
       }
 ]
 
-pub some_first : (ls : List Line) (m : ℕ) → first_twice 1 [] ls ≡ Some m → IsFirstAgain ls m
+pub some_first : (ls : List ListingLine) (m : ℕ) → first_twice 1 [] ls ≡ Some m → IsFirstAgain ls m
 some_first ls m e =
     let r = first_from 1 m [] ls e in
     record { before = r.before; line = r.line; after = r.after; cut = r.cut; number = omega (arith, r.number); again = r.again; once = none_once r.before r.once }
 
-some_from : (n m : ℕ) (known : List Name) (before after : List Line) (l : Line) → first_twice n known before ≡ None → is_again (known ++ flat_map defined_in before) (defined_in l) ≡ true → m ≡ n + length before
+some_from : (n m : ℕ) (known : List Name) (before after : List ListingLine) (l : ListingLine) → first_twice n known before ≡ None → is_again (known ++ flat_map defined_in before) (defined_in l) ≡ true → m ≡ n + length before
     → first_twice n known (before ++ l ∷ after) ≡ Some m
 some_from n m known [] after l once again at =
     let here : is_again known (defined_in l) ≡ true = ap (λ (ns : List Name). is_again ns (defined_in l)) (sym (append-nil known)) ∙ again in
@@ -233,5 +233,5 @@ some_from n m known (b ∷ bs) after l once again at =
     rw new (some_from (n + 1) m (known ++ defined_in b) bs after l parts.1
     (ap (λ (ns : List Name). is_again ns (defined_in l)) (append_assoc known (defined_in b) (flat_map defined_in bs)) ∙ again) (omega arith))
 
-pub first_some : (ls : List Line) (m : ℕ) → IsFirstAgain ls m → first_twice 1 [] ls ≡ Some m
+pub first_some : (ls : List ListingLine) (m : ℕ) → IsFirstAgain ls m → first_twice 1 [] ls ≡ Some m
 first_some ls m f = ap (first_twice 1 []) f.cut ∙ some_from 1 m [] f.before f.after f.line (once_none f.before f.once) (told_is (flat_map defined_in f.before) (defined_in f.line) f.again) (omega (arith, f.number))

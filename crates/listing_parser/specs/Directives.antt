@@ -15,30 +15,30 @@ use Rattle.listing_parser.specs.Values.{pair, gapped, alone, values}
 -- ---- what a statement says ----
 
 -- of functions: nothing; the next label is one; the name is one
-pub data Mark : Type 0 where
-  Unmarked : Mark
-  NextMarked : Mark
-  NameMarked : (name : Name) → Mark
+pub data FunctionMark : Type 0 where
+  Unmarked : FunctionMark
+  NextMarked : FunctionMark
+  NameMarked : (name : Name) → FunctionMark
 
 -- a statement, with an instruction by its kind and numbers
 pub data Said : Type 0 where
   Plain : (s : Statement) → Said
-  Instruction : (s : Shown) → Said
+  ByKind : (s : Shown) → Said
 
 pub record Told : Type 0 where
   pub said : Said
-  pub mark : Mark
+  pub mark : FunctionMark
 
 abbrev pub says : Statement → Told
 says s = record { said = Plain s; mark = Unmarked }
 
-abbrev pub marks : Mark → Told
+abbrev pub marks : FunctionMark → Told
 marks m = record { said = Plain Nothing; mark = m }
 
 -- ---- instructions ----
 
 unfoldable pub instruction : List ℕ → Option Told
-instruction bytes = option_map (λ s. record { said = Instruction s; mark = Unmarked }) (reading bytes)
+instruction bytes = option_map (λ s. record { said = ByKind s; mark = Unmarked }) (reading bytes)
 
 -- ---- `.align`, `.p2align` ----
 

@@ -4,12 +4,12 @@ use Rattle.ascii_scan.specs.Lines.{Placed, whole}
 use Rattle.ascii_scan.specs.Tokens.{mark, is_blank, front, rest}
 use Rattle.thumb_syntax.specs.Operands.{is_name}
 use Rattle.thumb_syntax.specs.Rows.{Shown}
-use Rattle.thumb_model.specs.Listing.{Name, Statement, Nothing, Words, Aligns, Sets, Mention, Runs, Line}
-use Rattle.listing_parser.specs.declared.errors.Kind.{Kind}
-use Rattle.listing_parser.specs.declared.errors.Kind.TheVariants as kind
+use Rattle.thumb_model.specs.Listing.{Name, Statement, Nothing, Words, Aligns, Sets, Mention, Instruction, ListingLine}
+use Rattle.listing_parser.specs.declared.errors.ListingFault.{ListingFault}
+use Rattle.listing_parser.specs.declared.errors.ListingFault.TheVariants as kind
 use Rattle.thumb_instr.specs.declared.instr.Instr.{Instr}
 use Rattle.thumb_instr.specs.Parts.{parts_of}
-use Rattle.listing_parser.specs.Directives.{Mark, Said, Plain, Instruction, statement}
+use Rattle.listing_parser.specs.Directives.{FunctionMark, Said, Plain, ByKind, statement}
 
 -- ---- labels ----
 
@@ -78,7 +78,7 @@ pub record Bare : Type 0 where
 
 pub record Read : Type 0 where
   pub line : Bare
-  pub mark : Mark
+  pub mark : FunctionMark
 
 -- the bytes up to the last label's colon, and a newline: nothing where there is no label
 abbrev pub front_of : List Name → ℕ → List ℕ → List ℕ
@@ -95,7 +95,7 @@ read_line l = with_labels l (length (code (body l))) (labels_at_front (code (bod
 
 -- ---- refusals of single lines ----
 
-abbrev pub shaped : ℕ → Option Read → Result Read (ℕ × Kind)
+abbrev pub shaped : ℕ → Option Read → Result Read (ℕ × ListingFault)
 shaped n None = Err (n, kind.Shape)
 shaped n (Some r) = Ok r
 
@@ -107,19 +107,19 @@ abbrev pub longest_line : ℕ
 longest_line = 1024
 
 -- line n is one too many or too long, or it is no line, or it is read
-unfoldable pub checked_line : Placed → Result Read (ℕ × Kind)
+unfoldable pub checked_line : Placed → Result Read (ℕ × ListingFault)
 checked_line l = if nat_lt most_lines l.number || nat_lt longest_line (length l.text) then Err (l.number, kind.Limit) else shaped l.number (read_line l)
 
-abbrev pub with_front : List Read → Result (List Read) (ℕ × Kind) → Result (List Read) (ℕ × Kind)
+abbrev pub with_front : List Read → Result (List Read) (ℕ × ListingFault) → Result (List Read) (ℕ × ListingFault)
 with_front front (Ok rs) = Ok (front ++ rs)
 with_front front (Err e) = Err e
 
-abbrev pub with_first : Result Read (ℕ × Kind) → Result (List Read) (ℕ × Kind) → Result (List Read) (ℕ × Kind)
+abbrev pub with_first : Result Read (ℕ × ListingFault) → Result (List Read) (ℕ × ListingFault) → Result (List Read) (ℕ × ListingFault)
 with_first (Ok r) rest = with_front (r ∷ []) rest
 with_first (Err e) rest = Err e
 
 -- the lines, or the first that can't be read
-unfoldable pub read_lines : List Placed → Result (List Read) (ℕ × Kind)
+unfoldable pub read_lines : List Placed → Result (List Read) (ℕ × ListingFault)
 read_lines [] = Ok []
 read_lines (l ∷ ls) = with_first (checked_line l) (read_lines ls)
 
@@ -130,10 +130,10 @@ shown_of i m = record { made = parts_of i; label = option_map (λ r. (r.name, r.
 
 abbrev pub said_of : Statement → Said
 said_of Nothing = Plain Nothing
-said_of (Runs i m) = Instruction (shown_of i m)
+said_of (Instruction i m) = ByKind (shown_of i m)
 said_of (Words vs) = Plain (Words vs)
 said_of (Aligns size most) = Plain (Aligns size most)
 said_of (Sets name address) = Plain (Sets name address)
 
-abbrev pub bare : Line → Bare
+abbrev pub bare : ListingLine → Bare
 bare l = record { names = l.names; said = said_of l.statement; text = l.text; front = l.front }

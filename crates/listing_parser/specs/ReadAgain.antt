@@ -2,7 +2,7 @@
 use Rattle.std.specs.Prelude.{◌≡◌, ℕ, ◌+◌, ◌<◌, ◌≤◌, true, List, length, slice_get}
 use Rattle.std.specs.List.{list_all}
 use Rattle.thumb_instr.specs.declared.instr.Instr.{Instr}
-use Rattle.thumb_model.specs.Listing.{Name, Line, places_of, is_op_place}
+use Rattle.thumb_model.specs.Listing.{Name, ListingLine, places_of, is_op_place}
 use Rattle.thumb_model.specs.Replaced.{replaced_lines}
 use Rattle.listing_parser.specs.Targets.{is_code_label}
 use Rattle.listing_parser.specs.Replacing.{names_no_label}
@@ -10,11 +10,11 @@ use Rattle.listing_parser.specs.Parsing.{own_line, IsListing, text_of_lines}
 use Rattle.listing_parser.specs.Grammar.{most_lines}
 
 -- each code label of the old lines is one of the new
-abbrev pub KeepsCode : List Line → List Line → Type 0
+abbrev pub KeepsCode : List ListingLine → List ListingLine → Type 0
 KeepsCode lines new = (name : Name) → is_code_label lines name ≡ true → is_code_label new name ≡ true
 
 -- the lines after a replacement: some instructions gave way to others that name no label, no code label was lost, and there are no more lines than a listing may have
-pub record AreReplaced (lines : List Line) (place count : ℕ) (instrs : List Instr) (new : List Line) : Type 0 where
+pub record AreReplaced (lines : List ListingLine) (place count : ℕ) (instrs : List Instr) (new : List ListingLine) : Type 0 where
   pub are : new ≡ replaced_lines own_line place count instrs lines
   pub some : 1 ≤ count
   pub window : (k : ℕ) → k < count → is_op_place (slice_get (places_of lines) (place + k)) ≡ true
@@ -25,4 +25,4 @@ pub record AreReplaced (lines : List Line) (place count : ℕ) (instrs : List In
 -- the lines after a replacement, joined, are the listing of these lines
 abbrev pub ReplacedReadsAgain : Type 0
 ReplacedReadsAgain =
-    (bytes : List ℕ) (lines : List Line) (place count : ℕ) (instrs : List Instr) (new : List Line) → IsListing bytes lines → AreReplaced lines place count instrs new → IsListing (text_of_lines new) new
+    (bytes : List ℕ) (lines : List ListingLine) (place count : ℕ) (instrs : List Instr) (new : List ListingLine) → IsListing bytes lines → AreReplaced lines place count instrs new → IsListing (text_of_lines new) new

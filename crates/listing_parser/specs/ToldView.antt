@@ -1,13 +1,13 @@
 -- What a statement of the code says.
-use Rattle.listing_parser.specs.declared.line.Mark.{Mark as Marks}
-use Rattle.listing_parser.specs.declared.line.Mark.TheVariants as mark
-use Rattle.listing_parser.specs.declared.line.Line.{Line as Lines}
+use Rattle.listing_parser.specs.declared.line.FunctionMark.{FunctionMark as Marks}
+use Rattle.listing_parser.specs.declared.line.FunctionMark.TheVariants as mark
+use Rattle.listing_parser.specs.declared.line.ListingLine.{ListingLine as Lines}
 use Rattle.listing_parser.specs.declared.statement.Told.{Told as Tolds}
 use Rattle.listing_parser.specs.Grammar.{Read, said_of, bare}
-use Rattle.listing_parser.specs.Directives.{Mark, Unmarked, NextMarked, NameMarked, Told}
+use Rattle.listing_parser.specs.Directives.{FunctionMark, Unmarked, NextMarked, NameMarked, Told}
 use Rattle.listing_parser.specs.Views.{statement_view, line_view}
 
-abbrev pub mark_view : Marks → Mark
+abbrev pub mark_view : Marks → FunctionMark
 mark_view mark.Nothing = Unmarked
 mark_view mark.Next = NextMarked
 mark_view (mark.Named name) = NameMarked name.items

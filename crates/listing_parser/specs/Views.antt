@@ -1,12 +1,12 @@
 -- Lines of the code as lines of a listing.
 use Rattle.std.specs.Prelude.{List, map, option_map}
-use Rattle.thumb_model.specs.Listing.{Name, Mention, Value, Number, OfName, Statement, Nothing, Runs, Words, Aligns, Sets, Line, Place, Op, Word}
+use Rattle.thumb_model.specs.Listing.{Name, Mention, Value, Number, OfName, Statement, Nothing, Instruction, Words, Aligns, Sets, ListingLine, Place, Op, Word}
 use Rattle.listing_parser.specs.declared.line.Mention.{Mention as Mentions}
 use Rattle.listing_parser.specs.declared.line.Value.{Value as Values}
 use Rattle.listing_parser.specs.declared.line.Value.TheVariants as value
 use Rattle.listing_parser.specs.declared.line.Statement.{Statement as Statements}
 use Rattle.listing_parser.specs.declared.line.Statement.TheVariants as statement
-use Rattle.listing_parser.specs.declared.line.Line.{Line as Lines}
+use Rattle.listing_parser.specs.declared.line.ListingLine.{ListingLine as Lines}
 use Rattle.listing_parser.specs.declared.line.Place.{Place as Places}
 use Rattle.listing_parser.specs.declared.line.Place.TheVariants as place
 use Rattle.listing_parser.specs.Grammar.{front_of}
@@ -20,7 +20,7 @@ value_view (value.OfName m) = OfName (mention_view m)
 
 abbrev pub statement_view : Statements → Statement
 statement_view statement.Nothing = Nothing
-statement_view (statement.Runs i m) = Runs i (option_map mention_view m)
+statement_view (statement.Instruction i m) = Instruction i (option_map mention_view m)
 statement_view (statement.Words vs) = Words (map value_view vs.items)
 statement_view (statement.Aligns size most) = Aligns size most
 statement_view (statement.Sets name address) = Sets name.items address
@@ -28,7 +28,7 @@ statement_view (statement.Sets name address) = Sets name.items address
 abbrev pub names_view : Lines → List Name
 names_view l = map (λ name. name.items) l.names.items
 
-abbrev pub line_view : Lines → Line
+abbrev pub line_view : Lines → ListingLine
 line_view l = record {
   names = names_view l;
   statement = statement_view l.statement;

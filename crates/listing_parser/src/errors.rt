@@ -5,7 +5,7 @@ use thiserror::Error;
 
 /// Why a line is refused. `as u8` gives the number by which it is told.
 #[derive(Clone, Copy, Debug, PartialEq, Eq)]
-pub enum Kind {
+pub enum ListingFault {
     /// The line is outside the grammar.
     Shape = 1,
     /// The line defines a name that was defined before.
@@ -21,7 +21,7 @@ pub enum Kind {
 pub enum ListingError {
     /// The first line that is refused, by its number from 1, and why.
     #[error("line {number}: {kind:?}")]
-    Line { number: u64, kind: Kind },
+    Line { number: u64, kind: ListingFault },
     /// Want of memory.
     #[error("out of memory")]
     Memory,

@@ -9,7 +9,7 @@ ghost use Rattle.listing_parser.specs.Views.{line_view, statement_view};
 ghost use Rattle.listing_parser.specs.TableWords.{is_key, label_line, passed_from, runs_from, spots_at, spots_from, words_on};
 
 use crate::errors::Memory;
-use crate::line::{Line, Statement};
+use crate::line::{ListingLine, Statement};
 use indexmap::IndexMap;
 use std::alloc::{AllocError, Global};
 
@@ -31,7 +31,7 @@ pub struct Passed {
 
 /// The tables of a listing's lines.
 #[derive(Drop)]
-pub struct Index {
+pub struct ListingIndex {
     /// Where each place stands.
     pub spots: Vec<Spot>,
     /// What stands before each line.
@@ -62,14 +62,14 @@ fn words_on(statement: &Statement, behind: usize) -> usize
     match statement {
         Statement::Nothing => behind,
         Statement::Sets { .. } => behind,
-        Statement::Runs { .. } => 0,
+        Statement::Instruction { .. } => 0,
         Statement::Aligns { .. } => 0,
         Statement::Words(values) => values.len() + behind,
     }
 }
 
 /// How many words of data stand from each line on, before an instruction or an alignment line.
-fn runs(alloc: Global, lines: &[Line]) -> Result<Vec<usize>, AllocError>
+fn runs(alloc: Global, lines: &[ListingLine]) -> Result<Vec<usize>, AllocError>
     requires { length (places_of (map line_view lines.now)) < 2 ^ 32 }
     ensures { IfOk result (λ v. v.items ≡ runs_from (map line_view lines.now)) }
 {
@@ -131,14 +131,14 @@ fn add_address(
 }
 
 /// The tables of lines but for the runs of data words behind each.
-fn tables(alloc: Global, lines: &[Line]) -> Result<Index, Memory>
+fn tables(alloc: Global, lines: &[ListingLine]) -> Result<ListingIndex, Memory>
     requires { length (places_of (map line_view lines.now)) < 2 ^ 32 }
     ensures spots { IfOk result (λ i. i.spots.items ≡ spots_from 0 (map line_view lines.now)) }
     ensures passed { IfOk result (λ i. i.passed.items ≡ passed_from 0 (map line_view lines.now)) }
     ensures labels { IfOk result (λ i. (q : List ℕ) → lookup (is_key q) i.labels.entries ≡ label_line q 0 (map line_view lines.now)) }
     ensures addresses { IfOk result (λ i. (q : List ℕ) → lookup (is_key q) i.addresses.entries ≡ set_address q (map line_view lines.now)) }
 {
-    let mut index = Index {
+    let mut index = ListingIndex {
         spots: Vec::with_capacity(alloc, lines.len())?,
         passed: Vec::with_capacity(alloc, lines.len())?,
         runs: Vec::new(alloc),
@@ -156,7 +156,7 @@ fn tables(alloc: Global, lines: &[Line]) -> Result<Index, Memory>
     Ok(index)
 }
 
-impl Index {
+impl ListingIndex {
     ghost use Rattle.std.specs.Prelude.{◌<◌, ◌^◌, map, length, IfOk};
     ghost use Rattle.thumb_model.specs.Listing.{places_of};
     ghost use Rattle.listing_parser.specs.Views.{line_view};
@@ -164,7 +164,7 @@ impl Index {
     ghost use Rattle.listing_parser.specs.Tables.{IsIndex};
 
     /// The tables of lines that define no name twice.
-    pub fn of(alloc: Global, lines: &[Line]) -> Result<Index, Memory>
+    pub fn of(alloc: Global, lines: &[ListingLine]) -> Result<ListingIndex, Memory>
         requires few { length (places_of (map line_view lines.now)) < 2 ^ 32 }
         requires once { DefineOnce (map line_view lines.now) }
         ensures { IfOk result (λ i. IsIndex (map line_view lines.now) i) }

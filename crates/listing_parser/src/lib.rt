@@ -17,8 +17,8 @@ mod targets;
 mod twice;
 mod values;
 
-pub use errors::{Kind, ListingError, Memory};
-pub use line::{Line, Mark, Mention, Place, Statement, Value, is_call};
+pub use errors::{ListingError, ListingFault, Memory};
+pub use line::{FunctionMark, ListingLine, Mention, Place, Statement, Value, is_call};
 pub use listing::Listing;
 pub use parsing::{parse, print};
 pub use replacing::{add_labels, add_new, copy_lines};

@@ -28,7 +28,7 @@ pub enum Statement {
     /// Nothing that lies in memory or has a meaning of its own.
     Nothing,
     /// An instruction, and the name that it mentions. Its distance is then 0.
-    Runs {
+    Instruction {
         instr: Instr,
         mention: Option<Mention>,
     },
@@ -56,7 +56,7 @@ impl Statement {
         ensures { result ≡ length (places_in (statement_view self.now)) }
     {
         match self {
-            Statement::Runs { .. } => 1,
+            Statement::Instruction { .. } => 1,
             Statement::Words(values) => values.len(),
             _ => 0,
         }
@@ -65,7 +65,7 @@ impl Statement {
 
 /// What a line says of functions.
 #[derive(Drop)]
-pub enum Mark {
+pub enum FunctionMark {
     /// Nothing.
     Nothing,
     /// `.thumb_func`: the next label, on a later line, is a function.
@@ -76,11 +76,11 @@ pub enum Mark {
 
 /// A line of a listing.
 #[derive(Drop)]
-pub struct Line {
+pub struct ListingLine {
     /// The names of its labels, in order.
     pub names: Vec<Vec<u8>>,
     pub statement: Statement,
-    pub mark: Mark,
+    pub mark: FunctionMark,
     /// Its bytes, with its newline where it has one.
     pub text: Vec<u8>,
     /// How many bytes it has up to and with its last label's colon; 0 where it has no label.

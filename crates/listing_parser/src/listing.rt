@@ -4,8 +4,8 @@ ghost use Rattle.thumb_model.specs.Listing.{places_in};
 ghost use Rattle.listing_parser.specs.Views.{line_view, place_view};
 
 use crate::errors::Memory;
-use crate::index::Index;
-use crate::line::{Line, Place, Statement};
+use crate::index::ListingIndex;
+use crate::line::{ListingLine, Place, Statement};
 use crate::replacing::replaced_lines;
 use crate::retargeting::retargeted_lines;
 use std::alloc::Global;
@@ -17,13 +17,13 @@ use thumb_instr::Instr;
 /// A place is an instruction or a data word. Places are numbered from 0 in the order of the lines, and so are lines.
 #[derive(Drop)]
 pub struct Listing {
-    lines: Vec<Line>,
-    index: Index,
+    lines: Vec<ListingLine>,
+    index: ListingIndex,
 }
 
 impl Model for Listing {
     ghost use Rattle.std.specs.Prelude.{map, List};
-    ghost use Rattle.thumb_model.specs.Listing.{Line as ListingLine};
+    ghost use Rattle.thumb_model.specs.Listing.{ListingLine};
 
     ghost Value = { List ListingLine };
 
@@ -36,11 +36,11 @@ impl Model for Listing {
 }
 
 /// The place of this number within a line.
-fn place_in(line: &Line, item: usize) -> Option<Place<'_>>
+fn place_in(line: &ListingLine, item: usize) -> Option<Place<'_>>
     ensures { option_map place_view result ≡ slice_get (places_in (line_view line.now).statement) item }
 {
     match &line.statement {
-        Statement::Runs { instr, mention } => {
+        Statement::Instruction { instr, mention } => {
             if item == 0 {
                 Some(Place::Op {
                     instr: *instr,
@@ -75,24 +75,24 @@ impl Listing {
     ghost use Rattle.listing_parser.specs.Targets.{from_label};
 
     /// The listing of lines that define no name twice and have fewer than 2^32 places.
-    pub fn of(alloc: Global, lines: Vec<Line>) -> Result<Listing, Memory>
+    pub fn of(alloc: Global, lines: Vec<ListingLine>) -> Result<Listing, Memory>
         requires few { length (places_of (map line_view lines.items)) < 2 ^ 32 }
         requires once { DefineOnce (map line_view lines.items) }
         ensures { IfOk result (λ l. l ≡ map line_view lines.items) }
     {
-        let index = Index::of(alloc, &lines)?;
+        let index = ListingIndex::of(alloc, &lines)?;
         Ok(Listing { lines, index })
     }
 
     /// The lines in order.
-    pub fn lines(&self) -> &[Line]
+    pub fn lines(&self) -> &[ListingLine]
         ensures { map line_view result.now ≡ self.now }
     {
         self.lines.as_slice()
     }
 
     /// The lines in order, without the tables.
-    pub fn into_lines(self) -> Vec<Line>
+    pub fn into_lines(self) -> Vec<ListingLine>
         ensures lines { map line_view result.items ≡ self }
         ensures few { length (places_of self) < 2 ^ 32 }
         ensures once { DefineOnce self }

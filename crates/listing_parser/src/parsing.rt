@@ -3,7 +3,7 @@ ghost use Rattle.std.specs.Prelude.{◌≡◌, IfOk};
 ghost use Rattle.listing_parser.specs.Parsing.{text_of_lines};
 ghost use Rattle.listing_parser.specs.Verdicts.{Parses};
 
-use crate::errors::{Kind, ListingError, Memory};
+use crate::errors::{ListingError, ListingFault, Memory};
 use crate::listing::Listing;
 use crate::reading::read_lines;
 use crate::targets::{first_target, functions};
@@ -22,7 +22,7 @@ pub fn parse(alloc: Global, text: &[u8]) -> Result<Listing, ListingError>
     if let Some(number) = first_twice(alloc, &lines)? {
         return Err(ListingError::Line {
             number,
-            kind: Kind::Twice,
+            kind: ListingFault::Twice,
         });
     }
     let functions = functions(alloc, &lines)?;
@@ -31,7 +31,7 @@ pub fn parse(alloc: Global, text: &[u8]) -> Result<Listing, ListingError>
         None => Ok(listing),
         Some(number) => Err(ListingError::Line {
             number,
-            kind: Kind::Target,
+            kind: ListingFault::Target,
         }),
     }
 }

@@ -6,8 +6,8 @@ ghost use Rattle.listing_parser.specs.Grammar.{begins_label, body, checked_line,
 ghost use Rattle.listing_parser.specs.ToldView.{read_view};
 ghost use Rattle.listing_parser.specs.Results.{Gives};
 
-use crate::errors::{Kind, ListingError};
-use crate::line::Line;
+use crate::errors::{ListingError, ListingFault};
+use crate::line::ListingLine;
 use crate::splitting::{code, split_colon, without_blanks};
 use crate::statement::statement;
 use ascii_scan::{Lines, SourceLine};
@@ -87,7 +87,7 @@ fn whole_text(alloc: Global, source: SourceLine<'_>) -> Result<Vec<u8>, AllocErr
 
 /// The line, or None where it is outside the grammar.
 #[tactic(auto, unfolding(crate::specs::Grammar::read_line))]
-fn read_line(alloc: Global, source: SourceLine<'_>) -> Result<Option<Line>, AllocError>
+fn read_line(alloc: Global, source: SourceLine<'_>) -> Result<Option<ListingLine>, AllocError>
     ensures { IfOk result (λ o. option_map read_view o ≡ read_line (source_view source.entry)) }
 {
     let code = code(body(source));
@@ -96,7 +96,7 @@ fn read_line(alloc: Global, source: SourceLine<'_>) -> Result<Option<Line>, Allo
         None => Ok(None),
         Some(told) => {
             let text = whole_text(alloc, source)?;
-            Ok(Some(Line {
+            Ok(Some(ListingLine {
                 names,
                 statement: told.statement,
                 mark: told.mark,
@@ -109,20 +109,20 @@ fn read_line(alloc: Global, source: SourceLine<'_>) -> Result<Option<Line>, Allo
 
 /// The line, or why it is refused.
 #[tactic(auto, unfolding(crate::specs::Grammar::checked_line))]
-fn checked_line(alloc: Global, source: SourceLine<'_>) -> Result<Line, ListingError>
+fn checked_line(alloc: Global, source: SourceLine<'_>) -> Result<ListingLine, ListingError>
     ensures { Gives read_view result (checked_line (source_view source.entry)) }
 {
     if source.number > MOST_LINES || source.text.len() > LONGEST_LINE {
         return Err(ListingError::Line {
             number: source.number as u64,
-            kind: Kind::Limit,
+            kind: ListingFault::Limit,
         });
     }
     match read_line(alloc, source)? {
         Some(line) => Ok(line),
         None => Err(ListingError::Line {
             number: source.number as u64,
-            kind: Kind::Shape,
+            kind: ListingFault::Shape,
         }),
     }
 }
@@ -131,7 +131,7 @@ fn checked_line(alloc: Global, source: SourceLine<'_>) -> Result<Line, ListingEr
 const SHORT_LINE: usize = 8;
 
 /// All lines, or the first that can't be read.
-pub fn read_lines(alloc: Global, text: &[u8]) -> Result<Vec<Line>, ListingError>
+pub fn read_lines(alloc: Global, text: &[u8]) -> Result<Vec<ListingLine>, ListingError>
     ensures { Gives (λ v. map read_view v.items) result (read_lines (lines_in text.now)) }
 {
     let mut lines = Vec::with_capacity(alloc, (text.len() / SHORT_LINE).min(MOST_LINES))?;

@@ -8,7 +8,7 @@ ghost use Rattle.thumb_syntax.specs.ParsedView.{shown};
 ghost use Rattle.thumb_syntax.specs.Spelling.{text_of};
 
 use crate::errors::Memory;
-use crate::line::{Line, Mark, Mention, Statement, Value};
+use crate::line::{FunctionMark, ListingLine, Mention, Statement, Value};
 use std::alloc::{AllocError, Global};
 use thumb_instr::Instr;
 use thumb_syntax::{Parsed, write_instr};
@@ -74,10 +74,10 @@ fn copy_statement(alloc: Global, statement: &Statement) -> Result<Statement, All
 {
     match statement {
         Statement::Nothing => Ok(Statement::Nothing),
-        Statement::Runs { instr, mention } => {
+        Statement::Instruction { instr, mention } => {
             let mention = copy_mentioned(alloc, mention)?;
             let instr = *instr;
-            Ok(Statement::Runs { instr, mention })
+            Ok(Statement::Instruction { instr, mention })
         }
         Statement::Words(values) => {
             let values = copy_values(alloc, values)?;
@@ -95,21 +95,21 @@ fn copy_statement(alloc: Global, statement: &Statement) -> Result<Statement, All
     }
 }
 
-fn copy_mark(alloc: Global, mark: &Mark) -> Result<Mark, AllocError>
+fn copy_mark(alloc: Global, mark: &FunctionMark) -> Result<FunctionMark, AllocError>
     ensures { IfOk result (λ m. mark_view m ≡ mark_view mark.now) }
 {
     match mark {
-        Mark::Nothing => Ok(Mark::Nothing),
-        Mark::Next => Ok(Mark::Next),
-        Mark::Named(name) => {
+        FunctionMark::Nothing => Ok(FunctionMark::Nothing),
+        FunctionMark::Next => Ok(FunctionMark::Next),
+        FunctionMark::Named(name) => {
             let name = name.to_vec(alloc)?;
-            Ok(Mark::Named(name))
+            Ok(FunctionMark::Named(name))
         }
     }
 }
 
 /// A line like another.
-pub fn copy_line(alloc: Global, line: &Line) -> Result<Line, AllocError>
+pub fn copy_line(alloc: Global, line: &ListingLine) -> Result<ListingLine, AllocError>
     ensures line { IfOk result (λ l. line_view l ≡ line_view line.now) }
     ensures mark { IfOk result (λ l. mark_view l.mark ≡ mark_view line.now.mark) }
 {
@@ -117,7 +117,7 @@ pub fn copy_line(alloc: Global, line: &Line) -> Result<Line, AllocError>
     let statement = copy_statement(alloc, &line.statement)?;
     let mark = copy_mark(alloc, &line.mark)?;
     let text = line.text.to_vec(alloc)?;
-    Ok(Line {
+    Ok(ListingLine {
         names,
         statement,
         mark,
@@ -127,7 +127,7 @@ pub fn copy_line(alloc: Global, line: &Line) -> Result<Line, AllocError>
 }
 
 /// Lines like others.
-pub fn copy_lines(alloc: Global, lines: &[Line]) -> Result<Vec<Line>, AllocError>
+pub fn copy_lines(alloc: Global, lines: &[ListingLine]) -> Result<Vec<ListingLine>, AllocError>
     ensures { IfOk result (λ v. map line_view v.items ≡ map line_view lines.now) }
 {
     let mut copied = Vec::with_capacity(alloc, lines.len())?;
@@ -138,14 +138,14 @@ pub fn copy_lines(alloc: Global, lines: &[Line]) -> Result<Vec<Line>, AllocError
     Ok(copied)
 }
 
-fn is_op(line: &Line) -> bool
+fn is_op(line: &ListingLine) -> bool
     ensures { result ≡ is_op (line_view line.now).statement }
 {
-    matches!(line.statement, Statement::Runs { .. })
+    matches!(line.statement, Statement::Instruction { .. })
 }
 
 /// The bytes of a line up to its last label's colon, and a newline.
-fn front_text(alloc: Global, line: &Line) -> Result<Vec<u8>, AllocError>
+fn front_text(alloc: Global, line: &ListingLine) -> Result<Vec<u8>, AllocError>
     ensures { IfOk result (λ v. v.items ≡ take line.now.front line.now.text.items ++ 10 ∷ []) }
 {
     let front = if line.front < line.text.len() {
@@ -160,7 +160,11 @@ fn front_text(alloc: Global, line: &Line) -> Result<Vec<u8>, AllocError>
 }
 
 /// Adds what stays of a line whose instruction goes: its labels.
-pub fn add_labels(alloc: Global, out: &mut Vec<Line>, line: &Line) -> Result<(), AllocError>
+pub fn add_labels(
+    alloc: Global,
+    out: &mut Vec<ListingLine>,
+    line: &ListingLine,
+) -> Result<(), AllocError>
     ensures { OnOk result (map line_view out.new.items ≡ map line_view out.old.items ++ labels_kept (line_view line.now) (names_view line.now)) }
 {
     if line.names.is_empty() {
@@ -168,10 +172,10 @@ pub fn add_labels(alloc: Global, out: &mut Vec<Line>, line: &Line) -> Result<(),
     }
     let names = copy_names(alloc, &line.names)?;
     let text = front_text(alloc, line)?;
-    out.push(Line {
+    out.push(ListingLine {
         names,
         statement: Statement::Nothing,
-        mark: Mark::Nothing,
+        mark: FunctionMark::Nothing,
         front: text.len() - 1,
         text,
     })?;
@@ -192,7 +196,7 @@ pub fn own_text(alloc: Global, parsed: &Parsed<'_>) -> Result<Vec<u8>, Memory>
 
 /// The line of an instruction that mentions nothing.
 #[tactic(auto, unfolding(crate::specs::Parsing::own_line))]
-pub fn new_line(alloc: Global, instr: &Instr) -> Result<Line, Memory>
+pub fn new_line(alloc: Global, instr: &Instr) -> Result<ListingLine, Memory>
     ensures { IfOk result (λ l. line_view l ≡ new_line own_line instr.now) }
 {
     let text = own_text(
@@ -202,20 +206,20 @@ pub fn new_line(alloc: Global, instr: &Instr) -> Result<Line, Memory>
             label: None,
         },
     )?;
-    Ok(Line {
+    Ok(ListingLine {
         names: Vec::new(alloc),
-        statement: Statement::Runs {
+        statement: Statement::Instruction {
             instr: *instr,
             mention: None,
         },
-        mark: Mark::Nothing,
+        mark: FunctionMark::Nothing,
         text,
         front: 0,
     })
 }
 
 /// Adds the lines of new instructions.
-pub fn add_new(alloc: Global, out: &mut Vec<Line>, instrs: &[Instr]) -> Result<(), Memory>
+pub fn add_new(alloc: Global, out: &mut Vec<ListingLine>, instrs: &[Instr]) -> Result<(), Memory>
     ensures { OnOk result (map line_view out.new.items ≡ map line_view out.old.items ++ map (new_line own_line) instrs.now) }
 {
     for instr in instrs {
@@ -226,7 +230,7 @@ pub fn add_new(alloc: Global, out: &mut Vec<Line>, instrs: &[Instr]) -> Result<(
 }
 
 /// Whether the line is one of the instructions that are left out.
-fn is_skipped(left: usize, line: &Line) -> bool
+fn is_skipped(left: usize, line: &ListingLine) -> bool
     ensures { result ≡ (nat_lt 0 left && is_op (line_view line.now).statement) }
 {
     left > 0 && is_op(line)
@@ -236,8 +240,8 @@ fn is_skipped(left: usize, line: &Line) -> bool
 #[tactic(auto, using(crate::proofs::ReplaceLemmas::skipping))]
 pub fn add_without(
     alloc: Global,
-    out: &mut Vec<Line>,
-    lines: &[Line],
+    out: &mut Vec<ListingLine>,
+    lines: &[ListingLine],
     skipped: usize,
 ) -> Result<(), AllocError>
     ensures { OnOk result (map line_view out.new.items ≡ map line_view out.old.items ++ without skipped (map line_view lines.now)) }
@@ -257,11 +261,11 @@ pub fn add_without(
 /// The lines with these instructions in place of `count` from a place on.
 pub fn replaced_lines(
     alloc: Global,
-    lines: &[Line],
+    lines: &[ListingLine],
     place: usize,
     count: usize,
     instrs: &[Instr],
-) -> Result<Vec<Line>, Memory>
+) -> Result<Vec<ListingLine>, Memory>
     requires { 1 ≤ count }
     ensures { IfOk result (λ v. map line_view v.items ≡ replaced_lines own_line place count instrs.now (map line_view lines.now)) }
 {

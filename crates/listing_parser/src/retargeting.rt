@@ -1,12 +1,12 @@
 //! A branch that goes elsewhere, by lines.
 ghost use Rattle.std.specs.Prelude.{◌≡◌, [], Some, map, IfOk};
-ghost use Rattle.thumb_model.specs.Listing.{Runs};
+ghost use Rattle.thumb_model.specs.Listing.{Instruction};
 ghost use Rattle.listing_parser.specs.Views.{line_view};
 ghost use Rattle.listing_parser.specs.Parsing.{line_mentioning};
 ghost use Rattle.listing_parser.specs.Targets.{aimed_lines};
 
 use crate::errors::Memory;
-use crate::line::{Line, Mark, Mention, Statement};
+use crate::line::{FunctionMark, ListingLine, Mention, Statement};
 use crate::replacing::{add_labels, add_without, copy_line, own_text};
 use std::alloc::Global;
 use thumb_instr::Instr;
@@ -14,10 +14,10 @@ use thumb_syntax::{Label, Parsed};
 
 /// A line of its own for a branch to a label.
 #[tactic(auto, unfolding(crate::specs::Parsing::line_mentioning))]
-fn branch_line(alloc: Global, instr: &Instr, name: &[u8]) -> Result<Line, Memory>
+fn branch_line(alloc: Global, instr: &Instr, name: &[u8]) -> Result<ListingLine, Memory>
     ensures { IfOk result (λ l. line_view l ≡ record {
       names = [];
-      statement = Runs instr.now (Some (record { name = name.now; plus = 0 }));
+      statement = Instruction instr.now (Some (record { name = name.now; plus = 0 }));
       text = line_mentioning instr.now (Some (record { name = name.now; plus = 0 }));
       front = [];
     }) }
@@ -31,13 +31,13 @@ fn branch_line(alloc: Global, instr: &Instr, name: &[u8]) -> Result<Line, Memory
         },
     )?;
     let name = name.to_vec(alloc)?;
-    Ok(Line {
+    Ok(ListingLine {
         names: Vec::new(alloc),
-        statement: Statement::Runs {
+        statement: Statement::Instruction {
             instr: *instr,
             mention: Some(Mention { name, plus: 0 }),
         },
-        mark: Mark::Nothing,
+        mark: FunctionMark::Nothing,
         text,
         front: 0,
     })
@@ -46,17 +46,17 @@ fn branch_line(alloc: Global, instr: &Instr, name: &[u8]) -> Result<Line, Memory
 /// The lines with the branch at a place going to a label.
 pub fn retargeted_lines(
     alloc: Global,
-    lines: &[Line],
+    lines: &[ListingLine],
     place: usize,
     name: &[u8],
-) -> Result<Vec<Line>, Memory>
+) -> Result<Vec<ListingLine>, Memory>
     ensures { IfOk result (λ v. map line_view v.items ≡ aimed_lines line_mentioning place name.now (map line_view lines.now)) }
 {
     let mut out = Vec::with_capacity(alloc, lines.len())?;
     let mut passing = place;
     for (n, line) in lines.iter().enumerate() {
         if passing == 0 {
-            if let Statement::Runs { instr, .. } = &line.statement {
+            if let Statement::Instruction { instr, .. } = &line.statement {
                 add_labels(alloc, &mut out, line)?;
                 let branch = branch_line(alloc, instr, name)?;
                 out.push(branch)?;

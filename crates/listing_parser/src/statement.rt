@@ -11,7 +11,7 @@ ghost use Rattle.listing_parser.specs.Directives.{alignment, Unmarked, directive
 ghost use Rattle.listing_parser.specs.ToldView.{mark_view, told_view};
 
 use crate::directive::{Directive, directive_named};
-use crate::line::{Mark, Mention, Statement};
+use crate::line::{FunctionMark, Mention, Statement};
 use crate::splitting::{split_name, split_word, without_blanks};
 use crate::values::values;
 use ascii_scan::{Token, next_token, number};
@@ -22,7 +22,7 @@ use thumb_syntax::{Label, is_name, read_instr};
 #[derive(Drop)]
 pub struct Told {
     pub statement: Statement,
-    pub mark: Mark,
+    pub mark: FunctionMark,
 }
 
 fn says(statement: Statement) -> Told
@@ -30,11 +30,11 @@ fn says(statement: Statement) -> Told
 {
     Told {
         statement,
-        mark: Mark::Nothing,
+        mark: FunctionMark::Nothing,
     }
 }
 
-fn marks(mark: Mark) -> Told
+fn marks(mark: FunctionMark) -> Told
     ensures { told_view result ≡ marks (mark_view mark) }
 {
     Told {
@@ -75,7 +75,7 @@ fn instruction(alloc: Global, bytes: &[u8]) -> Result<Option<Told>, AllocError>
         Some(parsed) => {
             let mention = mention_of(alloc, parsed.label)?;
             let instr = parsed.instr;
-            Ok(Some(says(Statement::Runs { instr, mention })))
+            Ok(Some(says(Statement::Instruction { instr, mention })))
         }
     }
 }
@@ -240,7 +240,7 @@ fn typing(alloc: Global, bytes: &[u8]) -> Result<Told, AllocError>
         Some((name, kind)) => {
             if kind == b"%function".as_slice() && is_name(name) {
                 let name = name.to_vec(alloc)?;
-                Ok(marks(Mark::Named(name)))
+                Ok(marks(FunctionMark::Named(name)))
             } else {
                 Ok(says(Statement::Nothing))
             }
@@ -296,7 +296,7 @@ fn directed(alloc: Global, directive: Directive, bytes: &[u8]) -> Result<Option<
         Directive::Align => Ok(alignment(true, bytes)),
         Directive::PowerAlign => Ok(alignment(false, bytes)),
         Directive::Set => setting(alloc, bytes),
-        Directive::ThumbFunc => Ok(says_if(is_bare(bytes), marks(Mark::Next))),
+        Directive::ThumbFunc => Ok(says_if(is_bare(bytes), marks(FunctionMark::Next))),
         Directive::Type => {
             let told = typing(alloc, bytes)?;
             Ok(Some(told))

@@ -9,7 +9,7 @@ ghost use Rattle.listing_parser.specs.Targets.{are_words_of, first_target, from_
 ghost use Rattle.std.specs.Prelude.{option_map};
 
 use crate::errors::Memory;
-use crate::line::{Line, Mark, Mention, Statement, Value};
+use crate::line::{FunctionMark, ListingLine, Mention, Statement, Value};
 use crate::listing::Listing;
 use crate::twice::add;
 use indexmap::IndexSet;
@@ -46,19 +46,23 @@ fn mark_first(
 }
 
 /// Marks the name that a line marks.
-fn mark_named(alloc: Global, functions: &mut IndexSet<Vec<u8>>, by: &Mark) -> Result<(), Memory>
+fn mark_named(
+    alloc: Global,
+    functions: &mut IndexSet<Vec<u8>>,
+    by: &FunctionMark,
+) -> Result<(), Memory>
     ensures { OnOk result ((q : List ℕ) → is_among q (map (λ k. k.items) functions.new.keys) ≡ (is_among q (map (λ k. k.items) functions.old.keys) || is_among q (marked_by_name (mark_view by.now)))) }
 {
     match by {
-        Mark::Named(name) => mark(alloc, functions, name),
+        FunctionMark::Named(name) => mark(alloc, functions, name),
         _ => Ok(()),
     }
 }
 
-fn is_next(mark: &Mark) -> bool
+fn is_next(mark: &FunctionMark) -> bool
     ensures { result ≡ is_next (mark_view mark.now) }
 {
-    matches!(mark, Mark::Next)
+    matches!(mark, FunctionMark::Next)
 }
 
 /// Marks what a line marks. Answers whether a mark waits for a label after it.
@@ -66,7 +70,7 @@ fn mark_line(
     alloc: Global,
     functions: &mut IndexSet<Vec<u8>>,
     waits: bool,
-    line: &Line,
+    line: &ListingLine,
 ) -> Result<bool, Memory>
     ensures marked { OnOk result ((q : List ℕ) → is_among q (map (λ k. k.items) functions.new.keys) ≡ (is_among q (map (λ k. k.items) functions.old.keys) || is_among q (marked_first waits (names_view line.now) ++ marked_by_name (mark_view line.now.mark)))) }
     ensures waits { IfOk result (λ b. b ≡ (still_waits waits (names_view line.now) || is_next (mark_view line.now.mark))) }
@@ -77,7 +81,7 @@ fn mark_line(
 }
 
 /// The names that are marked as functions.
-pub fn functions(alloc: Global, lines: &[Line]) -> Result<IndexSet<Vec<u8>>, Memory>
+pub fn functions(alloc: Global, lines: &[ListingLine]) -> Result<IndexSet<Vec<u8>>, Memory>
     ensures { IfOk result (λ s. (q : List ℕ) → is_among q (map (λ k. k.items) s.keys) ≡ is_among q (functions false (map read_view lines.now))) }
 {
     let mut functions = IndexSet::new(alloc);
@@ -176,7 +180,7 @@ fn is_on_target(listing: &Listing, functions: &IndexSet<Vec<u8>>, statement: &St
     ensures { result ≡ is_on_target listing.now (map (λ k. k.items) functions.now.keys) (statement_view statement.now) }
 {
     match statement {
-        Statement::Runs { instr, mention } => is_aimed_at(listing, instr, mention),
+        Statement::Instruction { instr, mention } => is_aimed_at(listing, instr, mention),
         Statement::Words(values) => are_words_of(listing, functions, values),
         _ => true,
     }

@@ -5,7 +5,7 @@ ghost use Rattle.thumb_model.specs.Layout.{is_among};
 ghost use Rattle.listing_parser.specs.Targets.{defined_in, set_names, DefineOnce, IsAgain, IsFirstAgain};
 
 use crate::errors::Memory;
-use crate::line::{Line, Statement};
+use crate::line::{ListingLine, Statement};
 use indexmap::IndexSet;
 use std::alloc::Global;
 
@@ -49,7 +49,11 @@ fn add_set(
 }
 
 /// Adds the names that a line defines, and answers whether one was known.
-fn add_line(alloc: Global, known: &mut IndexSet<Vec<u8>>, line: &Line) -> Result<bool, Memory>
+fn add_line(
+    alloc: Global,
+    known: &mut IndexSet<Vec<u8>>,
+    line: &ListingLine,
+) -> Result<bool, Memory>
     ensures again { IfOk result (λ b. Decides b (IsAgain (map (λ k. k.items) known.old.keys) (defined_in (line_view line.now)))) }
     ensures known { IfOk result (λ b. b ≡ false → map (λ k. k.items) known.new.keys ≡ map (λ k. k.items) known.old.keys ++ defined_in (line_view line.now)) }
 {
@@ -61,7 +65,7 @@ fn add_line(alloc: Global, known: &mut IndexSet<Vec<u8>>, line: &Line) -> Result
 }
 
 /// The first line, by its number from 1, that defines a name again.
-pub fn first_twice(alloc: Global, lines: &[Line]) -> Result<Option<u64>, Memory>
+pub fn first_twice(alloc: Global, lines: &[ListingLine]) -> Result<Option<u64>, Memory>
     ensures { IfOk result (λ o. MatchOption o (DefineOnce (map line_view lines.now)) (λ n. IsFirstAgain (map line_view lines.now) n)) }
 {
     let mut known = IndexSet::new(alloc);

@@ -4,7 +4,7 @@ use Rattle.std.specs.Prelude.{slice_get}
 use Rattle.thumb_instr.specs.declared.instr.Instr.{Instr}
 use Rattle.thumb_instr.specs.declared.items.Items.{Items}
 use Rattle.thumb_instr.specs.Items.{has}
-use Rattle.thumb_model.specs.Listing.{Place, plain, Label, Line, Code, code_of, is_code, labels_from, places_of}
+use Rattle.thumb_model.specs.Listing.{Place, plain, Label, ListingLine, Code, code_of, is_code, labels_from, places_of}
 use Rattle.thumb_model.specs.Flow.{Way, ways}
 use Rattle.thumb_model.specs.Replaced.{moved, move_label, replaced, replaced_lines}
 use Rattle.thumb_model.proofs.Lists.{cons_same, length_drop, length_map, take_short}
@@ -35,7 +35,7 @@ pub same_sets : (b c a d : List Items) → b ≡ c → a ≡ d → (let s : Sets
 same_sets b c a d e f = cc
 
 -- the code that is left where fewer instructions stand
-code_left : (write : Instr → List ℕ) (lines : List Line) (p n : ℕ) (window new : List Instr) → KeepsAt (code_of lines) p window new → n ≡ length window → code_of (replaced_lines write p n new lines) ≡ replaced (code_of lines) p n new
+code_left : (write : Instr → List ℕ) (lines : List ListingLine) (p n : ℕ) (window new : List Instr) → KeepsAt (code_of lines) p window new → n ≡ length window → code_of (replaced_lines write p n new lines) ≡ replaced (code_of lines) p n new
 code_left write lines p zero window new at e = let s = at.shorter in absurd (omega arith)
 code_left write lines p (suc n) window new at e =
     let s = at.shorter in
@@ -43,7 +43,7 @@ code_left write lines p (suc n) window new at e =
     (ops_of window (suc n) (drop p (places_of lines)) e (ap (λ k. take k (drop p (places_of lines))) e ∙ at.stands))
     (outside_of p (suc n) (labels_from 0 lines) (subst (λ k. (j : ℕ) (l : Label) → slice_get (labels_from 0 lines) j ≡ Some l → (l.place ≤ p) ⊎ (p + k ≤ l.place)) (sym e) at.unlabelled))
 
-module _ (lines : List Line) (place old new : ℕ) (sets : Sets) (w : WasLive lines place old new sets) where
+module _ (lines : List ListingLine) (place old new : ℕ) (sets : Sets) (w : WasLive lines place old new sets) where
   abbrev code : Code
   code = code_of w.before
 

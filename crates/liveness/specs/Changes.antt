@@ -5,7 +5,7 @@ use Rattle.thumb_instr.specs.declared.instr.Instr.{Instr}
 use Rattle.thumb_instr.specs.Window.{is_in_window}
 use Rattle.thumb_instr.specs.declared.items.Items.{Items}
 use Rattle.thumb_instr.specs.Items.{has}
-use Rattle.thumb_model.specs.Listing.{plain, Code, Label, Line, code_of, is_code, labels_from, places_of}
+use Rattle.thumb_model.specs.Listing.{plain, Code, Label, ListingLine, code_of, is_code, labels_from, places_of}
 use Rattle.thumb_model.specs.Replaced.{move_label, replaced, replaced_lines}
 use Rattle.liveness.specs.declared.flowing.Flow.{Flow}
 use Rattle.liveness.specs.Kept.{AreFlowsFrom}
@@ -13,8 +13,8 @@ use Rattle.liveness.specs.Live.{Sets, IsLive}
 use Rattle.liveness.specs.Through.{live_through, nothing, read_along}
 
 -- the sets are those of lines in which `old` instructions of windows stood at the place where `new` such instructions stand now: no label stood among them, and each code label is still code
-pub record WasLive (lines : List Line) (place old new : ℕ) (sets : Sets) : Type 0 where
-  pub before : List Line
+pub record WasLive (lines : List ListingLine) (place old new : ℕ) (sets : Sets) : Type 0 where
+  pub before : List ListingLine
   pub window : List Instr
   pub instrs : List Instr
   pub write : Instr → List ℕ

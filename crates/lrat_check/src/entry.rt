@@ -11,7 +11,7 @@ use itoa::Buffer;
 use std::alloc::{AllocError, Global};
 
 /// A word of a line that is a number: an id, a hint or a literal.
-pub trait Entry: Copy {
+pub trait ProofNumber: Copy {
     ghost text: { Self → List ℕ };
 
     ghost can_stand: { Self → Type 0 };
@@ -83,7 +83,7 @@ fn numeral_length(number: i64) -> u64
     digits(number.unsigned_abs()) + u64::from(number < 0)
 }
 
-impl Entry for Id {
+impl ProofNumber for Id {
     ghost use Rattle.lrat_check.specs.Numbers.{IsId};
 
     ghost text = { decimal };
@@ -108,7 +108,7 @@ impl Entry for Id {
     }
 }
 
-impl Entry for Hint {
+impl ProofNumber for Hint {
     ghost use Rattle.lrat_check.specs.Numbers.{IsHint};
 
     ghost text = { signed_decimal };
@@ -145,7 +145,7 @@ fn literal(number: i64) -> Option<Literal>
     }
 }
 
-impl Entry for Literal {
+impl ProofNumber for Literal {
     ghost use Rattle.lrat_check.specs.Text.{literal_text};
 
     ghost text = { literal_text };
@@ -171,7 +171,7 @@ impl Entry for Literal {
 }
 
 /// Writes the words, and a blank after each.
-pub fn write_all<E: Entry>(entries: &[E], out: &mut Vec<u8>) -> Result<(), AllocError>
+pub fn write_all<E: ProofNumber>(entries: &[E], out: &mut Vec<u8>) -> Result<(), AllocError>
     requires { All E.can_write entries.now }
     ensures { OnOk result (out.new.items ≡ out.old.items ++ spaced (map E.text entries.now)) }
 {
@@ -184,7 +184,7 @@ pub fn write_all<E: Entry>(entries: &[E], out: &mut Vec<u8>) -> Result<(), Alloc
 
 /// How many bytes the words have with a blank after each, and those before them; None where that isn't below 2^64.
 #[tactic(auto, using(crate::proofs::Texts::some_words))]
-pub fn length_of_all<E: Entry>(before: u64, entries: &[E]) -> Option<u64>
+pub fn length_of_all<E: ProofNumber>(before: u64, entries: &[E]) -> Option<u64>
     requires { All E.can_write entries.now }
     ensures { MatchOption result (2 ^ 64 ≤ before + length (spaced (map E.text entries.now))) (λ n. n ≡ before + length (spaced (map E.text entries.now))) }
 {

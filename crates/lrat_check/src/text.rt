@@ -7,7 +7,7 @@ ghost use Rattle.lrat_check.specs.Numbers.{IsId, AllWithin};
 ghost use Rattle.lrat_check.specs.Text.{Content, content_of, addition, deletion, text_of, words_of, middle_of, id_of, spaced, literal_text, end_word, deletion_word, HasGoodParts, IsLine};
 ghost use Rattle.lrat_check.specs.Reading.{IsLineWith, words_left};
 
-use crate::entry::{Entry, length_of_all, write_all};
+use crate::entry::{ProofNumber, length_of_all, write_all};
 use crate::line::{Addition, Deletion, Id, Line};
 use crate::words::{next_word, read_last, read_list, split_word};
 use clause_model::Literal;

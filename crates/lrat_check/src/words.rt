@@ -4,7 +4,7 @@ ghost use Rattle.std.specs.List.{position_or_len, slice_split};
 ghost use Rattle.lrat_check.specs.Text.{end_word};
 ghost use Rattle.lrat_check.specs.Reading.{words_left};
 
-use crate::entry::Entry;
+use crate::entry::ProofNumber;
 use std::alloc::{AllocError, Global};
 
 /// Whether the word is `0`.
@@ -57,7 +57,7 @@ fn count(mut rest: Option<&[u8]>) -> usize {
 }
 
 /// What the words before the first `0` say, in as much memory as they need, and what is left after it.
-pub(crate) fn read_list<E: Entry + Drop>(
+pub(crate) fn read_list<E: ProofNumber + Drop>(
     alloc: Global,
     mut rest: Option<&[u8]>,
 ) -> Result<Option<(Vec<E>, Option<&[u8]>)>, AllocError>
@@ -78,7 +78,7 @@ pub(crate) fn read_list<E: Entry + Drop>(
 }
 
 /// What the words before the first `0` say, where no word is left after it.
-pub(crate) fn read_last<E: Entry + Drop>(
+pub(crate) fn read_last<E: ProofNumber + Drop>(
     alloc: Global,
     rest: Option<&[u8]>,
 ) -> Result<Option<Vec<E>>, AllocError>

@@ -9,7 +9,7 @@ use Rattle.thumb_instr.specs.declared.operation.Operation.{Operation}
 use Rattle.thumb_instr.specs.declared.operation.Operation.TheVariants as operation
 use Rattle.thumb_instr.specs.declared.operation.ByteOperation.{ByteOperation}
 use Rattle.thumb_instr.specs.declared.operation.ByteOperation.TheVariants as byte
-use Rattle.thumb_instr.specs.declared.operation.Sum.TheVariants as sum
+use Rattle.thumb_instr.specs.declared.operation.SumOperation.TheVariants as sum
 use Rattle.thumb_instr.specs.Window.{is_in_window, named, AreBelow}
 use Rattle.thumb_model.specs.Effect.{Values, one_of, outputs, result_flags, sum_flags, result_outputs, shift_outputs, sum_outputs, three_sum, two_outputs, byte_outputs, after, AreOver}
 use Rattle.thumb_model.proofs.Law.{keys, assigned_other}

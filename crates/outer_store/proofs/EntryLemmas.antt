@@ -8,7 +8,7 @@ use Rattle.std.specs.List.{position, position_or_len}
 use Rattle.std.specs.Option.{option_or}
 use Rattle.std.specs.Str.{bytes_eq}
 use Rattle.std.proofs.lemmas.Slice.Eq.{bytes_eq-Decides}
-use Rattle.outer_store.specs.Entries.{Entry, is_named, text_in}
+use Rattle.outer_store.specs.Entries.{NamedText, is_named, text_in}
 
 either : (b : Bool) → (b ≡ true) ⊎ (b ≡ false)
 either true = inl refl
@@ -53,18 +53,18 @@ same_name : (a b : List ℕ) → bytes_eq a b ≡ true → a ≡ b
 same_name a b e = (bytes_eq-Decides a b).0 e
 
 -- a name that isn't there, put at the end
-pub pushed : (es : List Entry) (e : Entry) (m n : List ℕ) → position (is_named m) es ≡ None → string_bytes e.0 ≡ m
+pub pushed : (es : List NamedText) (e : NamedText) (m n : List ℕ) → position (is_named m) es ≡ None → string_bytes e.0 ≡ m
     → text_in (es ++ e ∷ []) n ≡ cond (bytes_eq m n) (Some e.1.items) (text_in es n)
-pushed es e m n none same = at_end (is_named n) (λ (x : Entry). x.1.items) es e (bytes_eq m n) (ap (λ s. bytes_eq s n) same)
+pushed es e m n none same = at_end (is_named n) (λ (x : NamedText). x.1.items) es e (bytes_eq m n) (ap (λ s. bytes_eq s n) same)
     (λ hit. subst (λ (k : List ℕ). find (is_named k) es ≡ None) (same_name m n hit) (not_found (is_named m) es none))
 
 -- another text at a name that is there
-pub written : (es : List Entry) (i : ℕ) (y d : Entry) (m n : List ℕ) → position (is_named m) es ≡ Some i → d ≡ get_or es i d → y.0 ≡ d.0
+pub written : (es : List NamedText) (i : ℕ) (y d : NamedText) (m n : List ℕ) → position (is_named m) es ≡ Some i → d ≡ get_or es i d → y.0 ≡ d.0
     → text_in (set es i y) n ≡ cond (bytes_eq m n) (Some y.1.items) (text_in es n)
 written es i y d m n found is same =
     let at = position-Some (is_named m) es i d found in
     let named : string_bytes d.0 ≡ m = same_name (string_bytes d.0) m (ap (is_named m) is ∙ at.1) in
     let place = place_is (is_named m) es i found in
-    at_place (is_named n) (λ (x : Entry). x.1.items) es i y d (bytes_eq m n)
-    (ap (λ s. bytes_eq s n) (ap (λ s. string_bytes s) same ∙ named)) (ap (λ (x : Entry). bytes_eq (string_bytes x.0) n) (sym is) ∙ ap (λ s. bytes_eq s n) named)
+    at_place (is_named n) (λ (x : NamedText). x.1.items) es i y d (bytes_eq m n)
+    (ap (λ s. bytes_eq s n) (ap (λ s. string_bytes s) same ∙ named)) (ap (λ (x : NamedText). bytes_eq (string_bytes x.0) n) (sym is) ∙ ap (λ s. bytes_eq s n) named)
     (λ hit. subst (λ (k : List ℕ). i ≡ position_or_len (is_named k) es) (same_name m n hit) place.0) place.1

@@ -4,13 +4,13 @@ use Rattle.std.specs.Str.{bytes_eq}
 use Rattle.std.specs.declared.alloc.Global.{Global}
 
 -- a name and its text
-abbrev pub Entry : Type 0
-Entry = String Global × Vec ℕ Global
+abbrev pub NamedText : Type 0
+NamedText = String Global × Vec ℕ Global
 
 -- a pair has this name
-abbrev pub is_named : List ℕ → Entry → Bool
+abbrev pub is_named : List ℕ → NamedText → Bool
 is_named n e = bytes_eq (string_bytes e.0) n
 
 -- the text under a name
-abbrev pub text_in : List Entry → List ℕ → Option (List ℕ)
+abbrev pub text_in : List NamedText → List ℕ → Option (List ℕ)
 text_in es n = option_map (λ e. e.1.items) (find (is_named n) es)

@@ -4,7 +4,7 @@ use Rattle.outer_store.specs.declared.StoreError.{StoreError}
 use Rattle.outer_store.specs.declared.StoreError.TheVariants as store
 use Rattle.outer_store.specs.declared.SinkError.{SinkError}
 use Rattle.outer_store.specs.declared.SinkError.TheVariants as sink
-use Rattle.outer_store.specs.Entries.{Entry, text_in}
+use Rattle.outer_store.specs.Entries.{NamedText, text_in}
 use Rattle.outer_store.specs.Outside.{Event, Seen, Sunk, counted}
 
 -- there is a number
@@ -29,7 +29,7 @@ FailsNext s = Contains s.failing (counted s.calls)
 
 -- a store in memory
 pub record Texts : Type 0 where
-  pub entries : List Entry
+  pub entries : List NamedText
   pub script : Script
   pub missing : ℕ
   pub oversize : ℕ

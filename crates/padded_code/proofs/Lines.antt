@@ -3,7 +3,7 @@ use Rattle.std.proofs.Common.{◌≡◌, ℕ, zero, suc, ◌+◌, ◌-◌, ◌<�
 use Rattle.std.specs.Prelude.{slice_get}
 use Rattle.thumb_instr.specs.declared.instr.Instr.{Instr}
 use Rattle.thumb_instr.specs.Window.{Low, renamed}
-use Rattle.thumb_model.specs.Listing.{Place, plain, Line, Label, Code, code_of, is_op_place, is_code}
+use Rattle.thumb_model.specs.Listing.{Place, plain, ListingLine, Label, Code, code_of, is_op_place, is_code}
 use Rattle.thumb_model.specs.Replaced.{move_label, replaced}
 use Rattle.rule_model.specs.Rules.{Rule, Applies}
 use Rattle.rule_model.specs.Rewriting.{Setting, Replacement, lines_after, AppliesIn}
@@ -57,7 +57,7 @@ module _ (gone : List Bool) (padded code : Code) (s : IsPadded gone padded code)
       }
 
 -- lines in which a window gives way are padded by the code in which its kept places do
-pub lines_stay_padded : (s : Setting) (r : Replacement) (ls : List Line) (a : AppliesIn s r ls) → length a.rule.right ≤ length a.rule.left → (gone : List Bool) (padded : Code) → IsPadded gone padded (code_of ls) → (ps : List ℕ) → length ps ≡ length a.rule.left → AreRanked gone r.place ps → IsPadded (marks_after ps (map (renamed r.registers) a.rule.right) gone) (exchanged ps (map (renamed r.registers) a.rule.right) padded) (code_of (lines_after s r ls))
+pub lines_stay_padded : (s : Setting) (r : Replacement) (ls : List ListingLine) (a : AppliesIn s r ls) → length a.rule.right ≤ length a.rule.left → (gone : List Bool) (padded : Code) → IsPadded gone padded (code_of ls) → (ps : List ℕ) → length ps ≡ length a.rule.left → AreRanked gone r.place ps → IsPadded (marks_after ps (map (renamed r.registers) a.rule.right) gone) (exchanged ps (map (renamed r.registers) a.rule.right) padded) (code_of (lines_after s r ls))
 lines_stay_padded s r ls a h gone padded q ps n k =
     let new : List Instr = map (renamed r.registers) a.rule.right in
     let e : replaced (code_of ls) r.place (length ps) new ≡ code_of (lines_after s r ls) = ap (λ c. replaced (code_of ls) r.place c new) n ∙ sym (code_of_after_by s r ls a h) in

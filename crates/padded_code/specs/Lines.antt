@@ -1,7 +1,7 @@
 -- Lines that are rewritten, and a padded code.
 use Rattle.std.specs.Prelude.{◌≡◌, ℕ, ◌≤◌, Bool, List, length, map}
 use Rattle.thumb_instr.specs.Window.{renamed}
-use Rattle.thumb_model.specs.Listing.{Line, Code, code_of}
+use Rattle.thumb_model.specs.Listing.{ListingLine, Code, code_of}
 use Rattle.rule_model.specs.Rewriting.{Setting, Replacement, lines_after, AppliesIn}
 use Rattle.padded_code.specs.Padding.{IsPadded}
 use Rattle.padded_code.specs.Exchange.{marks_after, exchanged}
@@ -10,6 +10,6 @@ use Rattle.padded_code.specs.Windows.{AreRanked}
 -- lines in which a rule's window gives way are padded by the code in which its kept places do
 abbrev pub LinesStayPadded : Type 0
 LinesStayPadded =
-    (s : Setting) (r : Replacement) (ls : List Line) (a : AppliesIn s r ls) → length a.rule.right ≤ length a.rule.left → (gone : List Bool) (padded : Code) → IsPadded gone padded (code_of ls) →
+    (s : Setting) (r : Replacement) (ls : List ListingLine) (a : AppliesIn s r ls) → length a.rule.right ≤ length a.rule.left → (gone : List Bool) (padded : Code) → IsPadded gone padded (code_of ls) →
     (ps : List ℕ) → length ps ≡ length a.rule.left → AreRanked gone r.place ps →
     IsPadded (marks_after ps (map (renamed r.registers) a.rule.right) gone) (exchanged ps (map (renamed r.registers) a.rule.right) padded) (code_of (lines_after s r ls))

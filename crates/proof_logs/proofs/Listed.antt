@@ -7,7 +7,7 @@ use Rattle.std.proofs.lemmas.List.{get_or_past, set_past, get_or-set_other, get_
 use Rattle.std.proofs.lemmas.List.Elements.{All-nil, All-contains, All-weaker, All-push, All-more, Contains-get_or, Contains-append_left, Contains-push, Contains-push_cases}
 use Rattle.std.proofs.lemmas.List.Sums.{sum_by-cons, sum_by-set, sum_by_push, sum_by_more, sum_by-take-le}
 use Rattle.clause_model.specs.Clauses.{IsNew}
-use Rattle.proof_logs.specs.Lists.{Kept, Holds, Keeps, listed, under}
+use Rattle.proof_logs.specs.Lists.{ClauseLists, Holds, Keeps, listed, under}
 
 -- the sums of lists at different places are at most the sum of all
 module _ {X : Type 0} (f : X → ℕ) (d : X) (none : f d ≡ 0) where
@@ -61,7 +61,7 @@ pub all_looked : (lists : List (List (List ℕ))) (members literals : List ℕ) 
 all_looked lists members literals i b q h = subst (All (λ m. IsNew (under lists m) members)) (take_all i literals b ∙ q) h
 
 -- a clause that is part of the members stands in the list of one of them
-pub new_all_lists : (kept : Kept) (clauses : List (List ℕ)) (members : List ℕ) → Holds kept clauses → kept.has_empty ≡ false → All (λ l. IsNew (under kept.lists l) members) members → IsNew clauses members
+pub new_all_lists : (kept : ClauseLists) (clauses : List (List ℕ)) (members : List ℕ) → Holds kept clauses → kept.has_empty ≡ false → All (λ l. IsNew (under kept.lists l) members) members → IsNew clauses members
 new_all_lists kept clauses members h e n i d b part =
     elim (h.found i d b) [
       | inl z ↦ true≢false (sym (h.empty.1 (subst (Contains clauses) z (Contains-get_or clauses i d b))) ∙ e)
@@ -70,22 +70,22 @@ new_all_lists kept clauses members h e n i d b part =
           All-contains (λ c. All (Contains members) c → ⊥) (under kept.lists a.1) (get_or clauses i d) (All-contains (λ l. IsNew (under kept.lists l) members) members a.1 n member) a.4 part
     ]
 
-pub new_no_empty : (kept : Kept) (clauses : List (List ℕ)) (members : List ℕ) → Holds kept clauses → IsNew clauses members → kept.has_empty ≡ true → ⊥
+pub new_no_empty : (kept : ClauseLists) (clauses : List (List ℕ)) (members : List ℕ) → Holds kept clauses → IsNew clauses members → kept.has_empty ≡ true → ⊥
 new_no_empty kept clauses members h n e = All-contains (λ c. All (Contains members) c → ⊥) clauses [] n (h.empty.0 e) (All-nil (Contains members))
 
-pub new_each_list : (kept : Kept) (clauses : List (List ℕ)) (members : List ℕ) → Holds kept clauses → IsNew clauses members → All (λ l. IsNew (under kept.lists l) members) members
+pub new_each_list : (kept : ClauseLists) (clauses : List (List ℕ)) (members : List ℕ) → Holds kept clauses → IsNew clauses members → All (λ l. IsNew (under kept.lists l) members) members
 new_each_list kept clauses members h n i d b =
     All-weaker (Contains clauses) (λ c. All (Contains members) c → ⊥) (λ c has. All-contains (λ x. All (Contains members) x → ⊥) clauses c n has) (under kept.lists (get_or members i d)) (h.only (get_or members i d))
 
 -- what is told by the lists of the members, and by an empty clause
-pub told_by_lists : (kept : Kept) (clauses : List (List ℕ)) (members : List ℕ) (r : Bool) → kept.has_empty ≡ false → IsTrue r ↔ All (λ l. IsNew (under kept.lists l) members) members → Holds kept clauses → IsTrue r ↔ IsNew clauses members
+pub told_by_lists : (kept : ClauseLists) (clauses : List (List ℕ)) (members : List ℕ) (r : Bool) → kept.has_empty ≡ false → IsTrue r ↔ All (λ l. IsNew (under kept.lists l) members) members → Holds kept clauses → IsTrue r ↔ IsNew clauses members
 told_by_lists kept clauses members r e a h = (λ t. new_all_lists kept clauses members h e (a.0 t), λ n. a.1 (new_each_list kept clauses members h n))
 
-pub told_by_empty : (kept : Kept) (clauses : List (List ℕ)) (members : List ℕ) (r : Bool) → kept.has_empty ≡ true → r ≡ false → Holds kept clauses → IsTrue r ↔ IsNew clauses members
+pub told_by_empty : (kept : ClauseLists) (clauses : List (List ℕ)) (members : List ℕ) (r : Bool) → kept.has_empty ≡ true → r ≡ false → Holds kept clauses → IsTrue r ↔ IsNew clauses members
 told_by_empty kept clauses members r e f h = (λ t. absurd (true≢false (sym t ∙ f)), λ n. absurd (new_no_empty kept clauses members h n e))
 
 -- an empty clause besides
-pub holds_empty : (kept later : Kept) (clauses : List (List ℕ)) (clause : List ℕ) → clause ≡ [] → later.lists ≡ kept.lists → later.has_empty ≡ true → Holds kept clauses → Holds later (clauses ++ clause ∷ [])
+pub holds_empty : (kept later : ClauseLists) (clauses : List (List ℕ)) (clause : List ℕ) → clause ≡ [] → later.lists ≡ kept.lists → later.has_empty ≡ true → Holds kept clauses → Holds later (clauses ++ clause ∷ [])
 holds_empty kept later clauses clause z e t h = rw z (record {
   empty = (λ _. Contains-push clauses [], λ _. t);
   found = rw e (All-push (λ c. (c ≡ []) ⊎ Any (λ l. Contains (under kept.lists l) c) c) clauses [] h.found (inl refl));
@@ -111,7 +111,7 @@ module _ (earlier later : List (List (List ℕ))) (l : ℕ) (clause : List ℕ) 
   stays_found c (inr a) = inr (a.0, a.1, a.2, a.3, still_under a.1 c a.4)
 
 -- a clause besides in the list of one of its literals
-pub holds_more : (kept later : Kept) (clauses : List (List ℕ)) (clause : List ℕ) (l : ℕ) → later.has_empty ≡ kept.has_empty → Keeps kept.lists later.lists l clause → Contains clause l → Holds kept clauses → Holds later (clauses ++ clause ∷ [])
+pub holds_more : (kept later : ClauseLists) (clauses : List (List ℕ)) (clause : List ℕ) (l : ℕ) → later.has_empty ≡ kept.has_empty → Keeps kept.lists later.lists l clause → Contains clause l → Holds kept clauses → Holds later (clauses ++ clause ∷ [])
 holds_more kept later clauses clause l e k has h = record {
   empty = (
     λ t. Contains-append_left clauses (clause ∷ []) [] (h.empty.0 (sym e ∙ t)),
@@ -149,7 +149,7 @@ keeps_in_list earlier grown list later i l clause b at is items same e =
     subst (λ (m : ℕ). Keeps earlier (listed (set grown i later)) m clause) at (keeps_pushed earlier (listed grown) (listed (set grown i later)) i clause (rw length-map b) same e put)
 
 -- one more clause of the formula
-pub holds_next : (kept later : Kept) (codes : List (List ℕ)) (clause : List ℕ) (i : ℕ) → i < length codes → get_or codes i clause ≡ clause → Holds kept (take i codes) → ((clauses : List (List ℕ)) → Holds kept clauses → Holds later (clauses ++ clause ∷ [])) → Holds later (take (i + 1) codes)
+pub holds_next : (kept later : ClauseLists) (codes : List (List ℕ)) (clause : List ℕ) (i : ℕ) → i < length codes → get_or codes i clause ≡ clause → Holds kept (take i codes) → ((clauses : List (List ℕ)) → Holds kept clauses → Holds later (clauses ++ clause ∷ [])) → Holds later (take (i + 1) codes)
 holds_next kept later codes clause i b e h next =
     let more : take (i + 1) codes ≡ take i codes ++ clause ∷ [] = take_more codes i clause b ∙ ap (λ (c : List ℕ). take i codes ++ c ∷ []) e in
     subst (Holds later) (sym more) (next (take i codes) h)

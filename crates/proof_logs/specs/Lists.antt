@@ -3,7 +3,7 @@ use Rattle.std.specs.Prelude.{ℕ, ◌≡◌, ◌≢◌, ◌+◌, ◌≤◌, ◌
 use Rattle.std.specs.Global.{Global}
 
 -- the lists by the codes of their literals, and whether there is an empty clause, which stands in none
-pub record Kept : Type 0 where
+pub record ClauseLists : Type 0 where
   pub lists : List (List (List ℕ))
   pub has_empty : Bool
 
@@ -16,7 +16,7 @@ abbrev pub under : List (List (List ℕ)) → ℕ → List (List ℕ)
 under lists l = slice_index_or lists l []
 
 -- each of the clauses that isn't empty stands in the list of one of its literals, and no other stands in a list
-pub record Holds (kept : Kept) (clauses : List (List ℕ)) : Type 0 where
+pub record Holds (kept : ClauseLists) (clauses : List (List ℕ)) : Type 0 where
   pub empty : IsTrue kept.has_empty ↔ Contains clauses []
   pub found : All (λ clause. (clause ≡ []) ⊎ Any (λ l. Contains (under kept.lists l) clause) clause) clauses
   pub only : (l : ℕ) → All (Contains clauses) (under kept.lists l)

@@ -21,9 +21,9 @@ pub struct Clauses {
 
 impl Model for Clauses {
     ghost use Rattle.std.specs.Prelude.{◌≡◌, ℕ, List, []};
-    ghost use Rattle.proof_logs.specs.Lists.{Kept};
+    ghost use Rattle.proof_logs.specs.Lists.{ClauseLists};
 
-    ghost Value = { Kept };
+    ghost Value = { ClauseLists };
 
     ghost view = { λ c. c.lists };
 

@@ -20,9 +20,9 @@ pub(crate) struct Lists {
 }
 
 impl Model for Lists {
-    ghost use Rattle.proof_logs.specs.Lists.{Kept, listed};
+    ghost use Rattle.proof_logs.specs.Lists.{ClauseLists, listed};
 
-    ghost Value = { Kept };
+    ghost Value = { ClauseLists };
 
     ghost view = { λ l. record { lists = listed l.lists.items; has_empty = l.has_empty } };
 }

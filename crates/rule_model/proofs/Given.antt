@@ -5,7 +5,7 @@ use Rattle.std.specs.Option.{option_map, unwrap_or}
 use Rattle.std.proofs.lemmas.Option.{slice_get-map}
 use Rattle.thumb_instr.specs.declared.instr.Instr.{Instr}
 use Rattle.thumb_instr.specs.Window.{renamed}
-use Rattle.thumb_model.specs.Listing.{Name, Place, plain, Label, Code, Line, code_of, places_of, place_mentions, is_mentioned, has_label}
+use Rattle.thumb_model.specs.Listing.{Name, Place, plain, Label, Code, ListingLine, code_of, places_of, place_mentions, is_mentioned, has_label}
 use Rattle.thumb_model.specs.Naming.{Naming, Fits, points}
 use Rattle.thumb_model.specs.Replaced.{moved, move_label, replaced}
 use Rattle.thumb_model.proofs.Moved.{points_moved}
@@ -94,7 +94,7 @@ module _ (names : Naming) (code : Code) (p : ℕ) (left right : List Instr) (sou
 
 -- ---- all ----
 
-fitted_by : (s : Setting) (r : Replacement) (ls : List Line) → AreSound s.table → (a : AppliesIn s r ls) → (names : Naming) → TellsApart names (code_of ls)
+fitted_by : (s : Setting) (r : Replacement) (ls : List ListingLine) → AreSound s.table → (a : AppliesIn s r ls) → (names : Naming) → TellsApart names (code_of ls)
     → TellsApart names (code_of (lines_after s r ls)) × (Fits names (code_of (lines_after s r ls)) → Fits names (code_of ls))
 fitted_by s r ls sound a names apart =
     let right : List Instr = map (renamed r.registers) a.rule.right in
@@ -108,7 +108,7 @@ fitted_by s r ls sound a names apart =
     )
 
 pub left_namings_fit : LeftNamingsFitGiven
-left_namings_fit s ls [] new sound h names f apart = subst (λ (l : List Line). Fits names (code_of l)) h.1 f
+left_namings_fit s ls [] new sound h names f apart = subst (λ (l : List ListingLine). Fits names (code_of l)) h.1 f
 left_namings_fit s ls (r ∷ rs) new sound h names f apart =
     let step = fitted_by s r ls sound h.0.applies names apart in
     step.1 (left_namings_fit s (lines_after s r ls) rs new sound h.1 names f step.0)

@@ -8,7 +8,7 @@ use Rattle.thumb_instr.specs.Window.{is_in_window, Low, named, renamed, number_o
 use Rattle.thumb_instr.proofs.Registers.{low_is}
 use Rattle.thumb_instr.proofs.RenamingLemmas.{named_renamed}
 use Rattle.thumb_model.specs.Effect.{one_of, register_count, AreOver, is_named, normalised}
-use Rattle.thumb_model.specs.Listing.{plain, Line, Code, code_of}
+use Rattle.thumb_model.specs.Listing.{plain, ListingLine, Code, code_of}
 use Rattle.rule_model.specs.Rules.{Rule, IsSoundRule, rule_at, AreSound, Applies}
 use Rattle.thumb_model.proofs.Lists.{present_at, get_take, take_all, cons_same}
 use Rattle.rule_model.specs.Rewriting.{Setting, Replacement, IsLeastScratch, IsFirst, lines_after, AreRewritten}
@@ -166,7 +166,7 @@ same_registers rule xs ys code p s a least b also_least =
         x.1 ∙ ap Some (low_is x.0 y.0 same) ∙ sym y.1
 
 -- one replacement comes first at most
-pub first_same : (s : Setting) (ls : List Line) (r o : Replacement) → AreSound s.table → IsFirst s r ls → IsFirst s o ls → r ≡ o
+pub first_same : (s : Setting) (ls : List ListingLine) (r o : Replacement) → AreSound s.table → IsFirst s r ls → IsFirst s o ls → r ≡ o
 first_same s ls r o sound f g =
     let p1 = f.least_place o g.applies in
     let p2 = g.least_place r f.applies in

@@ -2,7 +2,7 @@
 use Rattle.std.specs.Prelude.{◌≡◌, ◌≢◌, ℕ, ◌+◌, ◌≤◌, max, List, [], ◌∷◌, length, map, Some, IsSome, slice_get}
 use Rattle.thumb_instr.specs.declared.instr.Instr.{Instr}
 use Rattle.thumb_instr.specs.Window.{Low, renamed}
-use Rattle.thumb_model.specs.Listing.{Name, Place, Op, Word, Line, Code, places_of, code_of, place_of}
+use Rattle.thumb_model.specs.Listing.{Name, Place, Op, Word, ListingLine, Code, places_of, code_of, place_of}
 use Rattle.thumb_model.specs.Layout.{Layable}
 use Rattle.thumb_model.specs.Naming.{Naming, Fits, points}
 use Rattle.thumb_model.specs.Literals.{HasLiterals}
@@ -29,45 +29,45 @@ CostsOne s = (i : Instr) → s.cost i ≡ 1
 
 -- one replacement by a sound table keeps the runs of lines whose literals stand behind their labels
 abbrev pub ReplacingKeepsRuns : Type 0
-ReplacingKeepsRuns = (s : Setting) (r : Replacement) (ls : List Line) → AreSound s.table → HasLiterals (code_of ls) → AppliesIn s r ls → Same (code_of ls) (code_of (lines_after s r ls))
+ReplacingKeepsRuns = (s : Setting) (r : Replacement) (ls : List ListingLine) → AreSound s.table → HasLiterals (code_of ls) → AppliesIn s r ls → Same (code_of ls) (code_of (lines_after s r ls))
 
 -- so does rewriting
 abbrev pub RewritingKeepsRuns : Type 0
-RewritingKeepsRuns = (s : Setting) (ls : List Line) (rs : List Replacement) (new : List Line) → AreSound s.table → HasLiterals (code_of ls) → AreRewritten s ls rs new → Same (code_of ls) (code_of new)
+RewritingKeepsRuns = (s : Setting) (ls : List ListingLine) (rs : List Replacement) (new : List ListingLine) → AreSound s.table → HasLiterals (code_of ls) → AreRewritten s ls rs new → Same (code_of ls) (code_of new)
 
 -- each replacement applied in the lines as they then were, and none applies in those that are left
 abbrev pub RewritingIsComplete : Type 0
-RewritingIsComplete = (s : Setting) (ls : List Line) (rs : List Replacement) (new : List Line) → AreRewritten s ls rs new → AllApplied s ls rs × NoneApplies s new
+RewritingIsComplete = (s : Setting) (ls : List ListingLine) (rs : List Replacement) (new : List ListingLine) → AreRewritten s ls rs new → AllApplied s ls rs × NoneApplies s new
 
 -- lines that can be laid out stay so
 abbrev pub RewritingStaysLayable : Type 0
-RewritingStaysLayable = (s : Setting) (ls : List Line) (rs : List Replacement) (new : List Line) → Layable s.base ls → AreRewritten s ls rs new → Layable s.base new
+RewritingStaysLayable = (s : Setting) (ls : List ListingLine) (rs : List Replacement) (new : List ListingLine) → Layable s.base ls → AreRewritten s ls rs new → Layable s.base new
 
 -- each replacement lowers the cost, no place comes, and the lines stay within their limit
 abbrev pub RewritingLowers : Type 0
 RewritingLowers =
-    (s : Setting) (ls : List Line) (rs : List Replacement) (new : List Line) → CostsAreKept s.cost → AreSound s.table → AreRewritten s ls rs new →
+    (s : Setting) (ls : List ListingLine) (rs : List Replacement) (new : List ListingLine) → CostsAreKept s.cost → AreSound s.table → AreRewritten s ls rs new →
     (weight s.cost (instructions (places_of new)) + length rs ≤ weight s.cost (instructions (places_of ls)))
     × (length (places_of new) ≤ length (places_of ls))
     × (length new ≤ max (length ls) s.most_lines)
 
 -- where each instruction costs 1, each replacement takes a place away, and there are no more lines
 abbrev pub RewritingShortens : Type 0
-RewritingShortens = (s : Setting) (ls : List Line) (rs : List Replacement) (new : List Line) → CostsOne s → AreRewritten s ls rs new → (length (places_of new) + length rs ≤ length (places_of ls)) × (length new ≤ length ls)
+RewritingShortens = (s : Setting) (ls : List ListingLine) (rs : List Replacement) (new : List ListingLine) → CostsOne s → AreRewritten s ls rs new → (length (places_of new) + length rs ≤ length (places_of ls)) × (length new ≤ length ls)
 
 -- replacing lines replaces their places and labels
 abbrev pub LinesAreReplacedAsPlaces : Type 0
-LinesAreReplacedAsPlaces = (s : Setting) (r : Replacement) (ls : List Line) → AreSound s.table → (a : AppliesIn s r ls) → code_of (lines_after s r ls) ≡ replaced (code_of ls) r.place (length a.rule.left) (map (renamed r.registers) a.rule.right)
+LinesAreReplacedAsPlaces = (s : Setting) (r : Replacement) (ls : List ListingLine) → AreSound s.table → (a : AppliesIn s r ls) → code_of (lines_after s r ls) ≡ replaced (code_of ls) r.place (length a.rule.left) (map (renamed r.registers) a.rule.right)
 
 -- each code label stays one
 abbrev pub LabelsStayCode : Type 0
-LabelsStayCode = (s : Setting) (r : Replacement) (ls : List Line) → AreSound s.table → AppliesIn s r ls → (label : Name) → IsSome (place_of (code_of ls) label) → IsSome (place_of (code_of (lines_after s r ls)) label)
+LabelsStayCode = (s : Setting) (r : Replacement) (ls : List ListingLine) → AreSound s.table → AppliesIn s r ls → (label : Name) → IsSome (place_of (code_of ls) label) → IsSome (place_of (code_of (lines_after s r ls)) label)
 
 -- the replacements and the lines are determined
 abbrev pub IsDetermined : Type 0
 IsDetermined =
-    (s : Setting) (ls : List Line) → AreSound s.table →
-    (rs ss : List Replacement) (new other : List Line) → AreRewritten s ls rs new → AreRewritten s ls ss other → (rs ≡ ss) × (new ≡ other)
+    (s : Setting) (ls : List ListingLine) → AreSound s.table →
+    (rs ss : List Replacement) (new other : List ListingLine) → AreRewritten s ls rs new → AreRewritten s ls ss other → (rs ≡ ss) × (new ≡ other)
 
 -- code points at different places have different words
 abbrev pub TellsApart : Naming → Code → Type 0
@@ -76,5 +76,5 @@ TellsApart names code = (j k : ℕ) (v w p q : ℕ) → slice_get (points names 
 -- a naming that fits the lines that are left, and tells the given lines' code points apart, fits those
 abbrev pub LeftNamingsFitGiven : Type 0
 LeftNamingsFitGiven =
-    (s : Setting) (ls : List Line) (rs : List Replacement) (new : List Line) → AreSound s.table → AreRewritten s ls rs new →
+    (s : Setting) (ls : List ListingLine) (rs : List Replacement) (new : List ListingLine) → AreSound s.table → AreRewritten s ls rs new →
     (names : Naming) → Fits names (code_of new) → TellsApart names (code_of ls) → Fits names (code_of ls)

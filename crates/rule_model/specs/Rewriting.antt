@@ -3,7 +3,7 @@ use Rattle.std.specs.Prelude.{◌≡◌, ℕ, ◌+◌, ◌-◌, ◌<◌, ◌≤�
 use Rattle.thumb_instr.specs.declared.instr.Instr.{Instr}
 use Rattle.thumb_instr.specs.Window.{Low, renamed}
 use Rattle.thumb_model.specs.Effect.{one_of, register_count}
-use Rattle.thumb_model.specs.Listing.{Line, Code, code_of}
+use Rattle.thumb_model.specs.Listing.{ListingLine, Code, code_of}
 use Rattle.thumb_model.specs.Flow.{LiveAfter}
 use Rattle.thumb_model.specs.Layout.{Layable}
 use Rattle.thumb_model.specs.Replaced.{replaced_lines, are_joined_from}
@@ -28,12 +28,12 @@ pub record Replacement : Type 0 where
 abbrev pub used_rule : Setting → Replacement → Option Rule
 used_rule s r = rule_at s.table r.entry r.instance
 
-abbrev pub lines_after_rule : Setting → Option Rule → Replacement → List Line → List Line
+abbrev pub lines_after_rule : Setting → Option Rule → Replacement → List ListingLine → List ListingLine
 lines_after_rule s None r ls = ls
 lines_after_rule s (Some rule) r ls = replaced_lines s.write r.place (length rule.left) (map (renamed r.registers) rule.right) ls
 
 -- the lines after a replacement by the table
-abbrev pub lines_after : Setting → Replacement → List Line → List Line
+abbrev pub lines_after : Setting → Replacement → List ListingLine → List ListingLine
 lines_after s r ls = lines_after_rule s (used_rule s r) r ls
 
 -- the scratch register, where the map has one, is the least that is free: each lesser register is one of the left side's or live after the window
@@ -42,7 +42,7 @@ IsLeastScratch rule registers code p = (scratch : Low) → slice_get registers (
     (one_of x (map (λ r. r.number) (take (register_count rule.left) registers)) ≡ true) ⊎ LiveAfter code (p + length rule.left - 1) x
 
 -- this rule of the table lowers the cost and applies there, under this map, and the lines that it leaves are not too many and can be laid out
-pub record AppliesIn (s : Setting) (r : Replacement) (ls : List Line) : Type 0 where
+pub record AppliesIn (s : Setting) (r : Replacement) (ls : List ListingLine) : Type 0 where
   pub rule : Rule
   pub is_rule : used_rule s r ≡ Some rule
   pub lowers : weight s.cost rule.right < weight s.cost rule.left
@@ -60,7 +60,7 @@ abbrev pub left_length : Setting → Replacement → ℕ
 left_length s r = left_length_of (used_rule s r)
 
 -- no other choice comes before: at a lesser place, with a longer left side, or a lower entry or instance
-pub record IsFirst (s : Setting) (r : Replacement) (ls : List Line) : Type 0 where
+pub record IsFirst (s : Setting) (r : Replacement) (ls : List ListingLine) : Type 0 where
   pub applies : AppliesIn s r ls
   pub least_place : (o : Replacement) → AppliesIn s o ls → r.place ≤ o.place
   pub longest : (o : Replacement) → AppliesIn s o ls → o.place ≡ r.place → left_length s o ≤ left_length s r
@@ -68,15 +68,15 @@ pub record IsFirst (s : Setting) (r : Replacement) (ls : List Line) : Type 0 whe
   pub lowest_instance : (o : Replacement) → AppliesIn s o ls → o.place ≡ r.place → left_length s o ≡ left_length s r → o.entry ≡ r.entry → r.instance ≤ o.instance
 
 -- no rule applies any more
-abbrev pub NoneApplies : Setting → List Line → Type 0
+abbrev pub NoneApplies : Setting → List ListingLine → Type 0
 NoneApplies s ls = (o : Replacement) → AppliesIn s o ls → ⊥
 
 -- these replacements, each the first that can be made, lead to lines in which none can
-abbrev pub AreRewritten : Setting → List Line → List Replacement → List Line → Type 0
+abbrev pub AreRewritten : Setting → List ListingLine → List Replacement → List ListingLine → Type 0
 AreRewritten s ls [] new = NoneApplies s ls × (new ≡ ls)
 AreRewritten s ls (r ∷ rs) new = IsFirst s r ls × AreRewritten s (lines_after s r ls) rs new
 
 -- each replacement could be made in the lines as they then were
-abbrev pub AllApplied : Setting → List Line → List Replacement → Type 0
+abbrev pub AllApplied : Setting → List ListingLine → List Replacement → Type 0
 AllApplied s ls [] = Unit {0}
 AllApplied s ls (r ∷ rs) = AppliesIn s r ls × AllApplied s (lines_after s r ls) rs

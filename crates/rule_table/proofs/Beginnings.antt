@@ -19,8 +19,8 @@ use Rattle.thumb_instr.specs.declared.within.Within.{Within}
 use Rattle.lrat_check.specs.Text.{Content, IsLine}
 use Rattle.rule_table.specs.declared.header.Field.{Field}
 use Rattle.rule_table.specs.declared.header.Field.TheVariants as field
-use Rattle.rule_table.specs.declared.header.Head.{Head}
-use Rattle.rule_table.specs.declared.header.Head.TheVariants as head
+use Rattle.rule_table.specs.declared.header.HeaderLine.{HeaderLine}
+use Rattle.rule_table.specs.declared.header.HeaderLine.TheVariants as head
 use Rattle.rule_table.specs.Header.{Header, heads, has_line, has_families, number_in, with_number, is_same, blank, IsWithin, IsHeader}
 use Rattle.rule_table.specs.Table.{Opened, Rule, Family as Raised, Table, IsState, IsInstr, IsMask, IsOpened, IsRule, IsFamily, IsTable, numbers_of}
 use Rattle.rule_table.specs.Text.{Item, Number, Pool, Costs, State, Entry, Left, Right, Mask, Proof, Logged, Open, Family, End, rule_items, family_items, line_items, header_items, items_of}
@@ -52,7 +52,7 @@ pub record AreSides (ls rs : List Instr) : Type 0 where
   pub after_left : is_empty rs ≡ false → 0 < length ls
 
 -- where a line stands
-abbrev pub place : Head → ℕ
+abbrev pub place : HeaderLine → ℕ
 place (head.Number field.Version) = 0
 place (head.Number field.Regs) = 1
 place (head.Number field.Left) = 2
@@ -76,13 +76,13 @@ pub record IsReadTo (to : ℕ) (h : Header) : Type 0 where
   pub uncosted : to ≤ place head.Costs → h.costs ≡ None
   pub costed : place head.Costs < to → has_line h.version head.Costs ≡ true → IsSome h.costs
 
-abbrev pub HasFirst : Header → List Head → Type 0
+abbrev pub HasFirst : Header → List HeaderLine → Type 0
 HasFirst h [] = Unit {0}
 HasFirst h (line ∷ due) = has_line h.version line ≡ true
 
 -- some lines of a header are read, these are left, and the first of these is due
-pub record HasRead (h : Header) (due : List Head) : Type 0 where
-  pub read : List Head
+pub record HasRead (h : Header) (due : List HeaderLine) : Type 0 where
+  pub read : List HeaderLine
   pub split : read ++ due ≡ heads
   pub none : IsReadTo (length read) h
   pub first : HasFirst h due
@@ -346,7 +346,7 @@ with_costs h ns is has are = record {
 }
 
 -- the lines before that of the costs stay
-costs_kept : (h : Header) (costs : Option (List ℕ)) (l : Head) → place l < place head.Costs → line_items (record h { costs = costs }) l ≡ line_items h l
+costs_kept : (h : Header) (costs : Option (List ℕ)) (l : HeaderLine) → place l < place head.Costs → line_items (record h { costs = costs }) l ≡ line_items h l
 costs_kept h costs (head.Number x) less = ap (λ m. if has_line h.version (head.Number x) then Number x m ∷ [] else []) (numbers_kept h h.pool costs x)
 costs_kept h costs head.Pool less = refl
 costs_kept h costs head.Costs less = absurd (omega (arith, less))
@@ -360,36 +360,36 @@ numbers_before field.Budget = omega arith
 numbers_before field.Scratch = omega arith
 
 -- the costs stand last
-last_line : (l : Head) → place head.Costs ≤ place l → l ≡ head.Costs
+last_line : (l : HeaderLine) → place head.Costs ≤ place l → l ≡ head.Costs
 last_line (head.Number f) h = absurd (omega (arith, h, numbers_before f))
 last_line head.Pool h = absurd (omega (arith, h))
 last_line head.Costs h = refl
 
-no_line_behind : (l : Head) → place l ≤ place head.Costs
+no_line_behind : (l : HeaderLine) → place l ≤ place head.Costs
 no_line_behind (head.Number f) = omega (arith, numbers_before f)
 no_line_behind head.Pool = omega arith
 no_line_behind head.Costs = omega arith
 
-abbrev StandFrom : ℕ → List Head → Type 0
+abbrev StandFrom : ℕ → List HeaderLine → Type 0
 StandFrom from [] = Unit {0}
 StandFrom from (line ∷ lines) = (place line ≡ from) × StandFrom (suc from) lines
 
 heads_stand : StandFrom 0 heads
 heads_stand = (refl, (refl, (refl, (refl, (refl, (refl, (refl, (refl, tt))))))))
 
-stands_later : (from : ℕ) (read : List Head) (line : Head) (due : List Head) → StandFrom from (read ++ line ∷ due) → from ≤ place line
+stands_later : (from : ℕ) (read : List HeaderLine) (line : HeaderLine) (due : List HeaderLine) → StandFrom from (read ++ line ∷ due) → from ≤ place line
 stands_later from [] line due o = omega (arith, o.0)
 stands_later from (l ∷ read) line due o = omega (arith, stands_later (suc from) read line due o.1)
 
-stands_at : (from : ℕ) (read : List Head) (line : Head) (due : List Head) → StandFrom from (read ++ line ∷ due) → place line ≡ from + length read
+stands_at : (from : ℕ) (read : List HeaderLine) (line : HeaderLine) (due : List HeaderLine) → StandFrom from (read ++ line ∷ due) → place line ≡ from + length read
 stands_at from [] line due o = omega (arith, o.0)
 stands_at from (l ∷ read) line due o = omega (arith, stands_at (suc from) read line due o.1)
 
 -- one more line: what it says is held, what was read before stays, and what comes later is still the least header's
-record Hears (h g : Header) (line : Head) (i : Item) : Type 0 where
+record Hears (h g : Header) (line : HeaderLine) (i : Item) : Type 0 where
   fine : IsBegun g
   says : line_items g line ≡ i ∷ []
-  kept : (l : Head) → place l < place line → line_items g l ≡ line_items h l
+  kept : (l : HeaderLine) → place l < place line → line_items g l ≡ line_items h l
   behind : IsReadTo (suc (place line)) g
 
 module _ (h : Header) (f : Field) (n : ℕ) (is : IsBegun h) (none : IsReadTo (place (head.Number f)) h) (due : has_line h.version (head.Number f) ≡ true) (within : IsWithin f n) where
@@ -397,7 +397,7 @@ module _ (h : Header) (f : Field) (n : ℕ) (is : IsBegun h) (none : IsReadTo (p
   heard_number = with_number h f n
 
   -- what isn't the version leaves it
-  lines_kept : is_same f field.Version ≡ false → (l : Head) → has_line heard_number.version l ≡ has_line h.version l
+  lines_kept : is_same f field.Version ≡ false → (l : HeaderLine) → has_line heard_number.version l ≡ has_line h.version l
   unfolding heard_number
   lines_kept e l = ap (λ v. has_line v l) (number_kept h f field.Version n e)
 
@@ -479,7 +479,7 @@ module _ (h : Header) (f : Field) (n : ℕ) (is : IsBegun h) (none : IsReadTo (p
     };
   }
     where
-      kept : (l : Head) → place l < place (head.Number f) → line_items (with_number h f n) l ≡ line_items h l
+      kept : (l : HeaderLine) → place l < place (head.Number f) → line_items (with_number h f n) l ≡ line_items h l
       kept (head.Number x) less = number_line_kept x less
       kept head.Pool less = pool_line_kept less
       kept head.Costs less = absurd (omega (arith, less, numbers_before f))
@@ -502,7 +502,7 @@ pool_heard h ns is none due pool = record {
   };
 }
   where
-    kept : (l : Head) → place l < 5 → line_items (record h { pool = ns }) l ≡ line_items h l
+    kept : (l : HeaderLine) → place l < 5 → line_items (record h { pool = ns }) l ≡ line_items h l
     kept (head.Number x) less = ap (λ m. if has_line h.version (head.Number x) then Number x m ∷ [] else []) (numbers_kept h ns h.costs x)
     kept head.Pool less = absurd (omega (arith, less))
     kept head.Costs less = absurd (omega (arith, less))
@@ -519,7 +519,7 @@ costs_heard h ns is none due are = record {
   };
 }
 
-hears : (h g : Header) (line : Head) (i : Item) → IsBegun h → IsReadTo (place line) h → has_line h.version line ≡ true → IsItem i → heard h line i ≡ Some g → Hears h g line i
+hears : (h g : Header) (line : HeaderLine) (i : Item) → IsBegun h → IsReadTo (place line) h → has_line h.version line ≡ true → IsItem i → heard h line i ≡ Some g → Hears h g line i
 hears h g (head.Number due) (Number f n) is none has within e =
     let parts = cond_some (is_same due f) (with_number h f n) g e in
     let same = same_field due f parts.0 in
@@ -531,7 +531,7 @@ hears h g head.Pool (Pool ns) is none has pool e = subst (λ k. Hears h k head.P
 hears h g head.Costs (Costs ns) is none has costs e = subst (λ k. Hears h k head.Costs (Costs ns)) (same_Some _ _ e) (costs_heard h ns is none has costs)
 hears h g line i is none has item e = absurd cc
 
-read_kept : (h g : Header) (line : Head) (from : ℕ) (read due : List Head) → ((l : Head) → place l < place line → line_items g l ≡ line_items h l) → StandFrom from (read ++ line ∷ due)
+read_kept : (h g : Header) (line : HeaderLine) (from : ℕ) (read due : List HeaderLine) → ((l : HeaderLine) → place l < place line → line_items g l ≡ line_items h l) → StandFrom from (read ++ line ∷ due)
     → flat_map (line_items g) read ≡ flat_map (line_items h) read
 read_kept h g line from [] due kept o = refl
 read_kept h g line from (l ∷ read) due kept o =
@@ -539,7 +539,7 @@ read_kept h g line from (l ∷ read) due kept o =
     ap (λ js. js ++ flat_map (line_items g) read) (kept l less) ∙ ap (λ js. line_items h l ++ js) (read_kept h g line (suc from) read due kept o.1)
 
 -- what was written of a header are the lines that are read
-before : (h : Header) (read due : List Head) → read ++ due ≡ heads → flat_map (line_items h) (take (length heads - length due) heads) ≡ flat_map (line_items h) read
+before : (h : Header) (read due : List HeaderLine) → read ++ due ≡ heads → flat_map (line_items h) (take (length heads - length due) heads) ≡ flat_map (line_items h) read
 before h read due e = subst (λ ls. flat_map (line_items h) (take (length ls - length due) ls) ≡ flat_map (line_items h) read) e
     (ap (flat_map (line_items h)) (ap (λ k. take k (read ++ due)) size ∙ take-append_seam read due))
   where
@@ -547,7 +547,7 @@ before h read due e = subst (λ ls. flat_map (line_items h) (take (length ls - l
     size = omega (arith, length-append read due)
 
 -- a line that the version doesn't have is passed over
-passed : (g : Header) (read : List Head) (line : Head) (due : List Head) → IsReadTo (length read) g → read ++ line ∷ due ≡ heads → has_line g.version line ≡ false
+passed : (g : Header) (read : List HeaderLine) (line : HeaderLine) (due : List HeaderLine) → IsReadTo (length read) g → read ++ line ∷ due ≡ heads → has_line g.version line ≡ false
     → IsReadTo (length (read ++ line ∷ [])) g
 passed g read line due none e hasnt = record {
   numbers = λ x far. none.numbers x (omega (arith, far, size));
@@ -561,7 +561,7 @@ passed g read line due none e hasnt = record {
     at : place line ≡ length read
     at = omega (arith, stands_at 0 read line due (subst (StandFrom 0) (sym e) heads_stand))
 
-goes_on : (g : Header) (read due : List Head) → IsBegun g → IsReadTo (length read) g → read ++ due ≡ heads → (written (later due g) ≡ flat_map (line_items g) read) × Fine (later due g)
+goes_on : (g : Header) (read due : List HeaderLine) → IsBegun g → IsReadTo (length read) g → read ++ due ≡ heads → (written (later due g) ≡ flat_map (line_items g) read) × Fine (later due g)
 unfolding written Fine
 goes_on g read [] is none e = (
   append-nil (header_items g) ∙ ap (flat_map (line_items g)) (sym e ∙ append-nil read),
@@ -575,7 +575,7 @@ goes_on g read (line ∷ due) is none e = elim (cases_Bool (has_line g.version l
       rw hasnt (rest.0 ∙ dropped, rest.1))
 ]
 
-heading_step : (h : Header) (line : Head) (due : List Head) (i : Item) (t : Stage) → IsBegun h → HasRead h (line ∷ due) → IsItem i → option_map (later due) (heard h line i) ≡ Some t
+heading_step : (h : Header) (line : HeaderLine) (due : List HeaderLine) (i : Item) (t : Stage) → IsBegun h → HasRead h (line ∷ due) → IsItem i → option_map (later due) (heard h line i) ≡ Some t
     → Steps (Heading h (line ∷ due)) t i
 unfolding written
 heading_step h line due i t is r item e =
@@ -797,7 +797,7 @@ unfolding step
 from_stated t f = by_step (Stated t) End (Done t) f tt refl (done t)
 
 -- of a header its other lines as a whole one says them
-from_lines : (g : Header) (due : List Head) → IsHeader g → Opens (written (Heading g due))
+from_lines : (g : Header) (due : List HeaderLine) → IsHeader g → Opens (written (Heading g due))
 unfolding written
 from_lines g due is = record {
   table = record { header = g; states = []; rules = []; families = [] };
@@ -820,7 +820,7 @@ unfolding ones
 are_costs = record { as_many = refl; each = All-replicate (λ n. (1 ≤ n) × (n ≤ 64)) 28 1 (omega arith, omega arith) }
 
 -- where costs are still to come, the lines before stay with some
-some_costs : (h : Header) (ns : List ℕ) (due : List Head) → h.costs ≡ None → has_line h.version head.Costs ≡ true → HasRead h due
+some_costs : (h : Header) (ns : List ℕ) (due : List HeaderLine) → h.costs ≡ None → has_line h.version head.Costs ≡ true → HasRead h due
     → written (Heading (record h { costs = Some ns }) due) ≡ written (Heading h due)
 unfolding written
 some_costs h ns [] none has r = absurd (let some = r.none.costed (omega (arith, ap length r.split, length-append r.read [])) has in cc)
@@ -831,7 +831,7 @@ some_costs h ns (line ∷ due) none has r =
     ∙ read_kept h g line 0 r.read due (λ l less. costs_kept h (Some ns) l (omega (arith, less, no_line_behind line))) stand
     ∙ sym (before h r.read (line ∷ due) r.split)
 
-from_heading : (h : Header) (due : List Head) → Fine (Heading h due) → Opens (written (Heading h due))
+from_heading : (h : Header) (due : List HeaderLine) → Fine (Heading h due) → Opens (written (Heading h due))
 unfolding Fine
 from_heading h due f = by h.costs refl (cases_Bool (has_line h.version head.Costs))
   where

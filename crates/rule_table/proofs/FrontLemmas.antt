@@ -5,8 +5,8 @@ use Rattle.std.specs.Borrow.{Bor}
 use Rattle.std.specs.Char.{is_ascii_digit}
 use Rattle.std.proofs.lemmas.Bool.{cases_Bool}
 use Rattle.std.proofs.lemmas.Option.{same_Some}
-use Rattle.rule_table.specs.declared.words.Word.{Word}
-use Rattle.rule_table.specs.declared.words.Word.TheVariants as word
+use Rattle.rule_table.specs.declared.words.FirstWord.{FirstWord}
+use Rattle.rule_table.specs.declared.words.FirstWord.TheVariants as word
 use Rattle.rule_table.specs.Fronts.{words, word_text, strip, or_else, front_in, front}
 
 pub strip_front : (p t : List ℕ) → strip p (p ++ t) ≡ Some t
@@ -32,12 +32,12 @@ pub strip_is : (p s : List ℕ) (r : Option (Bor (List ℕ))) → MatchOption r 
 strip_is p s None h = sym (strip_none p s h)
 strip_is p s (Some x) h = sym (ap (strip p) h ∙ strip_front p x.now)
 
-pub same_pair : (w v : Word) (t u : List ℕ) → ◌≡◌ {A = Option (Word × List ℕ)} (Some (w, t)) (Some (v, u)) → (w ≡ v) × (t ≡ u)
+pub same_pair : (w v : FirstWord) (t u : List ℕ) → ◌≡◌ {A = Option (FirstWord × List ℕ)} (Some (w, t)) (Some (v, u)) → (w ≡ v) × (t ≡ u)
 same_pair w v t u e =
     let same = same_Some (w, t) (v, u) e in
-    (ap (λ (x : Word × List ℕ). x.0) same, ap (λ (x : Word × List ℕ). x.1) same)
+    (ap (λ (x : FirstWord × List ℕ). x.0) same, ap (λ (x : FirstWord × List ℕ). x.1) same)
 
-front_in_sound : (ws : List Word) (bs : List ℕ) (w : Word) (t : List ℕ) → front_in ws bs ≡ Some (w, t) → bs ≡ word_text w ++ t
+front_in_sound : (ws : List FirstWord) (bs : List ℕ) (w : FirstWord) (t : List ℕ) → front_in ws bs ≡ Some (w, t) → bs ≡ word_text w ++ t
 front_in_sound [] bs w t e = cc
 front_in_sound (v ∷ ws) bs w t e = by (strip (word_text v) bs) refl e (front_in_sound ws bs w t)
   where
@@ -48,7 +48,7 @@ front_in_sound (v ∷ ws) bs w t e = by (strip (word_text v) bs) refl e (front_i
         strip_sound (word_text v) bs u h ∙ ap (λ x. word_text x ++ u) same.0 ∙ ap (λ x. word_text w ++ x) same.1
 
 -- the bytes are the word with what stands behind it
-pub front_sound : (bs : List ℕ) (w : Word) (t : List ℕ) → front bs ≡ Some (w, t) → bs ≡ word_text w ++ t
+pub front_sound : (bs : List ℕ) (w : FirstWord) (t : List ℕ) → front bs ≡ Some (w, t) → bs ≡ word_text w ++ t
 unfolding front
 front_sound [] w t e = cc
 front_sound (b ∷ bs) w t e = elim (cases_Bool (is_ascii_digit b)) [

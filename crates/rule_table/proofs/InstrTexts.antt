@@ -13,7 +13,7 @@ use Rattle.thumb_instr.specs.declared.kind.Kind.TheVariants as kind
 use Rattle.thumb_instr.specs.declared.kind.Parts.{Parts}
 use Rattle.thumb_instr.specs.declared.operation.Operation.{Operation}
 use Rattle.thumb_instr.specs.declared.operation.Operation.TheVariants as operation
-use Rattle.thumb_instr.specs.declared.operation.Sum.TheVariants as sum
+use Rattle.thumb_instr.specs.declared.operation.SumOperation.TheVariants as sum
 use Rattle.thumb_instr.specs.declared.operation.Right.TheVariants as right
 use Rattle.thumb_instr.specs.declared.operation.ByteOperation.TheVariants as byte
 use Rattle.thumb_instr.specs.declared.operation.Extension.TheVariants as extension
@@ -22,8 +22,8 @@ use Rattle.thumb_instr.specs.declared.within.Within.{Within}
 use Rattle.thumb_instr.specs.Window.{AreBelow, is_in_window}
 use Rattle.thumb_instr.specs.Parts.{parts_of}
 use Rattle.thumb_instr.proofs.PartLemmas.{same_parts}
-use Rattle.thumb_syntax.specs.declared.form.Place.{Place}
-use Rattle.thumb_syntax.specs.declared.form.Place.TheVariants as place
+use Rattle.thumb_syntax.specs.declared.form.OperandPosition.{OperandPosition}
+use Rattle.thumb_syntax.specs.declared.form.OperandPosition.TheVariants as position
 use Rattle.thumb_syntax.specs.declared.form.Slot.{Slot}
 use Rattle.thumb_syntax.specs.declared.form.Slot.TheVariants as slot
 use Rattle.thumb_syntax.specs.Slots.{Fields, at}
@@ -64,10 +64,10 @@ record AreSmall (f : Fields) : Type 0 where
   second : f.second < 2 ^ 32
   third : f.third < 2 ^ 32
 
-small_at : (f : Fields) (p : Place) → AreSmall f → at f p < 2 ^ 32
-small_at f place.First s = s.first
-small_at f place.Second s = s.second
-small_at f place.Third s = s.third
+small_at : (f : Fields) (p : OperandPosition) → AreSmall f → at f p < 2 ^ 32
+small_at f position.First s = s.first
+small_at f position.Second s = s.second
+small_at f position.Third s = s.third
 
 slot_inside : (s : Slot) (f : Fields) → is_plain s ≡ true → AreSmall f → IsInside (slot_text s f)
 slot_inside (slot.Register p) f e s = register_inside (at f p) (let k = small_at f p s in omega arith)

@@ -11,7 +11,7 @@ use Rattle.lrat_check.proofs.Outcomes.{text_of-injective}
 use Rattle.window_exec.specs.State.{Seen}
 use Rattle.rule_table.specs.declared.header.Field.{Field}
 use Rattle.rule_table.specs.declared.header.Field.TheVariants as field
-use Rattle.rule_table.specs.declared.words.Word.TheVariants as word
+use Rattle.rule_table.specs.declared.words.FirstWord.TheVariants as word
 use Rattle.rule_table.specs.Header.{row, IsWithin}
 use Rattle.rule_table.specs.Text.{Item, Number, Pool, Costs, State, Entry, Left, Right, Mask, Proof, Logged, Open, Family, End, line_of, instr_text, after_blanks, hex_of, mask_text, mask_rows, named}
 use Rattle.rule_table.specs.Table.{IsState, IsInstr}

@@ -10,14 +10,14 @@ use Rattle.std.proofs.lemmas.List.Elements.{All-nil, All-cons, All-head, All-tai
 use Rattle.ascii_scan.specs.Lines.{lines_of, onto_first, content_of, is_ended, Placed, placed, placed_from, lines_in, whole}
 use Rattle.ascii_scan.proofs.LineLemmas.{lines_nil, lines_newline, lines_other, lines_join, map-whole, length-lines_in}
 use Rattle.seq_enum.specs.Costs.{AreCosts}
-use Rattle.rule_table.specs.declared.header.Head.{Head}
-use Rattle.rule_table.specs.declared.header.Head.TheVariants as head
+use Rattle.rule_table.specs.declared.header.HeaderLine.{HeaderLine}
+use Rattle.rule_table.specs.declared.header.HeaderLine.TheVariants as head
 use Rattle.rule_table.specs.Header.{Header, heads, has_line, IsHeader}
 use Rattle.rule_table.specs.Table.{Opened, Rule, Family as Raised, Table, IsOpened, IsRule, IsFamily, IsTable}
 use Rattle.rule_table.specs.Text.{Item, State, Entry, Left, Right, Mask, Proof, Logged, Open, Family, End, line_of, text_of_items, text_of, open_items, rule_items, family_items, line_items, cost_numbers, said, header_items, items_of}
 use Rattle.rule_table.specs.Items.{IsItem}
 use Rattle.rule_table.specs.Grammar.{Stage, Start, Done, step, run}
-use Rattle.rule_table.specs.Steps.{Follows, StepsTo}
+use Rattle.rule_table.specs.Steps.{LineFollows, StepsTo}
 use Rattle.rule_table.specs.declared.errors.TableError.TheVariants as error
 use Rattle.rule_table.specs.Views.{table_of}
 use Rattle.rule_table.specs.Refused.{IsText, Begins, Stops, IsRefused}
@@ -101,18 +101,18 @@ costs_said None some are = absurd cc
 costs_said (Some ns) some are = are
 
 -- what a line says that the version has
-said_item : (h : Header) → IsHeader h → (line : Head) → has_line h.version line ≡ true → IsItem (said h line)
+said_item : (h : Header) → IsHeader h → (line : HeaderLine) → has_line h.version line ≡ true → IsItem (said h line)
 said_item h is (head.Number field) has = is.numbers field
 said_item h is head.Pool has = is.pool
 said_item h is head.Costs has = costs_said h.costs (is.costed has) is.costs
 
-head_all : (h : Header) → IsHeader h → (line : Head) → All IsItem (line_items h line)
+head_all : (h : Header) → IsHeader h → (line : HeaderLine) → All IsItem (line_items h line)
 head_all h is line = elim (cases_Bool (has_line h.version line)) [
   | inl has ↦ rw has (All-cons IsItem (said h line) [] (said_item h is line has) (All-nil IsItem))
   | inr hasnt ↦ rw hasnt (All-nil IsItem)
 ]
 
-heads_all : (h : Header) → IsHeader h → (lines : List Head) → All IsItem (flat_map (line_items h) lines)
+heads_all : (h : Header) → IsHeader h → (lines : List HeaderLine) → All IsItem (flat_map (line_items h) lines)
 heads_all h is [] = All-nil IsItem
 heads_all h is (line ∷ lines) = All-append IsItem (line_items h line) (flat_map (line_items h) lines) (head_all h is line) (heads_all h is lines)
 
@@ -224,7 +224,7 @@ next_run is i s e = run-append Start is (i ∷ []) ∙ ap (option_and_then (λ u
 whole_ended : (p : Placed) → p.is_ended ≡ true → whole p ≡ p.text ++ 10 ∷ []
 whole_ended p e = rw e refl
 
-pub more : (bytes : List ℕ) (p : Placed) (left : List Placed) (s t : Stage) (n : ℕ) → Progress bytes (p ∷ left) s n → Follows s p t → Progress bytes left t (n + 1)
+pub more : (bytes : List ℕ) (p : Placed) (left : List Placed) (s t : Stage) (n : ℕ) → Progress bytes (p ∷ left) s n → LineFollows s p t → Progress bytes left t (n + 1)
 more bytes p left s t n g f = record {
   items = g.items ++ f.item ∷ [];
   split' = g.split' ∙ ap (λ l. map ended g.items ++ l ∷ map whole left) (whole_ended p f.ended ∙ ap (λ us. us ++ 10 ∷ []) (sym f.is))

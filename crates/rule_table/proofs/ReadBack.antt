@@ -10,7 +10,7 @@ use Rattle.lrat_check.specs.Text.{Content}
 use Rattle.window_exec.specs.State.{Seen}
 use Rattle.thumb_instr.specs.declared.instr.Instr.{Instr}
 use Rattle.rule_table.specs.declared.header.Field.TheVariants as field
-use Rattle.rule_table.specs.declared.header.Head.TheVariants as head
+use Rattle.rule_table.specs.declared.header.HeaderLine.TheVariants as head
 use Rattle.rule_table.specs.Header.{Header, has_line, has_families, IsWithin, IsHeader}
 use Rattle.rule_table.specs.Table.{Opened, Rule, Family as Raised, Table, IsRule, IsTable, numbers_of}
 use Rattle.rule_table.specs.Text.{Item, State, Entry, Left, Right, Mask, Proof, Logged, End, open_items, rule_items, family_items, header_items, items_of}

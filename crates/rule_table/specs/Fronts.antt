@@ -4,16 +4,16 @@ use Rattle.std.specs.Char.{is_ascii_digit}
 use Rattle.std.specs.Borrow.{Bor}
 use Rattle.lrat_check.specs.Text.{text_of as text_of_line}
 use Rattle.rule_table.specs.declared.header.Field.TheVariants as field
-use Rattle.rule_table.specs.declared.header.Head.TheVariants as head
-use Rattle.rule_table.specs.declared.words.Word.{Word}
-use Rattle.rule_table.specs.declared.words.Word.TheVariants as word
+use Rattle.rule_table.specs.declared.header.HeaderLine.TheVariants as head
+use Rattle.rule_table.specs.declared.words.FirstWord.{FirstWord}
+use Rattle.rule_table.specs.declared.words.FirstWord.TheVariants as word
 use Rattle.rule_table.specs.Header.{heads, row}
 use Rattle.rule_table.specs.Text.{Item, Number, Pool, Costs, State, Entry, Left, Right, Mask, Proof, Logged, Open, Family, End, after_blanks, hex_of, instr_text, mask_text}
 
-unfoldable pub words : List Word
+unfoldable pub words : List FirstWord
 words = map word.Head heads ++ word.State ∷ word.Entry ∷ word.Right ∷ word.Mask ∷ word.Proof ∷ word.Open ∷ word.Family ∷ word.End ∷ []
 
-abbrev pub word_text : Word → List ℕ
+abbrev pub word_text : FirstWord → List ℕ
 word_text (word.Head (head.Number field)) = (row field).word
 word_text (word.Head head.Pool) = codes "pool"
 word_text (word.Head head.Costs) = codes "costs"
@@ -34,20 +34,20 @@ strip (p ∷ ps) [] = None
 strip (p ∷ ps) (b ∷ bs) = if p == b then strip ps bs else None
 
 -- a word with what stands behind it, or else what the others give
-abbrev pub or_else : Word → Option (List ℕ) → Option (Word × List ℕ) → Option (Word × List ℕ)
+abbrev pub or_else : FirstWord → Option (List ℕ) → Option (FirstWord × List ℕ) → Option (FirstWord × List ℕ)
 or_else w (Some t) others = Some (w, t)
 or_else w None others = others
 
-abbrev pub front_in : List Word → List ℕ → Option (Word × List ℕ)
+abbrev pub front_in : List FirstWord → List ℕ → Option (FirstWord × List ℕ)
 front_in [] bs = None
 front_in (w ∷ ws) bs = or_else w (strip (word_text w) bs) (front_in ws bs)
 
 -- of a line of a proof, which begins with a digit, all of it
-unfoldable pub front : List ℕ → Option (Word × List ℕ)
+unfoldable pub front : List ℕ → Option (FirstWord × List ℕ)
 front [] = None
 front (b ∷ bs) = if is_ascii_digit b then Some (word.Digit, b ∷ bs) else front_in words (b ∷ bs)
 
-abbrev pub seen_front : Word × Bor (List ℕ) → Word × List ℕ
+abbrev pub seen_front : FirstWord × Bor (List ℕ) → FirstWord × List ℕ
 seen_front p = (p.0, p.1.now)
 
 -- what is left where something was taken from the front of the bytes, and which item was
@@ -85,7 +85,7 @@ tail_of (Family entry number low high) = after_blanks (map decimal (entry ∷ nu
 tail_of End = []
 
 -- a left side's instructions stand behind the word of the header's number
-abbrev pub word_of : Item → Word
+abbrev pub word_of : Item → FirstWord
 word_of (Number field n) = word.Head (head.Number field)
 word_of (Pool ns) = word.Head head.Pool
 word_of (Costs ns) = word.Head head.Costs

@@ -3,8 +3,8 @@ use Rattle.std.specs.Prelude.{ℕ, ◌&&◌, Bool, true, false, List, [], ◌∷
 use Rattle.std.specs.Option.{option_and_then, option_map}
 use Rattle.thumb_instr.specs.declared.instr.Instr.{Instr}
 use Rattle.window_exec.specs.State.{Seen}
-use Rattle.rule_table.specs.declared.header.Head.{Head}
-use Rattle.rule_table.specs.declared.header.Head.TheVariants as head
+use Rattle.rule_table.specs.declared.header.HeaderLine.{HeaderLine}
+use Rattle.rule_table.specs.declared.header.HeaderLine.TheVariants as head
 use Rattle.rule_table.specs.Header.{Header, heads, due_in, with_number, is_same, blank, has_families}
 use Rattle.rule_table.specs.Table.{Opened, Rule, Family as Raised, Table}
 use Rattle.rule_table.specs.Text.{Item, Number, Pool, Costs, State, Entry, Left, Right, Mask, Proof, Logged, Open, Family, End}
@@ -12,7 +12,7 @@ use Rattle.rule_table.specs.Text.{Item, Number, Pool, Costs, State, Entry, Left,
 -- what has been read: some lines of the header, with those that are due; a header with its states; behind the rules before, the sides of a rule, a rule with its
 -- mask, one with its proof, one with the number that was opened last; behind the families before, a family whose proof is due, one with its proof; all
 pub data Stage : Type 0 where
-  Heading : Header → (due : List Head) → Stage
+  Heading : Header → (due : List HeaderLine) → Stage
   Stated : Table → Stage
   Sided : Table → (left right : List Instr) → Stage
   Masked : Table → (left right : List Instr) → (mask : ℕ) → Stage
@@ -43,19 +43,19 @@ abbrev pub Start : Stage
 Start = Heading blank heads
 
 -- the header with what a line says, where it is the one that is due
-abbrev pub heard : Header → Head → Item → Option Header
+abbrev pub heard : Header → HeaderLine → Item → Option Header
 heard h (head.Number due) (Number field n) = if is_same due field then Some (with_number h field n) else None
 heard h head.Pool (Pool ns) = Some (record h { pool = ns })
 heard h head.Costs (Costs ns) = Some (record h { costs = Some ns })
 heard h due i = None
 
 -- behind the last line of the header come the states
-abbrev pub go_on : List Head → Header → Stage
+abbrev pub go_on : List HeaderLine → Header → Stage
 go_on [] h = Stated (record { header = h; states = []; rules = []; families = [] })
 go_on (line ∷ due) h = Heading h (line ∷ due)
 
 -- of the lines that are left those that the header's version has are due
-abbrev pub later : List Head → Header → Stage
+abbrev pub later : List HeaderLine → Header → Stage
 later lines h = go_on (due_in h.version lines) h
 
 -- a family begins, where the table's version has families

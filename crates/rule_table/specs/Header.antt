@@ -5,8 +5,8 @@ use Rattle.seq_enum.specs.Alphabet.{is_pool}
 use Rattle.seq_enum.specs.Costs.{AreCosts}
 use Rattle.rule_table.specs.declared.header.Field.{Field}
 use Rattle.rule_table.specs.declared.header.Field.TheVariants.{Version, Regs, Left, Seed, Budget, Scratch}
-use Rattle.rule_table.specs.declared.header.Head.{Head}
-use Rattle.rule_table.specs.declared.header.Head.TheVariants.{Number, Pool, Costs}
+use Rattle.rule_table.specs.declared.header.HeaderLine.{HeaderLine}
+use Rattle.rule_table.specs.declared.header.HeaderLine.TheVariants.{Number, Pool, Costs}
 
 pub record Header : Type 0 where
   pub version : ℕ
@@ -25,16 +25,16 @@ pub record Header : Type 0 where
   pub costs : Option (List ℕ)
 
 -- the lines of the last version in order
-abbrev pub heads : List Head
+abbrev pub heads : List HeaderLine
 heads = Number Version ∷ Number Regs ∷ Number Left ∷ Number Seed ∷ Number Budget ∷ Pool ∷ Number Scratch ∷ Costs ∷ []
 
 -- the first version that has a line, and whether a version has it
-abbrev pub since : Head → ℕ
+abbrev pub since : HeaderLine → ℕ
 since (Number Scratch) = 2
 since Costs = 4
 since line = 1
 
-abbrev pub has_line : ℕ → Head → Bool
+abbrev pub has_line : ℕ → HeaderLine → Bool
 has_line version line = nat_le (since line) version
 
 -- whether a version has families
@@ -42,7 +42,7 @@ abbrev pub has_families : ℕ → Bool
 has_families version = nat_le 3 version
 
 -- the lines from the first that a version has
-abbrev pub due_in : ℕ → List Head → List Head
+abbrev pub due_in : ℕ → List HeaderLine → List HeaderLine
 due_in version [] = []
 due_in version (line ∷ lines) = if has_line version line then line ∷ lines else due_in version lines
 
@@ -72,12 +72,12 @@ is_same Scratch Scratch = true
 is_same a b = false
 
 -- what the line of a number begins with, and the least and the greatest number that it may have
-pub record Row : Type 0 where
+pub record NumberLine : Type 0 where
   pub word : List ℕ
   pub least : ℕ
   pub greatest : ℕ
 
-abbrev pub row : Field → Row
+abbrev pub row : Field → NumberLine
 row Version = record { word = codes "peep "; least = 1; greatest = 4 }
 row Regs = record { word = codes "regs "; least = 1; greatest = 4 }
 row Left = record { word = codes "left "; least = 1; greatest = 5 }

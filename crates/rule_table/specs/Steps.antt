@@ -6,7 +6,7 @@ use Rattle.rule_table.specs.Items.{IsItem}
 use Rattle.rule_table.specs.Grammar.{Stage, step}
 
 -- a line that has its newline and says something which may follow
-pub record Follows (s : Stage) (line : Placed) (t : Stage) : Type 0 where
+pub record LineFollows (s : Stage) (line : Placed) (t : Stage) : Type 0 where
   pub ended : line.is_ended ≡ true
   pub item : Item
   pub valid : IsItem item
@@ -15,5 +15,5 @@ pub record Follows (s : Stage) (line : Placed) (t : Stage) : Type 0 where
 
 -- the stage after a line; none where the line lacks its newline, says nothing, or may not follow
 abbrev pub StepsTo : Stage → Placed → Option Stage → Type 0
-StepsTo s line (Some t) = Follows s line t
+StepsTo s line (Some t) = LineFollows s line t
 StepsTo s line None = (i : Item) → line.is_ended ≡ true → IsItem i → line_of i ≡ line.text → step s i ≡ None

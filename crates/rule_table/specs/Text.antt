@@ -8,8 +8,8 @@ use Rattle.thumb_syntax.specs.Rows.{shown_with}
 use Rattle.lrat_check.specs.Text.{Content, text_of as text_of_line}
 use Rattle.window_exec.specs.State.{Seen}
 use Rattle.rule_table.specs.declared.header.Field.{Field}
-use Rattle.rule_table.specs.declared.header.Head.{Head}
-use Rattle.rule_table.specs.declared.header.Head.TheVariants as head
+use Rattle.rule_table.specs.declared.header.HeaderLine.{HeaderLine}
+use Rattle.rule_table.specs.declared.header.HeaderLine.TheVariants as head
 use Rattle.rule_table.specs.Header.{Header, heads, has_line, number_in, row}
 use Rattle.rule_table.specs.Table.{Opened, Rule, Family as Raised, Table}
 
@@ -94,13 +94,13 @@ cost_numbers None = []
 cost_numbers (Some ns) = ns
 
 -- what a line of a header says
-abbrev pub said : Header → Head → Item
+abbrev pub said : Header → HeaderLine → Item
 said h (head.Number field) = Number field (number_in h field)
 said h head.Pool = Pool h.pool
 said h head.Costs = Costs (cost_numbers h.costs)
 
 -- the line, where the header's version has it
-abbrev pub line_items : Header → Head → List Item
+abbrev pub line_items : Header → HeaderLine → List Item
 line_items h line = if has_line h.version line then said h line ∷ [] else []
 
 abbrev pub header_items : Header → List Item

@@ -3,15 +3,15 @@ use Rattle.std.specs.Prelude.{map}
 use Rattle.lrat_check.specs.Text.{content_of}
 use Rattle.window_exec.specs.State.{seen}
 use Rattle.rule_table.specs.declared.header.Header as heading
-use Rattle.rule_table.specs.declared.header.Row as line
+use Rattle.rule_table.specs.declared.header.NumberLine as line
 use Rattle.rule_table.specs.declared.table.Open as opening
 use Rattle.rule_table.specs.declared.table.Entry as entry
 use Rattle.rule_table.specs.declared.table.Family as raised
 use Rattle.rule_table.specs.declared.table.Table as code
-use Rattle.rule_table.specs.Header.{Header, Row}
+use Rattle.rule_table.specs.Header.{Header, NumberLine}
 use Rattle.rule_table.specs.Table.{Opened, Rule, Family, Table}
 
-abbrev pub row_of : line.Row → Row
+abbrev pub row_of : line.NumberLine → NumberLine
 row_of r = record { word = r.word.now; least = r.least; greatest = r.greatest }
 
 abbrev pub header_of : heading.Header → Header

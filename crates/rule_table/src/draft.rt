@@ -10,7 +10,7 @@ ghost use Rattle.rule_table.specs.StageView.{stage_of, goes};
 ghost use Rattle.rule_table.specs.Grammar.{step, heard, is_empty, with_state, with_rule, with_opened, with_family, raising, Start, Heading as heading, Stated as stated, Sided as sided, Masked as masked, Proved as proved, Opening as opening, Raising as unshown, Shown as shown, Done as done};
 ghost use Rattle.rule_table.specs.declared.draft.Part.TheVariants as part;
 
-use crate::header::{Field, Head, due_in, has_families, heads, is_same};
+use crate::header::{Field, HeaderLine, due_in, has_families, heads, is_same};
 use crate::item::Item;
 use crate::table::{Entry, Family, Open, Table};
 use seq_enum::Pool;
@@ -23,7 +23,7 @@ use window_exec::{States, WState};
 #[derive(Clone, Copy)]
 pub(crate) enum Part {
     /// some lines of the header, of which these are due
-    Heading(&'static [Head]),
+    Heading(&'static [HeaderLine]),
     /// states
     Stated,
     /// the sides of an entry, its mask, its proof, and a number that it leaves open
@@ -88,12 +88,12 @@ fn set_number(table: &mut Table, field: Field, number: u32)
 }
 
 /// Puts what a line of the header says into a table; false where it isn't the line that is due.
-fn hear(table: &mut Table, line: Head, item: Item) -> bool
+fn hear(table: &mut Table, line: HeaderLine, item: Item) -> bool
     requires { IsItem (item_of item) }
     ensures { goes result (header_in table.new) ≡ heard (header_in table.old) line (item_of item) }
 {
     match line {
-        Head::Number(due) => match item {
+        HeaderLine::Number(due) => match item {
             Item::Number(field, number) => {
                 if !is_same(due, field) {
                     return false;
@@ -103,14 +103,14 @@ fn hear(table: &mut Table, line: Head, item: Item) -> bool
             }
             _ => false,
         },
-        Head::Pool => match item {
+        HeaderLine::Pool => match item {
             Item::Pool(pool) => {
                 table.pool = pool;
                 true
             }
             _ => false,
         },
-        Head::Costs => match item {
+        HeaderLine::Costs => match item {
             Item::Costs(costs) => {
                 table.costs = Some(costs);
                 true
@@ -259,7 +259,7 @@ impl Draft {
 
     /// The lines that the version doesn't have are passed over, and the states begin behind the last that it has.
     #[tactic(auto, unfolding(crate::specs::Grammar::step))]
-    fn take_heading(&mut self, alloc: Global, due: &'static [Head], item: Item) -> bool
+    fn take_heading(&mut self, alloc: Global, due: &'static [HeaderLine], item: Item) -> bool
         requires { IsItem (item_of item) }
         ensures { goes result (stage_of self.new) ≡ step (heading (header_in self.old.table) due.entry.now) (item_of item) }
     {

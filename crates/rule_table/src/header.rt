@@ -42,43 +42,43 @@ pub(crate) fn is_same(a: Field, b: Field) -> bool
 
 /// What a line of the header says.
 #[derive(Clone, Copy)]
-pub enum Head {
+pub enum HeaderLine {
     Number(Field),
     Pool,
     Costs,
 }
 
 /// The lines of the header, in order.
-static HEADS: [Head; 8] = [
-    Head::Number(Field::Version),
-    Head::Number(Field::Regs),
-    Head::Number(Field::Left),
-    Head::Number(Field::Seed),
-    Head::Number(Field::Budget),
-    Head::Pool,
-    Head::Number(Field::Scratch),
-    Head::Costs,
+static HEADS: [HeaderLine; 8] = [
+    HeaderLine::Number(Field::Version),
+    HeaderLine::Number(Field::Regs),
+    HeaderLine::Number(Field::Left),
+    HeaderLine::Number(Field::Seed),
+    HeaderLine::Number(Field::Budget),
+    HeaderLine::Pool,
+    HeaderLine::Number(Field::Scratch),
+    HeaderLine::Costs,
 ];
 
-pub(crate) fn heads() -> &'static [Head]
+pub(crate) fn heads() -> &'static [HeaderLine]
     ensures { result.now ≡ heads }
 {
     &HEADS
 }
 
 /// The first version that has a line.
-fn since(line: Head) -> u8
+fn since(line: HeaderLine) -> u8
     ensures { result ≡ since line }
 {
     match line {
-        Head::Number(Field::Scratch) => 2,
-        Head::Costs => 4,
+        HeaderLine::Number(Field::Scratch) => 2,
+        HeaderLine::Costs => 4,
         _ => 1,
     }
 }
 
 /// Whether a version has a line.
-pub(crate) fn has_line(version: u8, line: Head) -> bool
+pub(crate) fn has_line(version: u8, line: HeaderLine) -> bool
     ensures { result ≡ has_line version line }
 {
     since(line) <= version
@@ -92,7 +92,7 @@ pub(crate) fn has_families(version: u8) -> bool
 }
 
 /// The lines from the first that a version has.
-pub(crate) fn due_in(version: u8, lines: &'static [Head]) -> &'static [Head]
+pub(crate) fn due_in(version: u8, lines: &'static [HeaderLine]) -> &'static [HeaderLine]
     ensures { result.now ≡ due_in version lines.entry.now }
 {
     match lines.split_first() {
@@ -109,19 +109,19 @@ pub(crate) fn due_in(version: u8, lines: &'static [Head]) -> &'static [Head]
 
 /// What the line of a number begins with, and the least and the greatest number that it may have.
 #[derive(Clone, Copy)]
-pub(crate) struct Row {
+pub(crate) struct NumberLine {
     pub word: &'static [u8],
     pub least: u32,
     pub greatest: u32,
 }
 
-impl Row {
-    fn new(word: &'static [u8], least: u32, greatest: u32) -> Row
+impl NumberLine {
+    fn new(word: &'static [u8], least: u32, greatest: u32) -> NumberLine
         ensures word { result.word.now ≡ word.entry.now }
         ensures least { result.least ≡ least }
         ensures greatest { result.greatest ≡ greatest }
     {
-        Row {
+        NumberLine {
             word,
             least,
             greatest,
@@ -129,16 +129,16 @@ impl Row {
     }
 
     /// The row of a number.
-    pub(crate) fn of(field: Field) -> Row
+    pub(crate) fn of(field: Field) -> NumberLine
         ensures { row_of result ≡ row field }
     {
         match field {
-            Field::Version => Row::new(b"peep ", 1, 4),
-            Field::Regs => Row::new(b"regs ", 1, 4),
-            Field::Left => Row::new(b"left ", 1, 5),
-            Field::Seed => Row::new(b"seed ", 0, u32::MAX),
-            Field::Budget => Row::new(b"budget ", 1, 1_000_000),
-            Field::Scratch => Row::new(b"scratch ", 0, 1),
+            Field::Version => NumberLine::new(b"peep ", 1, 4),
+            Field::Regs => NumberLine::new(b"regs ", 1, 4),
+            Field::Left => NumberLine::new(b"left ", 1, 5),
+            Field::Seed => NumberLine::new(b"seed ", 0, u32::MAX),
+            Field::Budget => NumberLine::new(b"budget ", 1, 1_000_000),
+            Field::Scratch => NumberLine::new(b"scratch ", 0, 1),
         }
     }
 }

@@ -44,7 +44,7 @@ mod words;
 mod writing;
 
 pub use errors::TableError;
-pub use header::{Field, Head, Header};
+pub use header::{Field, Header, HeaderLine};
 pub use map::Map;
 pub use matching::matches;
 pub use reading::read_table;

@@ -1,14 +1,14 @@
 //! What a line says.
 ghost use Rattle.std.specs.Prelude.{◌≡◌, [], ℕ, IfOk, MatchOption};
 ghost use Rattle.rule_table.specs.Told.{Tells, Says};
-ghost use Rattle.rule_table.specs.declared.header.Head.TheVariants as head;
-ghost use Rattle.rule_table.specs.declared.words.Word.TheVariants as word;
+ghost use Rattle.rule_table.specs.declared.header.HeaderLine.TheVariants as head;
+ghost use Rattle.rule_table.specs.declared.words.FirstWord.TheVariants as word;
 
-use crate::header::{Field, Head, Row};
+use crate::header::{Field, HeaderLine, NumberLine};
 use crate::item::Item;
 use crate::numbers::{number, number_within};
 use crate::tails::{costs, family, instruction, mask, pool, state};
-use crate::words::{Word, front};
+use crate::words::{FirstWord, front};
 use lrat_check::read_line;
 use std::alloc::{AllocError, Global};
 
@@ -23,7 +23,7 @@ fn alone(tail: &[u8], item: Item) -> Option<Item>
 fn numbered(alloc: Global, field: Field, tail: &[u8]) -> Result<Option<Item>, AllocError>
     ensures { IfOk result (Tells (word.Head (head.Number field)) tail.now) }
 {
-    let row = Row::of(field);
+    let row = NumberLine::of(field);
     match number_within(tail, u64::from(row.least), u64::from(row.greatest)) {
         Some(number) => Ok(Some(Item::Number(field, number as u32))),
         None => match field {
@@ -114,22 +114,22 @@ fn family_line(alloc: Global, tail: &[u8]) -> Result<Option<Item>, AllocError>
 }
 
 /// What a word says with what stands behind it.
-fn told(alloc: Global, word: Word, tail: &[u8]) -> Result<Option<Item>, AllocError>
+fn told(alloc: Global, word: FirstWord, tail: &[u8]) -> Result<Option<Item>, AllocError>
     ensures { IfOk result (Tells word tail.now) }
 {
     match word {
-        Word::Head(Head::Number(field)) => numbered(alloc, field, tail),
-        Word::Head(Head::Pool) => pool_line(alloc, tail),
-        Word::Head(Head::Costs) => costs_line(alloc, tail),
-        Word::State => Ok(state_line(tail)),
-        Word::Entry => Ok(alone(tail, Item::Entry)),
-        Word::Right => right(alloc, tail),
-        Word::Mask => Ok(mask_line(tail)),
-        Word::Proof => Ok(alone(tail, Item::Proof)),
-        Word::Open => Ok(open(tail)),
-        Word::Family => family_line(alloc, tail),
-        Word::End => Ok(alone(tail, Item::End)),
-        Word::Digit => logged(alloc, tail),
+        FirstWord::Head(HeaderLine::Number(field)) => numbered(alloc, field, tail),
+        FirstWord::Head(HeaderLine::Pool) => pool_line(alloc, tail),
+        FirstWord::Head(HeaderLine::Costs) => costs_line(alloc, tail),
+        FirstWord::State => Ok(state_line(tail)),
+        FirstWord::Entry => Ok(alone(tail, Item::Entry)),
+        FirstWord::Right => right(alloc, tail),
+        FirstWord::Mask => Ok(mask_line(tail)),
+        FirstWord::Proof => Ok(alone(tail, Item::Proof)),
+        FirstWord::Open => Ok(open(tail)),
+        FirstWord::Family => family_line(alloc, tail),
+        FirstWord::End => Ok(alone(tail, Item::End)),
+        FirstWord::Digit => logged(alloc, tail),
     }
 }
 

@@ -2,12 +2,12 @@
 ghost use Rattle.std.specs.Prelude.{◌≡◌, option_map};
 ghost use Rattle.rule_table.specs.Fronts.{words, word_text, strip, front_in, front, seen_front};
 
-use crate::header::{Field, Head, Row};
+use crate::header::{Field, HeaderLine, NumberLine};
 
 /// What a line begins with: a word of its own, or a digit, as the lines of a proof do.
 #[derive(Clone, Copy)]
-pub(crate) enum Word {
-    Head(Head),
+pub(crate) enum FirstWord {
+    Head(HeaderLine),
     State,
     Entry,
     Right,
@@ -20,49 +20,49 @@ pub(crate) enum Word {
 }
 
 /// All words but the digits.
-static WORDS: [Word; 16] = [
-    Word::Head(Head::Number(Field::Version)),
-    Word::Head(Head::Number(Field::Regs)),
-    Word::Head(Head::Number(Field::Left)),
-    Word::Head(Head::Number(Field::Seed)),
-    Word::Head(Head::Number(Field::Budget)),
-    Word::Head(Head::Pool),
-    Word::Head(Head::Number(Field::Scratch)),
-    Word::Head(Head::Costs),
-    Word::State,
-    Word::Entry,
-    Word::Right,
-    Word::Mask,
-    Word::Proof,
-    Word::Open,
-    Word::Family,
-    Word::End,
+static WORDS: [FirstWord; 16] = [
+    FirstWord::Head(HeaderLine::Number(Field::Version)),
+    FirstWord::Head(HeaderLine::Number(Field::Regs)),
+    FirstWord::Head(HeaderLine::Number(Field::Left)),
+    FirstWord::Head(HeaderLine::Number(Field::Seed)),
+    FirstWord::Head(HeaderLine::Number(Field::Budget)),
+    FirstWord::Head(HeaderLine::Pool),
+    FirstWord::Head(HeaderLine::Number(Field::Scratch)),
+    FirstWord::Head(HeaderLine::Costs),
+    FirstWord::State,
+    FirstWord::Entry,
+    FirstWord::Right,
+    FirstWord::Mask,
+    FirstWord::Proof,
+    FirstWord::Open,
+    FirstWord::Family,
+    FirstWord::End,
 ];
 
 #[tactic(auto, unfolding(crate::specs::Fronts::words))]
-fn words() -> &'static [Word]
+fn words() -> &'static [FirstWord]
     ensures { result.now ≡ words }
 {
     &WORDS
 }
 
 /// What stands at the front of a line, with the blank where one has to follow.
-fn word_text(word: Word) -> &'static [u8]
+fn word_text(word: FirstWord) -> &'static [u8]
     ensures { result.now ≡ word_text word }
 {
     match word {
-        Word::Head(Head::Number(field)) => Row::of(field).word,
-        Word::Head(Head::Pool) => b"pool",
-        Word::Head(Head::Costs) => b"costs",
-        Word::State => b"state",
-        Word::Entry => b"entry",
-        Word::Right => b"right ",
-        Word::Mask => b"mask",
-        Word::Proof => b"proof",
-        Word::Open => b"open ",
-        Word::Family => b"family",
-        Word::End => b"end",
-        Word::Digit => b"",
+        FirstWord::Head(HeaderLine::Number(field)) => NumberLine::of(field).word,
+        FirstWord::Head(HeaderLine::Pool) => b"pool",
+        FirstWord::Head(HeaderLine::Costs) => b"costs",
+        FirstWord::State => b"state",
+        FirstWord::Entry => b"entry",
+        FirstWord::Right => b"right ",
+        FirstWord::Mask => b"mask",
+        FirstWord::Proof => b"proof",
+        FirstWord::Open => b"open ",
+        FirstWord::Family => b"family",
+        FirstWord::End => b"end",
+        FirstWord::Digit => b"",
     }
 }
 
@@ -74,7 +74,7 @@ pub(crate) fn strip<'a>(prefix: &[u8], bytes: &'a [u8]) -> Option<&'a [u8]>
 }
 
 /// The first of these words with which the bytes begin, and what stands behind it.
-fn front_in<'a>(words: &[Word], bytes: &'a [u8]) -> Option<(Word, &'a [u8])>
+fn front_in<'a>(words: &[FirstWord], bytes: &'a [u8]) -> Option<(FirstWord, &'a [u8])>
     ensures { option_map seen_front result ≡ front_in words.now bytes.entry.now }
 {
     for word in words {
@@ -87,14 +87,14 @@ fn front_in<'a>(words: &[Word], bytes: &'a [u8]) -> Option<(Word, &'a [u8])>
 
 /// The word that a line begins with, and what stands behind it; of a line that begins with a digit all of it.
 #[tactic(auto, unfolding(crate::specs::Fronts::front))]
-pub(crate) fn front(line: &[u8]) -> Option<(Word, &[u8])>
+pub(crate) fn front(line: &[u8]) -> Option<(FirstWord, &[u8])>
     ensures { option_map seen_front result ≡ front line.entry.now }
 {
     match line.split_first() {
         None => None,
         Some((first, _)) => {
             if first.is_ascii_digit() {
-                Some((Word::Digit, line))
+                Some((FirstWord::Digit, line))
             } else {
                 front_in(words(), line)
             }

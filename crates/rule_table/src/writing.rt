@@ -8,7 +8,7 @@ ghost use Rattle.rule_table.specs.Text as item;
 ghost use Rattle.rule_table.specs.Views.{header_in, table_of, rule_of, opened_of, family_of};
 ghost use Rattle.rule_table.specs.Header.{number_in};
 
-use crate::header::{Field, Head, Row, has_line, heads};
+use crate::header::{Field, HeaderLine, NumberLine, has_line, heads};
 use crate::lines::{
     write_family_line, write_instruction, write_list, write_logged, write_mask, write_number,
     write_state,
@@ -58,20 +58,20 @@ fn cost_numbers(costs: &Option<Costs>) -> &[u8]
 }
 
 /// A line of a table's header, where the table's version has it.
-fn write_head(out: &mut Vec<u8>, table: &Table, line: Head) -> Result<(), AllocError>
+fn write_head(out: &mut Vec<u8>, table: &Table, line: HeaderLine) -> Result<(), AllocError>
     ensures { OnOk result (out.new.items ≡ out.old.items ++ text_of_items (line_items (header_in table.now) line)) }
 {
     if !has_line(table.version, line) {
         return Ok(());
     }
     match line {
-        Head::Number(field) => write_number(
+        HeaderLine::Number(field) => write_number(
             out,
-            Row::of(field).word,
+            NumberLine::of(field).word,
             u64::from(number_in(table, field)),
         ),
-        Head::Pool => write_list(out, b"pool", table.pool.numbers()),
-        Head::Costs => write_list(out, b"costs", cost_numbers(&table.costs)),
+        HeaderLine::Pool => write_list(out, b"pool", table.pool.numbers()),
+        HeaderLine::Costs => write_list(out, b"costs", cost_numbers(&table.costs)),
     }
 }
 

@@ -3,10 +3,10 @@ use Rattle.std.proofs.Common.{◌≡◌, ℕ, suc, ◌<◌, ◌≤◌, Bool, tru
 use Rattle.std.specs.List.{list_all}
 use Rattle.std.proofs.lemmas.Bool.{lt-leb}
 use Rattle.std.proofs.Math.Facts.{Fits-lt-pow}
-use Rattle.seq_enum.specs.Alphabet.{ascends_from, held_in, IsPlace, inside, is_pool}
+use Rattle.seq_enum.specs.Alphabet.{ascends_from, those_within, IsPlace, inside, is_pool}
 use Rattle.seq_enum.specs.Places.{place_of}
 use Rattle.seq_enum.proofs.Ascending.{both, ascends_filter, IsPlace-ascending}
-use Rattle.seq_enum.proofs.Fields.{held_length}
+use Rattle.seq_enum.proofs.Fields.{within_length}
 use Rattle.std.proofs.Common.{Option, Some, None, IfSome, cond}
 
 -- the numbers of a slice of bytes are bytes
@@ -51,8 +51,8 @@ all_kept p [] h = refl
 all_kept p (x ∷ xs) h = let parts = both (p x) (list_all p xs) h in rw parts.0 (ap (λ ys. x ∷ ys) (all_kept p xs parts.1))
 
 -- every number of a pool is a byte
-pub whole_pool : (xs : List ℕ) → is_pool xs ≡ true → length (held_in 0 256 xs) ≡ length xs
-whole_pool xs h = held_length 0 256 xs ∙ ap length (all_kept (inside 0 256) xs (bounds xs h).bytes)
+pub whole_pool : (xs : List ℕ) → is_pool xs ≡ true → length (those_within 0 256 xs) ≡ length xs
+whole_pool xs h = within_length 0 256 xs ∙ ap length (all_kept (inside 0 256) xs (bounds xs h).bytes)
 
 pub IsPlace-filtered : (p : ℕ → Bool) (xs : List ℕ) (x : ℕ) (o : Option ℕ) → ascends_from 0 xs ≡ true → place_of x (filter p xs) ≡ o → IsPlace o (filter p xs) x
 IsPlace-filtered p xs x o up e = rw (← e) (IsPlace-ascending 0 (filter p xs) x (ascends_filter p 0 xs up))
@@ -67,5 +67,5 @@ fewer p (x ∷ xs) =
     let rest = fewer p xs in
     elim (p x) as (λ t. length (cond t (x ∷ filter p xs) (filter p xs)) ≤ suc (length xs)) [ true ↦ omega (arith, rest) | false ↦ omega (arith, rest) ]
 
-pub held_few : (a b : ℕ) (xs : List ℕ) → is_pool xs ≡ true → length (held_in a b xs) ≤ 16
-held_few a b xs h = omega (arith, held_length a b xs, fewer (inside a b) xs, (bounds xs h).few)
+pub within_few : (a b : ℕ) (xs : List ℕ) → is_pool xs ≡ true → length (those_within a b xs) ≤ 16
+within_few a b xs h = omega (arith, within_length a b xs, fewer (inside a b) xs, (bounds xs h).few)

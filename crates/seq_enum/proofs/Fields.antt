@@ -4,7 +4,7 @@ use Rattle.std.specs.Option.{option_map}
 use Rattle.std.proofs.lemmas.Option.{slice_get-map, slice_get_within, same_Some}
 use Rattle.std.proofs.lemmas.List.{length-map}
 use Rattle.thumb_instr.specs.declared.within.Within.{Within}
-use Rattle.seq_enum.specs.Alphabet.{numbers_from, held_by, held_in, inside, registers, others}
+use Rattle.seq_enum.specs.Alphabet.{numbers_from, if_within, those_within, inside, registers, others}
 use Rattle.seq_enum.proofs.Numbered.{length-numbers, numbers_at}
 use Rattle.seq_enum.proofs.Ascending.{firsts, firsts_but}
 
@@ -20,22 +20,22 @@ module _ {a b : ℕ} where
   length_by xs ns same = sym (length-map xs (λ x. x.number)) ∙ ap length same
 
 -- the numbers that a field holds are those inside its range
-held_numbers_at : (a b n : ℕ) (rest : List (Within a b)) (high low : Bool) (h : nat_le a n ≡ high) (k : nat_lt n b ≡ low)
-    → numbers (held_by a b n high low h k ++ rest) ≡ cond (high && low) (n ∷ numbers rest) (numbers rest)
-held_numbers_at a b n rest true true h k = refl
-held_numbers_at a b n rest true false h k = refl
-held_numbers_at a b n rest false true h k = refl
-held_numbers_at a b n rest false false h k = refl
+within_numbers_at : (a b n : ℕ) (rest : List (Within a b)) (high low : Bool) (h : nat_le a n ≡ high) (k : nat_lt n b ≡ low)
+    → numbers (if_within a b n high low h k ++ rest) ≡ cond (high && low) (n ∷ numbers rest) (numbers rest)
+within_numbers_at a b n rest true true h k = refl
+within_numbers_at a b n rest true false h k = refl
+within_numbers_at a b n rest false true h k = refl
+within_numbers_at a b n rest false false h k = refl
 
-pub held_numbers : (a b : ℕ) (ns : List ℕ) → numbers (held_in a b ns) ≡ filter (inside a b) ns
-unfolding held_in
-held_numbers a b [] = refl
-held_numbers a b (n ∷ ns) =
-    held_numbers_at a b n (held_in a b ns) (nat_le a n) (nat_lt n b) refl refl
-    ∙ ap (λ ms. cond (inside a b n) (n ∷ ms) ms) (held_numbers a b ns)
+pub within_numbers : (a b : ℕ) (ns : List ℕ) → numbers (those_within a b ns) ≡ filter (inside a b) ns
+unfolding those_within
+within_numbers a b [] = refl
+within_numbers a b (n ∷ ns) =
+    within_numbers_at a b n (those_within a b ns) (nat_le a n) (nat_lt n b) refl refl
+    ∙ ap (λ ms. cond (inside a b n) (n ∷ ms) ms) (within_numbers a b ns)
 
-pub held_length : (a b : ℕ) (ns : List ℕ) → length (held_in a b ns) ≡ length (filter (inside a b) ns)
-held_length a b ns = length_by (held_in a b ns) (filter (inside a b) ns) (held_numbers a b ns)
+pub within_length : (a b : ℕ) (ns : List ℕ) → length (those_within a b ns) ≡ length (filter (inside a b) ns)
+within_length a b ns = length_by (those_within a b ns) (filter (inside a b) ns) (within_numbers a b ns)
 
 -- every number below 8 is a register's
 all_inside : (first count : ℕ) → first + count ≤ 8 → filter (inside 0 8) (numbers_from first count) ≡ numbers_from first count
@@ -45,7 +45,7 @@ all_inside first (suc count) h =
     rw (le-leb 0 first (omega arith), lt-ltb first 8 (omega arith)) (ap (λ ns. first ∷ ns) (all_inside (suc first) count (omega arith)))
 
 pub register_numbers : (k : ℕ) → k ≤ 8 → numbers (registers k) ≡ firsts k
-register_numbers k h = held_numbers 0 8 (numbers_from 0 k) ∙ all_inside 0 k (omega arith)
+register_numbers k h = within_numbers 0 8 (numbers_from 0 k) ∙ all_inside 0 k (omega arith)
 
 numbers_but : {a b : ℕ} (p : ℕ → Bool) (xs : List (Within a b)) → numbers (filter (λ x. p x.number) xs) ≡ filter p (numbers xs)
 numbers_but p [] = refl

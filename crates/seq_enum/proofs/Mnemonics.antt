@@ -10,8 +10,8 @@ use Rattle.thumb_instr.specs.declared.instr.Instr.{Instr}
 use Rattle.thumb_instr.specs.declared.kind.Kind.{Kind}
 use Rattle.thumb_instr.specs.declared.kind.Kind.TheVariants as kind
 use Rattle.thumb_instr.specs.declared.kind.Parts.{Parts}
-use Rattle.thumb_instr.specs.declared.operation.Sum.{Sum}
-use Rattle.thumb_instr.specs.declared.operation.Sum.TheVariants as sum
+use Rattle.thumb_instr.specs.declared.operation.SumOperation.{SumOperation}
+use Rattle.thumb_instr.specs.declared.operation.SumOperation.TheVariants as sum
 use Rattle.thumb_instr.specs.declared.operation.ByteOperation.TheVariants as byte
 use Rattle.thumb_instr.specs.declared.operation.Right.TheVariants as right
 use Rattle.thumb_instr.specs.declared.operation.Operation.TheVariants as operation
@@ -20,11 +20,11 @@ use Rattle.thumb_instr.specs.declared.operation.Reversal.TheVariants as reversal
 use Rattle.thumb_instr.specs.Parts.{of, parts_of}
 use Rattle.thumb_instr.specs.Roles.{roles}
 use Rattle.thumb_instr.proofs.PartLemmas.{same_parts, gives_back}
-use Rattle.seq_enum.specs.Alphabet.{numbers_from, held_in, IsPlace, grid2, grid3, rows, registers, members, alphabet}
+use Rattle.seq_enum.specs.Alphabet.{numbers_from, those_within, IsPlace, grid2, grid3, rows, registers, members, alphabet}
 use Rattle.seq_enum.specs.Places.{rank, digits3, paired, values, seconds, second_count, parts_in}
 use Rattle.seq_enum.proofs.Numbered.{numbers_at, length-numbers, IsPlace-lists, IsPlace-unmap, flat_map_at}
 use Rattle.seq_enum.proofs.Ascending.{length-others, first_others}
-use Rattle.seq_enum.proofs.Fields.{numbers, held_numbers, held_length, register_numbers, other_numbers}
+use Rattle.seq_enum.proofs.Fields.{numbers, within_numbers, within_length, register_numbers, other_numbers}
 use Rattle.seq_enum.proofs.Grids.{length-grid3, grid3_some, grid3_from, grid3_at, map-grid2, map-grid3, grid3-single, IsPlace-grid3}
 
 -- ---- the instructions of a mnemonic are those of its parts
@@ -55,10 +55,10 @@ are_parts k pool t few listed = rows_of t listed
 
     rows_of : (t : Kind) → IsSome (rank t) → map parts_of (members k pool t) ≡ parts_in k pool t
     rows_of (kind.Three s) h = three _ _ (λ x y z. refl) _ _ _ _ _ _ low (λ x. low) low
-    rows_of (kind.ThreeNumber s) h = three _ _ (λ x y z. refl) _ _ _ _ _ _ low (λ x. other_numbers k x few) (held_numbers 0 8 pool)
-    rows_of (kind.TwoNumber o) h = two _ _ (λ x y. refl) _ _ _ _ low (held_numbers 0 256 pool)
-    rows_of kind.ShiftLeft h = three _ _ (λ x y z. refl) _ _ _ _ _ _ low (λ x. low) (held_numbers 1 32 pool)
-    rows_of (kind.ShiftRight s) h = three _ _ (λ x y z. refl) _ _ _ _ _ _ low (λ x. low) (held_numbers 1 33 pool)
+    rows_of (kind.ThreeNumber s) h = three _ _ (λ x y z. refl) _ _ _ _ _ _ low (λ x. other_numbers k x few) (within_numbers 0 8 pool)
+    rows_of (kind.TwoNumber o) h = two _ _ (λ x y. refl) _ _ _ _ low (within_numbers 0 256 pool)
+    rows_of kind.ShiftLeft h = three _ _ (λ x y z. refl) _ _ _ _ _ _ low (λ x. low) (within_numbers 1 32 pool)
+    rows_of (kind.ShiftRight s) h = three _ _ (λ x y z. refl) _ _ _ _ _ _ low (λ x. low) (within_numbers 1 33 pool)
     rows_of (kind.Two o) h = pair _ _ (λ x y. refl)
     rows_of kind.Movs h = pair _ _ (λ x y. refl)
     rows_of kind.Mov h = pair _ _ (λ x y. refl)
@@ -68,7 +68,7 @@ are_parts k pool t few listed = rows_of t listed
     rows_of t h = absurd cc
 
 -- any may stand behind any first operand but in a sum with a number, and there as many behind each
-pub seconds_are : (k : ℕ) (pool : List ℕ) (t : Kind) (d : ℕ) → ((s : Sum) → t ≡ kind.ThreeNumber s → ⊥) → seconds k pool t d ≡ values k pool (roles t).second
+pub seconds_are : (k : ℕ) (pool : List ℕ) (t : Kind) (d : ℕ) → ((s : SumOperation) → t ≡ kind.ThreeNumber s → ⊥) → seconds k pool t d ≡ values k pool (roles t).second
 seconds_are k pool (kind.ThreeNumber s) d other = absurd (other s refl)
 seconds_are k pool t d other = refl
 
@@ -219,10 +219,10 @@ length-total k pool (t ∷ ts) few listed =
     )
 
 pub size_formula : (k : ℕ) (pool : List ℕ) → k ≤ 8 → length (alphabet k pool)
-    ≡ 2 * (k * k * k) + 2 * (k * ((k - 1) * length (held_in 0 8 pool))) + 4 * (k * length (held_in 0 256 pool))
-    + (k * (k * length (held_in 1 32 pool)) + 2 * (k * (k * length (held_in 1 33 pool)))) + 26 * (k * k)
+    ≡ 2 * (k * k * k) + 2 * (k * ((k - 1) * length (those_within 0 8 pool))) + 4 * (k * length (those_within 0 256 pool))
+    + (k * (k * length (those_within 1 32 pool)) + 2 * (k * (k * length (those_within 1 33 pool)))) + 26 * (k * k)
 unfolding alphabet rows
-size_formula k pool few = length-total k pool rows few all_some ∙ simp (length-numbers, first_others, held_length) (omega arith)
+size_formula k pool few = length-total k pool rows few all_some ∙ simp (length-numbers, first_others, within_length) (omega arith)
 
 -- at most as many instructions as four registers and sixteen numbers give
 pub size_bound : (k a b c d : ℕ) → k ≤ 4 → a ≤ 16 → b ≤ 16 → c ≤ 16 → d ≤ 16

@@ -8,7 +8,7 @@ use Rattle.thumb_instr.specs.declared.instr.Instr.{Instr}
 use Rattle.thumb_instr.specs.declared.instr.Instr.TheVariants as instr
 use Rattle.thumb_instr.specs.declared.kind.Kind.{Kind}
 use Rattle.thumb_instr.specs.declared.kind.Kind.TheVariants as kind
-use Rattle.thumb_instr.specs.declared.operation.Sum.TheVariants as sum
+use Rattle.thumb_instr.specs.declared.operation.SumOperation.TheVariants as sum
 use Rattle.thumb_instr.specs.declared.operation.ByteOperation.TheVariants as byte
 use Rattle.thumb_instr.specs.declared.operation.Right.TheVariants as right
 use Rattle.thumb_instr.specs.declared.operation.Operation.TheVariants as operation
@@ -30,14 +30,14 @@ ascends_from low [] = true
 ascends_from low (x ∷ xs) = nat_le low x && ascends_from (suc x) xs
 
 -- a number alone, where a field from `least` to below `limit` holds it
-abbrev pub held_by : (least limit n : ℕ) (high low : Bool) → nat_le least n ≡ high → nat_lt n limit ≡ low → List (Within least limit)
-held_by least limit n true true h k = record { number = n; least = leb-true least n h; below = ltb-true n limit k } ∷ []
-held_by least limit n true false h k = []
-held_by least limit n false low h k = []
+abbrev pub if_within : (least limit n : ℕ) (high low : Bool) → nat_le least n ≡ high → nat_lt n limit ≡ low → List (Within least limit)
+if_within least limit n true true h k = record { number = n; least = leb-true least n h; below = ltb-true n limit k } ∷ []
+if_within least limit n true false h k = []
+if_within least limit n false low h k = []
 
 -- those numbers of a list that a field from `least` to below `limit` holds
-unfoldable pub held_in : (least limit : ℕ) → List ℕ → List (Within least limit)
-held_in least limit numbers = flat_map (λ n. held_by least limit n (nat_le least n) (nat_lt n limit) refl refl) numbers
+unfoldable pub those_within : (least limit : ℕ) → List ℕ → List (Within least limit)
+those_within least limit numbers = flat_map (λ n. if_within least limit n (nat_le least n) (nat_lt n limit) refl refl) numbers
 
 -- what is made of each pair or triple, the first part varying slowest; the second part of a triple may depend on the first
 unfoldable pub grid2 : {X Y A : Type 0} → (X → Y → A) → List X → List Y → List A
@@ -77,7 +77,7 @@ rows = kind.Three sum.Add ∷ kind.Three sum.Sub
 
 -- r0 up to below r(k)
 abbrev pub registers : ℕ → List (Within 0 8)
-registers k = held_in 0 8 (numbers_from 0 k)
+registers k = those_within 0 8 (numbers_from 0 k)
 
 -- the same without one
 abbrev pub others : ℕ → Within 0 8 → List (Within 0 8)
@@ -93,10 +93,10 @@ added d m = record { target = wide d; source = wide m; one_other = λ e. absurd 
 -- the instructions of a mnemonic: operands from left to right, the first varying slowest, numbers ascending
 unfoldable pub members : ℕ → List ℕ → Kind → List Instr
 members k pool (kind.Three s) = grid3 (instr.Three s) (registers k) (λ d. registers k) (registers k)
-members k pool (kind.ThreeNumber s) = grid3 (instr.ThreeNumber s) (registers k) (others k) (held_in 0 8 pool)
-members k pool (kind.TwoNumber o) = grid2 (instr.TwoNumber o) (registers k) (held_in 0 256 pool)
-members k pool kind.ShiftLeft = grid3 instr.ShiftLeft (registers k) (λ d. registers k) (held_in 1 32 pool)
-members k pool (kind.ShiftRight s) = grid3 (instr.ShiftRight s) (registers k) (λ d. registers k) (held_in 1 33 pool)
+members k pool (kind.ThreeNumber s) = grid3 (instr.ThreeNumber s) (registers k) (others k) (those_within 0 8 pool)
+members k pool (kind.TwoNumber o) = grid2 (instr.TwoNumber o) (registers k) (those_within 0 256 pool)
+members k pool kind.ShiftLeft = grid3 instr.ShiftLeft (registers k) (λ d. registers k) (those_within 1 32 pool)
+members k pool (kind.ShiftRight s) = grid3 (instr.ShiftRight s) (registers k) (λ d. registers k) (those_within 1 33 pool)
 members k pool (kind.Two o) = grid2 (instr.Two o) (registers k) (registers k)
 members k pool kind.Movs = grid2 instr.Movs (registers k) (registers k)
 members k pool kind.Mov = grid2 (λ d m. instr.Mov (wide d) (wide m)) (registers k) (registers k)

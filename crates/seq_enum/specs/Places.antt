@@ -1,8 +1,8 @@
 -- Places of numbers, of pairs and triples, of mnemonics, and of the instructions of each by their registers and numbers.
 use Rattle.std.specs.Prelude.{ℕ, zero, suc, not, List, [], ◌∷◌, length, filter, slice_get, Option, Some, None, ◌+◌, ◌*◌, ◌/◌, ◌%◌, ◌==◌, if◌then◌else◌}
 use Rattle.std.specs.Option.{option_map, option_and_then}
-use Rattle.thumb_instr.specs.declared.operation.Sum.{Sum}
-use Rattle.thumb_instr.specs.declared.operation.Sum.TheVariants as sum
+use Rattle.thumb_instr.specs.declared.operation.SumOperation.{SumOperation}
+use Rattle.thumb_instr.specs.declared.operation.SumOperation.TheVariants as sum
 use Rattle.thumb_instr.specs.declared.operation.ByteOperation.{ByteOperation}
 use Rattle.thumb_instr.specs.declared.operation.ByteOperation.TheVariants as byte
 use Rattle.thumb_instr.specs.declared.operation.Right.{Right}
@@ -39,7 +39,7 @@ abbrev pub digits3 : {X Y Z A : Type 0} → (X → Y → Z → A) → List X →
 digits3 make xs ys zs m n i = option_and_then (λ x. digits2 (make x) (ys x) zs n (i % (m * n))) (slice_get xs (i / (m * n)))
 
 -- the place of each operation in its enumeration
-abbrev pub sum_rank : Sum → ℕ
+abbrev pub sum_rank : SumOperation → ℕ
 sum_rank sum.Add = 0
 sum_rank sum.Sub = 1
 

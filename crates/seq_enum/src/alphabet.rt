@@ -2,7 +2,7 @@
 ghost use Rattle.std.specs.Prelude.{◌≡◌, ◌≢◌, ◌+◌, ◌-◌, ◌≤◌, ◌<◌, ◌*◌, length, slice_get, IfSome, IsSome, All};
 ghost use Rattle.seq_enum.specs.Places.{rank};
 ghost use Rattle.std.specs.List.{flat_map};
-ghost use Rattle.seq_enum.specs.Alphabet.{IsPlace, held_in, alphabet, members};
+ghost use Rattle.seq_enum.specs.Alphabet.{IsPlace, those_within, alphabet, members};
 ghost use Rattle.seq_enum.specs.Numberings.{IsNumbering};
 
 use crate::members::{member, place_of_parts, size_of};
@@ -17,8 +17,8 @@ pub fn size(k: u8, pool: &Pool) -> u64
     requires some { 0 < k }
     requires few { k ≤ 4 }
     ensures value { result ≡ length (alphabet k pool.now) }
-    ensures formula { result ≡ 2 * (k * k * k) + 2 * (k * ((k - 1) * length (held_in 0 8 pool.now))) + 4 * (k * length pool.now)
-        + k * k * (length (held_in 1 32 pool.now) + 2 * length (held_in 1 33 pool.now) + 26) }
+    ensures formula { result ≡ 2 * (k * k * k) + 2 * (k * ((k - 1) * length (those_within 0 8 pool.now))) + 4 * (k * length pool.now)
+        + k * k * (length (those_within 1 32 pool.now) + 2 * length (those_within 1 33 pool.now) + 26) }
     ensures small { result ≤ 1952 }
 {
     let _numbers = pool.numbers();

@@ -4,7 +4,7 @@ ghost use Rattle.seq_enum.specs.Costs.{AreCosts, cost_in, mnemonic, weight_under
 
 use std::marker::Model;
 use thumb_instr::{
-    ByteOperation, Extension, Instr, Kind, Operation, Reversal, Right, Seq, Sum, parts,
+    ByteOperation, Extension, Instr, Kind, Operation, Reversal, Right, Seq, SumOperation, parts,
 };
 
 /// A cost, 1 to 64, for each of the 28 mnemonics of a window's instructions. The mnemonics in order: adds, subs, movs, cmp, lsls, lsrs, asrs, ands, eors,
@@ -32,10 +32,12 @@ fn mnemonic(kind: Kind) -> usize
     ensures { result ≡ mnemonic kind }
 {
     match kind {
-        Kind::Three(Sum::Add) | Kind::ThreeNumber(Sum::Add) | Kind::TwoNumber(ByteOperation::Add) =>
-            0,
-        Kind::Three(Sum::Sub) | Kind::ThreeNumber(Sum::Sub) | Kind::TwoNumber(ByteOperation::Sub) =>
-            1,
+        Kind::Three(SumOperation::Add)
+        | Kind::ThreeNumber(SumOperation::Add)
+        | Kind::TwoNumber(ByteOperation::Add) => 0,
+        Kind::Three(SumOperation::Sub)
+        | Kind::ThreeNumber(SumOperation::Sub)
+        | Kind::TwoNumber(ByteOperation::Sub) => 1,
         Kind::TwoNumber(ByteOperation::Mov) | Kind::Movs => 2,
         Kind::TwoNumber(ByteOperation::Cmp) | Kind::Two(Operation::Cmp) => 3,
         Kind::ShiftLeft | Kind::Two(Operation::Lsl) => 4,

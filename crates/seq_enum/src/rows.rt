@@ -3,13 +3,13 @@ ghost use Rattle.std.specs.Prelude.{◌≡◌, ◌<◌, length, IfSome, IsSome, 
 ghost use Rattle.seq_enum.specs.Places.{rank};
 ghost use Rattle.seq_enum.specs.Alphabet.{rows};
 
-use thumb_instr::{ByteOperation, Extension, Kind, Operation, Reversal, Right, Sum};
+use thumb_instr::{ByteOperation, Extension, Kind, Operation, Reversal, Right, SumOperation};
 
 static ROWS: [Kind; 37] = [
-    Kind::Three(Sum::Add),
-    Kind::Three(Sum::Sub),
-    Kind::ThreeNumber(Sum::Add),
-    Kind::ThreeNumber(Sum::Sub),
+    Kind::Three(SumOperation::Add),
+    Kind::Three(SumOperation::Sub),
+    Kind::ThreeNumber(SumOperation::Add),
+    Kind::ThreeNumber(SumOperation::Sub),
     Kind::TwoNumber(ByteOperation::Mov),
     Kind::TwoNumber(ByteOperation::Cmp),
     Kind::TwoNumber(ByteOperation::Add),

@@ -6,7 +6,7 @@ use Rattle.thumb_instr.specs.declared.instr.Instr.{Instr}
 use Rattle.thumb_instr.specs.declared.instr.Instr.TheVariants as instr
 use Rattle.thumb_instr.specs.Window.{Low, renamed, is_in_window}
 use Rattle.thumb_instr.proofs.RenamingLemmas.{window_renamed}
-use Rattle.thumb_model.specs.Listing.{Name, Statement, Runs, Line, Place, Op, Word, plain}
+use Rattle.thumb_model.specs.Listing.{Name, Statement, Instruction, ListingLine, Place, Op, Word, plain}
 use Rattle.thumb_model.specs.Layout.{instr_size, size_at, is_among, label_address, set_in, set_address, cleared, or_else, lies_in, fault_at, faults_from, Layable}
 use Rattle.thumb_model.specs.Effect.{AreOver, normalised}
 use Rattle.thumb_model.proofs.Window.{normal_in_window}
@@ -19,15 +19,15 @@ use Rattle.steady_layout.proofs.Cuts.{most, IsNoLonger, ending_is, look_bare, lo
 
 -- ---- the definitions' layout is that of the greatest sizes ----
 
-ends_so : (here : Start) (ls : List Line) → widest_end here ls ≡ ending most here ls
+ends_so : (here : Start) (ls : List ListingLine) → widest_end here ls ≡ ending most here ls
 ends_so here [] = refl
 ends_so here (l ∷ ls) = ends_so (after most here l.statement) ls
 
-labels_so : (name : Name) (here : Start) (ls : List Line) → label_start name here ls ≡ look most name here ls
+labels_so : (name : Name) (here : Start) (ls : List ListingLine) → label_start name here ls ≡ look most name here ls
 labels_so name here [] = refl
 labels_so name here (l ∷ ls) = ap (λ o. if is_among name l.names then Some here else o) (labels_so name (after most here l.statement) ls)
 
-steady_so : (labels : Name → Option Start) (sets : Name → Option ℕ) (base : ℕ) (here : Start) (ls : List Line) → all_steady labels sets base here ls ≡ steady_by most labels sets base here ls
+steady_so : (labels : Name → Option Start) (sets : Name → Option ℕ) (base : ℕ) (here : Start) (ls : List ListingLine) → all_steady labels sets base here ls ≡ steady_by most labels sets base here ls
 steady_so labels sets base here [] = refl
 steady_so labels sets base here (l ∷ ls) = ap (λ b. steady_at labels sets base here l.statement && b) (steady_so labels sets base (after most here l.statement) ls)
 
@@ -39,14 +39,14 @@ widest_less = record { less = λ s a b. size_most s b; some_old = λ i m a. some
 told_step : (here : Start) (s : Statement) → IsTold here → IsTold (after size_at here s)
 told_step here s t e = ends_told s here.aligned here.at t e
 
-told_labels : (name : Name) (here : Start) (ls : List Line) → IsTold here → AreTold (look size_at name here ls)
+told_labels : (name : Name) (here : Start) (ls : List ListingLine) → IsTold here → AreTold (look size_at name here ls)
 told_labels name here [] t = tt
 told_labels name here (l ∷ ls) t = elim (cases_Bool (is_among name l.names)) [
   | inl h ↦ rw h t
   | inr h ↦ rw h (told_labels name (after size_at here l.statement) ls (told_step here l.statement t))
 ]
 
-addresses_so : (name : Name) (here : Start) (ls : List Line) → label_address name here.at ls ≡ address_of (look size_at name here ls)
+addresses_so : (name : Name) (here : Start) (ls : List ListingLine) → label_address name here.at ls ≡ address_of (look size_at name here ls)
 addresses_so name here [] = refl
 addresses_so name here (l ∷ ls) = elim (cases_Bool (is_among name l.names)) [
   | inl h ↦ rw h refl
@@ -55,11 +55,11 @@ addresses_so name here (l ∷ ls) = elim (cases_Bool (is_among name l.names)) [
 
 statement_free : (labels : Name → Option Start) (sets lies : Name → Option ℕ) (base : ℕ) (here : Start) (s : Statement) → ((name : Name) → AreTold (labels name)) → ((name : Name) → lies name ≡ or_else (address_of (labels name)) (sets name))
     → steady_at labels sets base here s ≡ true → fault_at lies here.at s ≡ None
-statement_free labels sets lies base here (Runs i (Some m)) t is e = rw (is m.name) (aim_free base here i (labels m.name) (sets m.name) m.plus (t m.name) e)
+statement_free labels sets lies base here (Instruction i (Some m)) t is e = rw (is m.name) (aim_free base here i (labels m.name) (sets m.name) m.plus (t m.name) e)
 statement_free labels sets lies base here s t is e = refl
 
 lines_free : (labels : Name → Option Start) (sets lies : Name → Option ℕ) (base : ℕ) → ((name : Name) → AreTold (labels name)) → ((name : Name) → lies name ≡ or_else (address_of (labels name)) (sets name))
-    → (ls : List Line) (here : Start) (n : ℕ) → steady_by size_at labels sets base here ls ≡ true → faults_from lies n here.at ls ≡ None
+    → (ls : List ListingLine) (here : Start) (n : ℕ) → steady_by size_at labels sets base here ls ≡ true → faults_from lies n here.at ls ≡ None
 lines_free labels sets lies base t is [] here n e = refl
 lines_free labels sets lies base t is (l ∷ ls) here n e =
     let p = and_parts _ _ e in
@@ -68,7 +68,7 @@ lines_free labels sets lies base t is (l ∷ ls) here n e =
 same_within : (here : Start) → IsWithin here here
 same_within here = record { at = omega arith; aligned = λ e. e }
 
-pub steady_is_layable : (base : ℕ) (ls : List Line) → base % 4 ≡ 0 → IsSteady base ls → Layable base ls
+pub steady_is_layable : (base : ℕ) (ls : List ListingLine) → base % 4 ≡ 0 → IsSteady base ls → Layable base ls
 steady_is_layable base ls whole h =
     let start : Start = first base in
     let old : Name → Option Start = labels_in base ls in
@@ -84,31 +84,31 @@ steady_is_layable base ls whole h =
 most_less : AreLess most most
 most_less = record { less = λ s a b. omega arith; some_old = λ i m a. some_bytes i; some_new = λ i m a. some_bytes i }
 
-same_tails : (ls : List Line) → Tails most most ls ls
+same_tails : (ls : List ListingLine) → Tails most most ls ls
 same_tails ls = subst (λ x. Tails most most x x) (append-nil ls) (ahead most most most_less [] [] (no_tails most most) ls)
 
-run_within : (old new : List Line) → IsNoLonger old new → (o n : Start) → IsWithin o n → IsWithin (ending most o old) (ending most n new)
+run_within : (old new : List ListingLine) → IsNoLonger old new → (o n : Start) → IsWithin o n → IsWithin (ending most o old) (ending most n new)
 run_within old new r o n w = rw (ending_is o old, ending_is n new) (record { at = let b = r.bytes in let a = w.at in omega arith; aligned = r.aligned o.aligned n.aligned w.aligned })
 
-run_later : (old new : List Line) → IsNoLonger old new → (o n : Start) → IsLater o n (ending most o old) (ending most n new)
+run_later : (old new : List ListingLine) → IsNoLonger old new → (o n : Start) → IsLater o n (ending most o old) (ending most n new)
 run_later old new r o n = rw (ending_is o old, ending_is n new) (record { old = omega arith; new = omega arith; nearer = let b = r.bytes in omega arith })
 
-run_tails : (old new back : List Line) → IsNoLonger old new → Tails most most (old ++ back) (new ++ back)
+run_tails : (old new back : List ListingLine) → IsNoLonger old new → Tails most most (old ++ back) (new ++ back)
 run_tails old new back r name o n w =
     rw (look_unnamed name o old back r.unnamed_old, look_bare name n new back r.bare_new)
     (ahead_earlier o n (ending most o old) (ending most n new) _ _ (run_later old new r o n) (same_tails back name (ending most o old) (ending most n new) (run_within old new r o n w)))
 
-run_known : (old new back : List Line) → IsNoLonger old new → (lo ln : Name → Option Start) (o n : Start) → Known most most lo ln o n (old ++ back) (new ++ back) → Known most most lo ln (ending most o old) (ending most n new) back back
+run_known : (old new back : List ListingLine) → IsNoLonger old new → (lo ln : Name → Option Start) (o n : Start) → Known most most lo ln o n (old ++ back) (new ++ back) → Known most most lo ln (ending most o old) (ending most n new) back back
 run_known old new back r lo ln o n k name = elim (k name) [
   | inl b ↦ inl (backs_later o n (ending most o old) (ending most n new) (lo name) (ln name) (run_later old new r o n) b)
   | inr e ↦ inr (e.0 ∙ look_unnamed name o old back r.unnamed_old, e.1 ∙ look_bare name n new back r.bare_new)
 ]
 
-front_sets : (name : Name) (xs ys zs : List Line) → set_address name ys ≡ set_address name zs → set_address name (xs ++ ys) ≡ set_address name (xs ++ zs)
+front_sets : (name : Name) (xs ys zs : List ListingLine) → set_address name ys ≡ set_address name zs → set_address name (xs ++ ys) ≡ set_address name (xs ++ zs)
 front_sets name [] ys zs e = e
 front_sets name (x ∷ xs) ys zs e = ap (set_in name x.statement) (front_sets name xs ys zs e)
 
-pub cut_stays : (base : ℕ) (ls news : List Line) → IsCut ls news → IsSteady base ls → IsSteady base news
+pub cut_stays : (base : ℕ) (ls news : List ListingLine) → IsCut ls news → IsSteady base ls → IsSteady base news
 cut_stays base ls news c h =
     let r = c.no_longer in
     let start : Start = first base in
@@ -116,8 +116,8 @@ cut_stays base ls news c h =
     let ln : Name → Option Start = labels_in base news in
     let zo : Name → Option ℕ = sets_in ls in
     let zn : Name → Option ℕ = sets_in news in
-    let olds : List Line = c.old ++ c.back in
-    let rest : List Line = c.new ++ c.back in
+    let olds : List ListingLine = c.old ++ c.back in
+    let rest : List ListingLine = c.new ++ c.back in
     let same : (name : Name) → zo name ≡ zn name = λ name. ap cleared (c.alike.sets name ∙ front_sets name c.front olds rest (r.sets name c.back) ∙ ap (set_address name) (sym c.is_new)) in
     let whole : steady_by most lo zo base start (c.front ++ olds) ≡ true = sym (c.alike.steady lo zo base start) ∙ sym (steady_so lo zo base start ls) ∙ h.steady in
     let parts = and_parts _ _ (sym (steady_append most lo zo base start c.front olds) ∙ whole) in

@@ -6,7 +6,7 @@ use Rattle.std.proofs.lemmas.Nat.{mod_below, div-add-mod', mod-mul-add, mul-mod_
 use Rattle.std.proofs.Math.Nat.{mod-eq_of_lt, suc-mul}
 use Rattle.thumb_instr.specs.declared.instr.Instr.{Instr}
 use Rattle.thumb_instr.specs.declared.instr.Instr.TheVariants as instr
-use Rattle.thumb_model.specs.Listing.{Statement, Runs, Aligns}
+use Rattle.thumb_model.specs.Listing.{Statement, Instruction, Aligns}
 use Rattle.thumb_model.specs.Layout.{instr_size, padding, size_at}
 use Rattle.steady_layout.specs.Steady.{most_of, aligns_surely, ends_aligned}
 
@@ -78,7 +78,7 @@ padded size most at e =
     rw (le-leb (need size at) most (omega arith)) (multiple size r.0 (at + need size at) (eqb-true (size % 4) 0 q.0) r.1)
 
 pub ends_told : (s : Statement) (aligned : Bool) (at : ℕ) → (aligned ≡ true → at % 4 ≡ 0) → ends_aligned aligned s ≡ true → (at + size_at s at) % 4 ≡ 0
-ends_told (Runs i m) aligned at h e =
+ends_told (Instruction i m) aligned at h e =
     let p = and_parts aligned (instr_size i == 4) e in
     let a = h p.0 in
     let four = eqb-true (instr_size i) 4 p.1 in

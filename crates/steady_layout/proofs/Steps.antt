@@ -2,11 +2,11 @@
 use Rattle.std.proofs.Common.{◌≡◌, inl, inr, ℕ, ◌+◌, ◌≤◌, List, [], ◌∷◌, Some, None, arith, if◌then◌else◌}
 use Rattle.std.specs.Prelude.{nat_le}
 use Rattle.std.proofs.lemmas.Bool.{cases_Bool, leb-true, le-leb}
-use Rattle.thumb_model.specs.Listing.{Statement, Line}
+use Rattle.thumb_model.specs.Listing.{Statement, ListingLine}
 use Rattle.steady_layout.specs.declared.starts.Start.{Start}
 use Rattle.steady_layout.specs.Steady.{most_of, behind, widest_end}
 
-pub at_end : (here : Start) (ls : List Line) → here.at ≤ (widest_end here ls).at
+pub at_end : (here : Start) (ls : List ListingLine) → here.at ≤ (widest_end here ls).at
 at_end here [] = omega arith
 at_end here (l ∷ ls) = let h = at_end (behind here l.statement) ls in omega arith
 

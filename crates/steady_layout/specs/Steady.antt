@@ -2,7 +2,7 @@
 use Rattle.std.specs.Prelude.{◌≡◌, ℕ, ◌+◌, ◌-◌, ◌*◌, ◌%◌, ◌^◌, ◌≤◌, ◌==◌, ◌&&◌, nat_le, nat_lt, min, is_none, Bool, true, List, [], ◌∷◌, length, Option, Some, None, if◌then◌else◌}
 use Rattle.thumb_instr.specs.declared.instr.Instr.{Instr}
 use Rattle.thumb_instr.specs.declared.instr.Instr.TheVariants as instr
-use Rattle.thumb_model.specs.Listing.{Name, Mention, Statement, Nothing, Runs, Words, Aligns, Sets, Line}
+use Rattle.thumb_model.specs.Listing.{Name, Mention, Statement, Nothing, Instruction, Words, Aligns, Sets, ListingLine}
 use Rattle.thumb_model.specs.Layout.{instr_size, is_among, set_address, cleared, branch_fault}
 use Rattle.steady_layout.specs.declared.starts.Start.{Start}
 
@@ -11,7 +11,7 @@ use Rattle.steady_layout.specs.declared.starts.Start.{Start}
 -- the most bytes that a statement takes, wherever it lies
 abbrev pub most_of : Statement → ℕ
 most_of Nothing = 0
-most_of (Runs i mention) = instr_size i
+most_of (Instruction i mention) = instr_size i
 most_of (Words vs) = 4 * length vs
 most_of (Aligns size most) = min most (size - 1)
 most_of (Sets name address) = 0
@@ -23,7 +23,7 @@ aligns_surely size most = nat_lt 0 size && (size % 4 == 0 && nat_le (size - 1) m
 -- whether a statement surely ends at a multiple of 4, given whether it surely begins at one
 abbrev pub ends_aligned : Bool → Statement → Bool
 ends_aligned before Nothing = before
-ends_aligned before (Runs i mention) = before && instr_size i == 4
+ends_aligned before (Instruction i mention) = before && instr_size i == 4
 ends_aligned before (Words vs) = before
 ends_aligned before (Aligns size most) = aligns_surely size most
 ends_aligned before (Sets name address) = before
@@ -32,11 +32,11 @@ ends_aligned before (Sets name address) = before
 abbrev pub behind : Start → Statement → Start
 behind here s = record { at = here.at + most_of s; aligned = ends_aligned here.aligned s }
 
-abbrev pub widest_end : Start → List Line → Start
+abbrev pub widest_end : Start → List ListingLine → Start
 widest_end here [] = here
 widest_end here (l ∷ ls) = widest_end (behind here l.statement) ls
 
-abbrev pub label_start : Name → Start → List Line → Option Start
+abbrev pub label_start : Name → Start → List ListingLine → Option Start
 label_start name here [] = None
 label_start name here (l ∷ ls) = if is_among name l.names then Some here else label_start name (behind here l.statement) ls
 
@@ -75,23 +75,23 @@ steady_instr labels sets base here i (Some m) = steady_aim base here i (labels m
 
 abbrev pub steady_at : (Name → Option Start) → (Name → Option ℕ) → ℕ → Start → Statement → Bool
 steady_at labels sets base here Nothing = true
-steady_at labels sets base here (Runs i mention) = steady_instr labels sets base here i mention
+steady_at labels sets base here (Instruction i mention) = steady_instr labels sets base here i mention
 steady_at labels sets base here (Words vs) = true
 steady_at labels sets base here (Aligns size most) = true
 steady_at labels sets base here (Sets name address) = true
 
-abbrev pub all_steady : (Name → Option Start) → (Name → Option ℕ) → ℕ → Start → List Line → Bool
+abbrev pub all_steady : (Name → Option Start) → (Name → Option ℕ) → ℕ → Start → List ListingLine → Bool
 all_steady labels sets base here [] = true
 all_steady labels sets base here (l ∷ ls) = steady_at labels sets base here l.statement && all_steady labels sets base (behind here l.statement) ls
 
 -- where the names of lines lie in the widest layout, and the addresses that are set for names, with bit 0 cleared
-abbrev pub labels_in : ℕ → List Line → Name → Option Start
+abbrev pub labels_in : ℕ → List ListingLine → Name → Option Start
 labels_in base ls name = label_start name (first base) ls
 
-abbrev pub sets_in : List Line → Name → Option ℕ
+abbrev pub sets_in : List ListingLine → Name → Option ℕ
 sets_in ls name = cleared (set_address name ls)
 
 -- the widest layout ends within the Code region (0x00000000 to 0x1FFFFFFF), and each mention in it stays within reach
-pub record IsSteady (base : ℕ) (ls : List Line) : Type 0 where
+pub record IsSteady (base : ℕ) (ls : List ListingLine) : Type 0 where
   pub in_code : (widest_end (first base) ls).at ≤ 2 ^ 29
   pub steady : all_steady (labels_in base ls) (sets_in ls) base (first base) ls ≡ true

@@ -112,7 +112,7 @@ pub fn is_steady_at(
     ensures { result ≡ steady_at (labels_in base listing.now) (sets_in listing.now) base here (statement_view statement.now) }
 {
     match statement {
-        Statement::Runs {
+        Statement::Instruction {
             instr,
             mention: Some(mention),
         } => is_steady_mention(starts, listing, base, here, instr, mention),

@@ -6,11 +6,15 @@ ghost use Rattle.steady_layout.specs.Starts.{AreStarts};
 
 use crate::starts::{Start, next_start};
 use label_layout::CODE_END;
-use listing_parser::{Line, Memory};
+use listing_parser::{ListingLine, Memory};
 use std::alloc::Global;
 
 /// Where each line begins in the widest layout of lines that begin at the base: None exactly where it ends behind the Code region.
-pub fn lay_widest(alloc: Global, lines: &[Line], base: u32) -> Result<Option<Vec<Start>>, Memory>
+pub fn lay_widest(
+    alloc: Global,
+    lines: &[ListingLine],
+    base: u32,
+) -> Result<Option<Vec<Start>>, Memory>
     ensures { IfOk result (λ found. MatchOption found ((widest_end (first base) (map line_view lines.now)).at ≤ 2 ^ 29 → ⊥) (λ starts. AreStarts base (map line_view lines.now) starts.items)) }
 {
     if base > CODE_END {

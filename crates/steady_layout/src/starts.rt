@@ -54,7 +54,7 @@ fn furthest(statement: &Statement, at: u32) -> Option<u32>
 {
     match statement {
         Statement::Nothing | Statement::Sets { .. } => Some(at),
-        Statement::Runs { instr, .. } => further(at, instr_size(instr)),
+        Statement::Instruction { instr, .. } => further(at, instr_size(instr)),
         Statement::Words(values) => further_words(at, values.len()),
         Statement::Aligns { size, most } => further(at, most_padding(*size, *most)),
     }
@@ -72,7 +72,7 @@ fn ends_aligned(aligned: bool, statement: &Statement) -> bool
     ensures { result ≡ stays_aligned aligned (statement_view statement.now) }
 {
     match statement {
-        Statement::Runs { instr, .. } => aligned && instr_size(instr) == 4,
+        Statement::Instruction { instr, .. } => aligned && instr_size(instr) == 4,
         Statement::Aligns { size, most } => aligns_surely(*size, *most),
         _ => aligned,
     }

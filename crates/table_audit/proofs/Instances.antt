@@ -18,7 +18,7 @@ use Rattle.bit_blast.specs.Slots.{Byte, IsValue, filled, slot, slots, instance}
 use Rattle.bit_blast.proofs.Holes.{by_test, slots_over, filled_over, side_length, side_named, side_window}
 use Rattle.seq_enum.specs.Alphabet.{numbers_from, inside}
 use Rattle.seq_enum.proofs.Numbered.{numbers_at, get_front, get_back}
-use Rattle.seq_enum.proofs.Fields.{numbers, held_numbers, number_by}
+use Rattle.seq_enum.proofs.Fields.{numbers, within_numbers, number_by}
 use Rattle.rule_table.specs.Canonical.{appearing}
 use Rattle.rule_table.specs.Table.{Rule, Family, Table}
 use Rattle.proof_logs.proofs.Turns.{turn_each}
@@ -151,7 +151,7 @@ byte_at first (suc count) i n e = elim (leb_tells 256 first) [
 pub values_at : (f : Family) (i : ℕ) (x : Byte) → slice_get (values_of f) i ≡ Some x → (x.number ≡ f.low + i) × IsValue (symbol_of f) x
 values_at f i x at =
     let count = f.high + 1 - f.low in
-    let stands = number_by (values_of f) (filter (inside 0 256) (numbers_from f.low count)) (held_numbers 0 256 (numbers_from f.low count)) i x at in
+    let stands = number_by (values_of f) (filter (inside 0 256) (numbers_from f.low count)) (within_numbers 0 256 (numbers_from f.low count)) i x at in
     let is = byte_at f.low count i x.number stands in
     (is.0, (omega (arith, is.0), omega (arith, is.0, is.1)))
 
@@ -162,7 +162,7 @@ value_there f x bytes within = go (slice_get (values_of f) (x.number - f.low)) r
     here : slice_get (numbers (values_of f)) (x.number - f.low) ≡ Some x.number
     here =
         let count = f.high + 1 - f.low in
-        let all : numbers (values_of f) ≡ numbers_from f.low count = held_numbers 0 256 (numbers_from f.low count) ∙ all_bytes f.low count (omega (arith, bytes, within.0, within.1)) in
+        let all : numbers (values_of f) ≡ numbers_from f.low count = within_numbers 0 256 (numbers_from f.low count) ∙ all_bytes f.low count (omega (arith, bytes, within.0, within.1)) in
         let is : f.low + (x.number - f.low) ≡ x.number = omega (arith, within.0) in
         ap (λ ns. slice_get ns (x.number - f.low)) all ∙ numbers_at f.low count (x.number - f.low) (omega (arith, within.0, within.1)) ∙ ap Some is
 

@@ -9,7 +9,7 @@ use Rattle.bit_blast.specs.declared.slots.Slot.{Slot}
 use Rattle.bit_blast.specs.declared.slots.Symbol.{Symbol}
 use Rattle.bit_blast.specs.Slots.{Byte, IsValue, filled, instance}
 use Rattle.bit_blast.specs.Differences.{family_formula}
-use Rattle.seq_enum.specs.Alphabet.{numbers_from, held_in}
+use Rattle.seq_enum.specs.Alphabet.{numbers_from, those_within}
 use Rattle.rule_table.specs.Header.{Header}
 use Rattle.rule_table.specs.Table.{Rule, Family, Table}
 use Rattle.table_audit.specs.Shorter.{alphabet_registers, IsBelow, is_named}
@@ -44,7 +44,7 @@ symbol_of f = record { number = f.number; low = f.low; high = f.high }
 
 -- the values of the range, in order
 abbrev pub values_of : Family → List Byte
-values_of f = held_in 0 256 (numbers_from f.low (f.high + 1 - f.low))
+values_of f = those_within 0 256 (numbers_from f.low (f.high + 1 - f.low))
 
 -- an entry's rule with a value in the holes for a number
 abbrev pub raised : ℕ → Rule → Byte → Rule

@@ -24,7 +24,7 @@ use Rattle.table_audit.proofs.Fitting.{are_over, ordered_of}
 use Rattle.table_audit.proofs.Walking.{over_more}
 use Rattle.rule_table.specs.declared.header.Field.{Field}
 use Rattle.rule_table.specs.declared.header.Field.TheVariants as field
-use Rattle.rule_table.specs.declared.header.Head.TheVariants.{Number}
+use Rattle.rule_table.specs.declared.header.HeaderLine.TheVariants.{Number}
 use Rattle.rule_table.specs.Header.{number_in, has_line, blank, IsWithin, IsHeader}
 use Rattle.table_learn.specs.Learnt.{Settings, Window, Learnt, TellsFirst, AreEarned, learnt_from, KeepsOrLowers, IsProvedBySolver, IsOpenBySolver, IsSpentSearch}
 use Rattle.table_learn.specs.Given.{IsVersionFor, AreInLimits}

@@ -1,7 +1,7 @@
 -- How many sequences there are, at more registers and more instructions.
 use Rattle.std.proofs.Common.{◌≡◌, ℕ, zero, suc, ◌+◌, ◌-◌, ◌*◌, ◌^◌, ◌<◌, ◌≤◌, List, length, sym, subst, arith}
 use Rattle.std.proofs.Math.Nat.{le_refl, le_trans, mul-le-mul, pow-le-pow_left}
-use Rattle.seq_enum.specs.Alphabet.{held_in, alphabet}
+use Rattle.seq_enum.specs.Alphabet.{those_within, alphabet}
 use Rattle.seq_enum.specs.Places.{sum_below}
 use Rattle.seq_enum.proofs.Mnemonics.{size_formula}
 use Rattle.table_audit.specs.Shorter.{sequences_below}
@@ -49,7 +49,7 @@ unfolding size_at
 alphabet_more k m pool some h few =
     let e = size_formula k pool (omega (arith, h, few)) in
     let f = size_formula m pool (omega (arith, few)) in
-    let g = size_more (length (held_in 0 8 pool)) (length (held_in 0 256 pool)) (length (held_in 1 32 pool)) (length (held_in 1 33 pool)) k m some h few in
+    let g = size_more (length (those_within 0 8 pool)) (length (those_within 0 256 pool)) (length (those_within 1 32 pool)) (length (those_within 1 33 pool)) k m some h few in
     rw (e, f) g
 
 -- each mnemonic of two registers or one has a letter

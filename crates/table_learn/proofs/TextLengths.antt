@@ -20,8 +20,8 @@ use Rattle.seq_enum.proofs.Bounds.{bounds}
 use Rattle.window_exec.specs.State.{Seen}
 use Rattle.rule_table.specs.declared.header.Field.{Field}
 use Rattle.rule_table.specs.declared.header.Field.TheVariants as field
-use Rattle.rule_table.specs.declared.header.Head.{Head}
-use Rattle.rule_table.specs.declared.header.Head.TheVariants as head
+use Rattle.rule_table.specs.declared.header.HeaderLine.{HeaderLine}
+use Rattle.rule_table.specs.declared.header.HeaderLine.TheVariants as head
 use Rattle.rule_table.specs.Header.{Header, heads, has_line, number_in, row, IsWithin, IsHeader}
 use Rattle.rule_table.specs.Table.{Opened, Rule, Table, IsState}
 use Rattle.rule_table.proofs.LinesTell.{within_small}
@@ -249,7 +249,7 @@ row_line : (f : Field) (n : ℕ) → IsWithin f n → lines_length (Number f n �
 row_line f n is = numbered_line (Number f n) (row f).word n refl (within_small f n is)
 
 -- the numbers' lines, the pool's and that of the costs
-head_short : (h : Header) → IsHeader h → (line : Head) → lines_length (said h line ∷ []) ≤ 600
+head_short : (h : Header) → IsHeader h → (line : HeaderLine) → lines_length (said h line ∷ []) ≤ 600
 head_short h is (head.Number f) = omega (arith, row_line f (number_in h f) (is.numbers f), short_word f)
 head_short h is head.Pool =
     let p = bounds h.pool is.pool in
@@ -264,13 +264,13 @@ head_short h is head.Costs =
     let q = costs_length h.costs is.costs in
     omega (arith, one, z, q)
 
-line_short : (h : Header) → IsHeader h → (line : Head) → lines_length (line_items h line) ≤ 600
+line_short : (h : Header) → IsHeader h → (line : HeaderLine) → lines_length (line_items h line) ≤ 600
 line_short h is line = elim (cases_Bool (has_line h.version line)) [
   | inl e ↦ rw e (head_short h is line)
   | inr e ↦ rw e (let none = no_line in omega (arith, none))
 ]
 
-heads_short : (h : Header) → IsHeader h → (lines : List Head) → lines_length (flat_map (line_items h) lines) ≤ 600 * length lines
+heads_short : (h : Header) → IsHeader h → (lines : List HeaderLine) → lines_length (flat_map (line_items h) lines) ≤ 600 * length lines
 heads_short h is [] = (let none = no_line in omega (arith, none))
 heads_short h is (line ∷ lines) =
     let both = lines-append (line_items h line) (flat_map (line_items h) lines) in

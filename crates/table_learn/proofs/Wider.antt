@@ -6,7 +6,7 @@ use Rattle.thumb_instr.specs.declared.instr.Instr.{Instr}
 use Rattle.thumb_instr.specs.declared.instr.Instr.TheVariants as instr
 use Rattle.thumb_instr.specs.declared.kind.Kind.{Kind}
 use Rattle.thumb_instr.specs.declared.kind.Kind.TheVariants as kind
-use Rattle.seq_enum.specs.Alphabet.{numbers_from, held_in, grid2, grid3, rows, registers, others, wide, added, members, alphabet, IsOver}
+use Rattle.seq_enum.specs.Alphabet.{numbers_from, those_within, grid2, grid3, rows, registers, others, wide, added, members, alphabet, IsOver}
 use Rattle.table_learn.proofs.Elements.{none_in, first_or, here_in, later_in, from_flat, to_flat, from_map, to_map, from_filter, to_filter}
 
 -- each element of the one list is one of the other
@@ -42,7 +42,7 @@ more_numbers first (suc k) (suc m) h x c = elim (first_or first (numbers_from (s
 ]
 
 more_registers : (k m : ℕ) → k ≤ m → Are (registers k) (registers m)
-unfolding held_in
+unfolding those_within
 more_registers k m h = more_flat _ _ (numbers_from 0 k) (numbers_from 0 m) (more_numbers 0 k m h) (λ n x c. c)
 
 -- ---- letters ----
@@ -50,10 +50,10 @@ more_registers k m h = more_flat _ _ (numbers_from 0 k) (numbers_from 0 m) (more
 more_members : (k m : ℕ) (pool : List ℕ) (t : Kind) → Are (registers k) (registers m) → Are (members k pool t) (members m pool t)
 unfolding members
 more_members k m pool (kind.Three s) r = more_grid3 (instr.Three s) (registers k) (registers m) (λ d. registers k) (λ d. registers m) (registers k) (registers m) r (λ d. r) r
-more_members k m pool (kind.ThreeNumber s) r = more_grid3 (instr.ThreeNumber s) (registers k) (registers m) (others k) (others m) (held_in 0 8 pool) (held_in 0 8 pool) r (λ d. more_filter _ (registers k) (registers m) r) (λ z c. c)
-more_members k m pool (kind.TwoNumber o) r = more_grid2 (instr.TwoNumber o) (registers k) (registers m) (held_in 0 256 pool) (held_in 0 256 pool) r (λ z c. c)
-more_members k m pool kind.ShiftLeft r = more_grid3 instr.ShiftLeft (registers k) (registers m) (λ d. registers k) (λ d. registers m) (held_in 1 32 pool) (held_in 1 32 pool) r (λ d. r) (λ z c. c)
-more_members k m pool (kind.ShiftRight s) r = more_grid3 (instr.ShiftRight s) (registers k) (registers m) (λ d. registers k) (λ d. registers m) (held_in 1 33 pool) (held_in 1 33 pool) r (λ d. r) (λ z c. c)
+more_members k m pool (kind.ThreeNumber s) r = more_grid3 (instr.ThreeNumber s) (registers k) (registers m) (others k) (others m) (those_within 0 8 pool) (those_within 0 8 pool) r (λ d. more_filter _ (registers k) (registers m) r) (λ z c. c)
+more_members k m pool (kind.TwoNumber o) r = more_grid2 (instr.TwoNumber o) (registers k) (registers m) (those_within 0 256 pool) (those_within 0 256 pool) r (λ z c. c)
+more_members k m pool kind.ShiftLeft r = more_grid3 instr.ShiftLeft (registers k) (registers m) (λ d. registers k) (λ d. registers m) (those_within 1 32 pool) (those_within 1 32 pool) r (λ d. r) (λ z c. c)
+more_members k m pool (kind.ShiftRight s) r = more_grid3 (instr.ShiftRight s) (registers k) (registers m) (λ d. registers k) (λ d. registers m) (those_within 1 33 pool) (those_within 1 33 pool) r (λ d. r) (λ z c. c)
 more_members k m pool (kind.Two o) r = more_grid2 (instr.Two o) (registers k) (registers m) (registers k) (registers m) r r
 more_members k m pool kind.Movs r = more_grid2 instr.Movs (registers k) (registers m) (registers k) (registers m) r r
 more_members k m pool kind.Mov r = more_grid2 (λ d n. instr.Mov (wide d) (wide n)) (registers k) (registers m) (registers k) (registers m) r r

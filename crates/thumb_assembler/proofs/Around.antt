@@ -8,7 +8,7 @@ use Rattle.thumb_instr.specs.declared.instr.Instr.{Instr}
 use Rattle.thumb_instr.specs.declared.instr.Instr.TheVariants as instr
 use Rattle.thumb_instr.specs.Items.{bytes_of}
 use Rattle.thumb_syntax.specs.Whole.{is_whole}
-use Rattle.thumb_model.specs.Listing.{Name, Mention, Statement, Runs, Line, Place, Op, Code, places_in, places_of, labels_from, code_of, place_of, is_op_place, has_label, place_mentions, is_mentioned, is_call_instr, call_count}
+use Rattle.thumb_model.specs.Listing.{Name, Mention, Statement, Instruction, ListingLine, Place, Op, Code, places_in, places_of, labels_from, code_of, place_of, is_op_place, has_label, place_mentions, is_mentioned, is_call_instr, call_count}
 use Rattle.thumb_model.specs.Layout.{instr_size, size_at, end_of, is_among, label_address, set_address, cleared, or_else, lies_in, distance, literal_base}
 use Rattle.thumb_model.specs.Naming.{Naming, Fits, points, is_in_range, laid, word_by}
 use Rattle.thumb_model.specs.States.{World, Around, Inside, External}
@@ -54,11 +54,11 @@ no_flaw : (n : ℕ) (o : Option Flaw) (rest : Option (ℕ × Flaw)) → or_first
 no_flaw n None rest e = (refl, e)
 no_flaw n (Some f) rest e = absurd (let bad : Some (n, f) ≡ None = e in cc)
 
-flawless : (base : ℕ) (all : List Line) (n : ℕ) (before after : List Line) (l : Line) → flaws_from base all n (before ++ l ∷ after) ≡ None → flaw_of base all l.statement ≡ None
+flawless : (base : ℕ) (all : List ListingLine) (n : ℕ) (before after : List ListingLine) (l : ListingLine) → flaws_from base all n (before ++ l ∷ after) ≡ None → flaw_of base all l.statement ≡ None
 flawless base all n [] after l e = (no_flaw n (flaw_of base all l.statement) (flaws_from base all (n + 1) after) e).0
 flawless base all n (b ∷ bs) after l e = flawless base all (n + 1) bs after l (no_flaw n (flaw_of base all b.statement) (flaws_from base all (n + 1) (bs ++ l ∷ after)) e).1
 
-pub labelled : (name : Name) (p at : ℕ) (ls : List Line) → has_label name (labels_from p ls) ≡ is_some (label_address name at ls)
+pub labelled : (name : Name) (p at : ℕ) (ls : List ListingLine) → has_label name (labels_from p ls) ≡ is_some (label_address name at ls)
 labelled name p at [] = refl
 labelled name p at (l ∷ ls) = elim (cases_Bool (is_among name l.names)) [
   | inl t ↦ label_among name p l.names _ ∙ rw t refl
@@ -73,7 +73,7 @@ mentioned_at name (p ∷ ps) zero i m e s =
     ap (λ (x : Place). place_mentions name x || is_mentioned name ps) is ∙ ap (λ (b : Bool). b || is_mentioned name ps) ((bytes_eq-Decides name m.name).1 s)
 mentioned_at name (p ∷ ps) (suc q) i m e s = or_right (place_mentions name p) (is_mentioned name ps) (mentioned_at name ps q i m e s)
 
-module _ (base : ℕ) (set : Name → ℕ) (all : List Line) (bytes : List ℕ) (made : IsAssembled base all bytes) (given : IsSetBy all set) (fits : Fits (laid base set all) (code_of all)) where
+module _ (base : ℕ) (set : Name → ℕ) (all : List ListingLine) (bytes : List ℕ) (made : IsAssembled base all bytes) (given : IsSetBy all set) (fits : Fits (laid base set all) (code_of all)) where
   abbrev names : Naming
   names = laid base set all
 
@@ -177,7 +177,7 @@ module _ (base : ℕ) (set : Name → ℕ) (all : List Line) (bytes : List ℕ) 
         let none = unlabelled m.name base all e in
         let a = and_parts (m.plus % 4 == 0) (nat_le m.plus 1020 && reaches (from_label m.name all) (m.plus / 4)) f in
         let b = and_parts (nat_le m.plus 1020) (reaches (from_label m.name all) (m.plus / 4)) a.1 in
-        absurd (true≢false (sym b.1 ∙ ap (λ (ls : List Line). reaches ls (m.plus / 4)) none))
+        absurd (true≢false (sym b.1 ∙ ap (λ (ls : List ListingLine). reaches ls (m.plus / 4)) none))
     by (Some a) e =
         let lies : mention_lies base names all m ≡ a + m.plus = ap (λ (o : Option ℕ). lies_at names o (names.word_of m.name) + m.plus) e in
         let same : a ≡ mention_lies base names all m - m.plus = omega arith in
@@ -186,7 +186,7 @@ module _ (base : ℕ) (set : Name → ℕ) (all : List Line) (bytes : List ℕ) 
         let x = and_parts (m.plus % 4 == 0) (nat_le m.plus 1020 && reaches (from_label m.name all) (m.plus / 4)) f in
         let four : m.plus % 4 ≡ 0 = eqb-true (m.plus % 4) 0 x.0 in
         let r = and_parts (nat_le m.plus 1020) (reaches (from_label m.name all) (m.plus / 4)) x.1 in
-        let there : reaches c.after (m.plus / 4) ≡ true = subst (λ (ls : List Line). reaches ls (m.plus / 4) ≡ true) c.from r.1 in
+        let there : reaches c.after (m.plus / 4) ≡ true = subst (λ (ls : List ListingLine). reaches ls (m.plus / 4) ≡ true) c.from r.1 in
         let some = ltb-true (m.plus / 4) (words_from c.after) (sym (reaches_by_count c.after (m.plus / 4)) ∙ there) in
         let zero : reaches c.after 0 ≡ true = reaches_by_count c.after 0 ∙ lt-ltb 0 (words_from c.after) (omega arith) in
         let start = c.address in
@@ -220,26 +220,26 @@ module _ (base : ℕ) (set : Name → ℕ) (all : List Line) (bytes : List ℕ) 
 
   -- ---- all that an instruction looks at ----
 
-  low : (before after : List Line) → all ≡ before ++ after → end_of base before ≤ 2 ^ 29
+  low : (before after : List ListingLine) → all ≡ before ++ after → end_of base before ≤ 2 ^ 29
   low before after e =
       let w : end_of base all ≡ end_of (end_of base before) after = ap (end_of base) e ∙ end_append base before after in
       let least = at_end (end_of base before) after in
       let limit = made.low in
       omega arith
 
-  fair_at : (before after : List Line) (l : Line) (i : Instr) (mention : Option Mention) → all ≡ before ++ l ∷ after → l.statement ≡ Runs i mention → is_fair all (Runs i mention) ≡ true
+  fair_at : (before after : List ListingLine) (l : ListingLine) (i : Instr) (mention : Option Mention) → all ≡ before ++ l ∷ after → l.statement ≡ Instruction i mention → is_fair all (Instruction i mention) ≡ true
   fair_at before after l i mention e s = subst (λ (t : Statement). is_fair all t ≡ true) s (fair_here base set all bytes made given before after l e)
 
-  sound_at : (before after : List Line) (l : Line) (i : Instr) (mention : Option Mention) → all ≡ before ++ l ∷ after → l.statement ≡ Runs i mention → branch_lost base all i mention ≡ false
+  sound_at : (before after : List ListingLine) (l : ListingLine) (i : Instr) (mention : Option Mention) → all ≡ before ++ l ∷ after → l.statement ≡ Instruction i mention → branch_lost base all i mention ≡ false
   sound_at before after l i mention e s =
       let none : (if branch_lost base all i mention then Some flaw.NoAddress else None) ≡ None =
-      subst (λ (t : Statement). flaw_of base all t ≡ None) s (flawless base all 1 before after l (subst (λ (ls : List Line). flaws_from base all 1 ls ≡ None) e made.sound)) in
+      subst (λ (t : Statement). flaw_of base all t ≡ None) s (flawless base all 1 before after l (subst (λ (ls : List ListingLine). flaws_from base all 1 ls ≡ None) e made.sound)) in
       elim (cases_Bool (branch_lost base all i mention)) [
         | inl h ↦ absurd (let bad : Some flaw.NoAddress ≡ None = rw h at none in cc)
         | inr h ↦ h
       ]
 
-  link_at : (before after : List Line) (l : Line) (i : Instr) (mention : Option Mention) → all ≡ before ++ l ∷ after → l.statement ≡ Runs i mention → is_call_instr i ≡ true → (j : Instr) → instr_size j ≡ instr_size i
+  link_at : (before after : List ListingLine) (l : ListingLine) (i : Instr) (mention : Option Mention) → all ≡ before ++ l ∷ after → l.statement ≡ Instruction i mention → is_call_instr i ≡ true → (j : Instr) → instr_size j ≡ instr_size i
       → names.return_word (call_count (take (length (places_of before)) (places_of all))) ≡ set_bit (following (end_of base before) j)
   link_at before after l i mention e s c j size =
       return_here base set all bytes made given before after l i mention e s c
@@ -260,7 +260,7 @@ module _ (base : ℕ) (set : Name → ℕ) (all : List Line) (bytes : List ℕ) 
   lands = lands_tied base set all bytes made given fits
 
   -- all that an instruction looks at is tied
-  pub looks : (before after : List Line) (l : Line) (i : Instr) (mention : Option Mention) (e : all ≡ before ++ l ∷ after) (s : l.statement ≡ Runs i mention) (j : Instr) → Coded base set all bytes made given (end_of base before) i mention j
+  pub looks : (before after : List ListingLine) (l : ListingLine) (i : Instr) (mention : Option Mention) (e : all ≡ before ++ l ∷ after) (s : l.statement ≡ Instruction i mention) (j : Instr) → Coded base set all bytes made given (end_of base before) i mention j
       → LooksLoose ArrivesAt (around_of names code (length (places_of before)) i mention) (around_in image (end_of base before) j) i
   looks before after l (instr.Bx r) mention e s j c = lands
   looks before after l (instr.Blx r) mention e s j c = (lands, link_at before after l (instr.Blx r) mention e s refl j (coded_size (end_of base before) (instr.Blx r) mention j c))

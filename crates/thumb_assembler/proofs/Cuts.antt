@@ -4,7 +4,7 @@ use Rattle.std.specs.Prelude.{slice_get, slice_index}
 use Rattle.std.proofs.lemmas.Bool.{cases_Bool, and_from, and_parts, or_right}
 use Rattle.thumb_instr.specs.declared.instr.Instr.{Instr}
 use Rattle.thumb_instr.specs.declared.instr.Instr.TheVariants as instr
-use Rattle.thumb_model.specs.Listing.{Name, Mention, Value, Statement, Nothing, Runs, Words, Aligns, Sets, Line, Place, places_in, places_of, labels_from}
+use Rattle.thumb_model.specs.Listing.{Name, Mention, Value, Statement, Nothing, Instruction, Words, Aligns, Sets, ListingLine, Place, places_in, places_of, labels_from}
 use Rattle.thumb_model.specs.Layout.{instr_size, padding, size_at, end_of, is_among, label_address}
 use Rattle.thumb_model.specs.Steps.{label_place}
 use Rattle.thumb_assembler.specs.Bytes.{Laid, words_bytes, IsInstrBytes, IsEncoded, IsStatementBytes, AreLineBytes, half_bytes}
@@ -21,41 +21,41 @@ use Rattle.thumb_assembler.proofs.Pushed.{aims_size}
 
 -- ---- sums ----
 
-pub end_append : (a : ℕ) (xs ys : List Line) → end_of a (xs ++ ys) ≡ end_of (end_of a xs) ys
+pub end_append : (a : ℕ) (xs ys : List ListingLine) → end_of a (xs ++ ys) ≡ end_of (end_of a xs) ys
 end_append a [] ys = refl
 end_append a (x ∷ xs) ys = end_append (a + size_at x.statement a) xs ys
 
-pub places_append : (xs ys : List Line) → places_of (xs ++ ys) ≡ places_of xs ++ places_of ys
+pub places_append : (xs ys : List ListingLine) → places_of (xs ++ ys) ≡ places_of xs ++ places_of ys
 places_append [] ys = refl
 places_append (x ∷ xs) ys = ap (λ (ps : List Place). places_in x.statement ++ ps) (places_append xs ys) ∙ sym (append_assoc (places_in x.statement) (places_of xs) (places_of ys))
 
-addresses_append : (a : ℕ) (xs ys : List Line) → addresses_from a (xs ++ ys) ≡ addresses_from a xs ++ addresses_from (end_of a xs) ys
+addresses_append : (a : ℕ) (xs ys : List ListingLine) → addresses_from a (xs ++ ys) ≡ addresses_from a xs ++ addresses_from (end_of a xs) ys
 addresses_append a [] ys = refl
 addresses_append a (x ∷ xs) ys =
     ap (λ (ps : List ℕ). addresses_in a x.statement ++ ps) (addresses_append (a + size_at x.statement a) xs ys)
     ∙ sym (append_assoc (addresses_in a x.statement) (addresses_from (a + size_at x.statement a) xs) (addresses_from (end_of (a + size_at x.statement a) xs) ys))
 
 -- the lines up to and with the next one
-pub next_end : (a : ℕ) (xs : List Line) (l : Line) → end_of a (xs ++ l ∷ []) ≡ end_of a xs + size_at l.statement (end_of a xs)
+pub next_end : (a : ℕ) (xs : List ListingLine) (l : ListingLine) → end_of a (xs ++ l ∷ []) ≡ end_of a xs + size_at l.statement (end_of a xs)
 next_end a xs l = end_append a xs (l ∷ [])
 
-pub next_places : (xs : List Line) (l : Line) → length (places_of (xs ++ l ∷ [])) ≡ length (places_of xs) + length (places_in l.statement)
+pub next_places : (xs : List ListingLine) (l : ListingLine) → length (places_of (xs ++ l ∷ [])) ≡ length (places_of xs) + length (places_in l.statement)
 next_places xs l =
     ap length (places_append xs (l ∷ [])) ∙ length-append (places_of xs) (places_in l.statement ++ [])
     ∙ ap (λ (n : ℕ). length (places_of xs) + n) (ap length (append-nil (places_in l.statement)))
 
-pub next_cut : (all before after : List Line) (l : Line) → all ≡ before ++ l ∷ after → all ≡ (before ++ l ∷ []) ++ after
+pub next_cut : (all before after : List ListingLine) (l : ListingLine) → all ≡ before ++ l ∷ after → all ≡ (before ++ l ∷ []) ++ after
 next_cut all before after l e = e ∙ sym (append_assoc before (l ∷ []) after)
 
 -- the place behind lines
-pub place_behind : (before after : List Line) (n : ℕ) → slice_get (places_of (before ++ after)) (length (places_of before) + n) ≡ slice_get (places_of after) n
+pub place_behind : (before after : List ListingLine) (n : ℕ) → slice_get (places_of (before ++ after)) (length (places_of before) + n) ≡ slice_get (places_of after) n
 place_behind before after n = ap (λ (ps : List Place). slice_get ps (length (places_of before) + n)) (places_append before after) ∙ get_back (places_of before) (places_of after) n (length (places_of before) + n) refl
 
-pub first_behind : (before after : List Line) → slice_get (places_of (before ++ after)) (length (places_of before)) ≡ slice_get (places_of after) 0
+pub first_behind : (before after : List ListingLine) → slice_get (places_of (before ++ after)) (length (places_of before)) ≡ slice_get (places_of after) 0
 first_behind before after = ap (slice_get (places_of (before ++ after))) (let e : length (places_of before) ≡ length (places_of before) + 0 = omega arith in e) ∙ place_behind before after 0
 
 -- the address of the first place of a line that has one
-pub address_behind : (a : ℕ) (before after : List Line) → slice_get (addresses_from a (before ++ after)) (length (places_of before)) ≡ slice_get (addresses_from (end_of a before) after) 0
+pub address_behind : (a : ℕ) (before after : List ListingLine) → slice_get (addresses_from a (before ++ after)) (length (places_of before)) ≡ slice_get (addresses_from (end_of a before) after) 0
 address_behind a before after =
     ap (λ (ps : List ℕ). slice_get ps (length (places_of before))) (addresses_append a before after)
     ∙ get_back (addresses_from a before) (addresses_from (end_of a before) after) 0 (length (places_of before)) (let e = places_counted a before in omega arith)
@@ -64,22 +64,22 @@ take_front : (xs ys : List Place) → take (length xs) (xs ++ ys) ≡ xs
 take_front [] ys = refl
 take_front (x ∷ xs) ys = ap (λ (ps : List Place). x ∷ ps) (take_front xs ys)
 
-pub places_taken : (before after : List Line) → take (length (places_of before)) (places_of (before ++ after)) ≡ places_of before
+pub places_taken : (before after : List ListingLine) → take (length (places_of before)) (places_of (before ++ after)) ≡ places_of before
 places_taken before after = ap (take (length (places_of before))) (places_append before after) ∙ take_front (places_of before) (places_of after)
 
 -- ---- lines stay fair ----
 
-pub fair_front : (all xs ys : List Line) → are_fair all (xs ++ ys) ≡ true → are_fair all xs ≡ true
+pub fair_front : (all xs ys : List ListingLine) → are_fair all (xs ++ ys) ≡ true → are_fair all xs ≡ true
 fair_front all [] ys e = refl
 fair_front all (x ∷ xs) ys e =
     let a = and_parts (is_fair all x.statement) (are_fair all (xs ++ ys)) e in
     and_from (is_fair all x.statement) (are_fair all xs) a.0 (fair_front all xs ys a.1)
 
-pub fair_back : (all xs ys : List Line) → are_fair all (xs ++ ys) ≡ true → are_fair all ys ≡ true
+pub fair_back : (all xs ys : List ListingLine) → are_fair all (xs ++ ys) ≡ true → are_fair all ys ≡ true
 fair_back all [] ys e = e
 fair_back all (x ∷ xs) ys e = fair_back all xs ys (and_parts (is_fair all x.statement) (are_fair all (xs ++ ys)) e).1
 
-pub end_even : (all : List Line) (a : ℕ) (xs : List Line) → are_fair all xs ≡ true → a % 2 ≡ 0 → end_of a xs % 2 ≡ 0
+pub end_even : (all : List ListingLine) (a : ℕ) (xs : List ListingLine) → are_fair all xs ≡ true → a % 2 ≡ 0 → end_of a xs % 2 ≡ 0
 end_even all a [] f h = h
 end_even all a (x ∷ xs) f h =
     let both = and_parts (is_fair all x.statement) (are_fair all xs) f in
@@ -88,14 +88,14 @@ end_even all a (x ∷ xs) f h =
 
 -- ---- bytes ----
 
-pub record Split (l : Laid) (at : ℕ) (xs ys : List Line) (bytes : List ℕ) : Type 0 where
+pub record Split (l : Laid) (at : ℕ) (xs ys : List ListingLine) (bytes : List ℕ) : Type 0 where
   pub front : List ℕ
   pub back : List ℕ
   pub is : bytes ≡ front ++ back
   pub first : AreLineBytes l at xs front
   pub second : AreLineBytes l (end_of at xs) ys back
 
-pub split : (l : Laid) (at : ℕ) (xs ys : List Line) (bytes : List ℕ) → AreLineBytes l at (xs ++ ys) bytes → Split l at xs ys bytes
+pub split : (l : Laid) (at : ℕ) (xs ys : List ListingLine) (bytes : List ℕ) → AreLineBytes l at (xs ++ ys) bytes → Split l at xs ys bytes
 split l at [] ys bytes h = record { front = []; back = bytes; is = refl; first = refl; second = h }
 split l at (x ∷ xs) ys bytes h =
     let s = split l (at + size_at x.statement at) xs ys h.1 h.4 in
@@ -129,16 +129,16 @@ words_long : (l : Laid) (vs : List Value) → length (words_bytes l.names vs) �
 words_long l [] = refl
 words_long l (v ∷ vs) = let h = words_long l vs in omega arith
 
-statement_long : (all : List Line) (l : Laid) (at : ℕ) (s : Statement) (bytes : List ℕ) → is_fair all s ≡ true → at % 2 ≡ 0 → IsStatementBytes l at s bytes → length bytes ≡ size_at s at
+statement_long : (all : List ListingLine) (l : Laid) (at : ℕ) (s : Statement) (bytes : List ℕ) → is_fair all s ≡ true → at % 2 ≡ 0 → IsStatementBytes l at s bytes → length bytes ≡ size_at s at
 statement_long all l at Nothing bytes f h b = ap length b
-statement_long all l at (Runs i mention) bytes f h b = encoded_long l at i mention bytes b
+statement_long all l at (Instruction i mention) bytes f h b = encoded_long l at i mention bytes b
 statement_long all l at (Words vs) bytes f h b = ap length b ∙ words_long l vs
 statement_long all l at (Aligns size most) bytes f h b =
     let even = padding_even size most at f h in
     ap length b ∙ nops_length (padding size most at / 2) (padding size most at) (omega arith)
 statement_long all l at (Sets name address) bytes f h b = ap length b
 
-pub lines_long : (all : List Line) (l : Laid) (at : ℕ) (ls : List Line) (bytes : List ℕ) → are_fair all ls ≡ true → at % 2 ≡ 0 → AreLineBytes l at ls bytes → at + length bytes ≡ end_of at ls
+pub lines_long : (all : List ListingLine) (l : Laid) (at : ℕ) (ls : List ListingLine) (bytes : List ℕ) → are_fair all ls ≡ true → at % 2 ≡ 0 → AreLineBytes l at ls bytes → at + length bytes ≡ end_of at ls
 lines_long all l at [] bytes f h b = let none = ap length b in omega arith
 lines_long all l at (x ∷ xs) bytes f h b =
     let both = and_parts (is_fair all x.statement) (are_fair all xs) f in
@@ -161,15 +161,15 @@ index_front (x ∷ xs) ys (suc i) h = index_front xs ys i (omega arith)
 -- ---- labels as cuts ----
 
 -- the lines before the first one that has the label, and those from it on
-pub record LabelCut (name : Name) (base a : ℕ) (all : List Line) : Type 0 where
-  pub before : List Line
-  pub after : List Line
+pub record LabelCut (name : Name) (base a : ℕ) (all : List ListingLine) : Type 0 where
+  pub before : List ListingLine
+  pub after : List ListingLine
   pub cut : all ≡ before ++ after
   pub address : a ≡ end_of base before
   pub from : from_label name all ≡ after
   pub place : (p : ℕ) → label_place name (labels_from p all) ≡ Some (p + length (places_of before))
 
-pub label_cut : (name : Name) (base a : ℕ) (all : List Line) → label_address name base all ≡ Some a → LabelCut name base a all
+pub label_cut : (name : Name) (base a : ℕ) (all : List ListingLine) → label_address name base all ≡ Some a → LabelCut name base a all
 label_cut name base a [] e = absurd (let bad : None ≡ Some a = e in cc)
 label_cut name base a (l ∷ ls) e = elim (cases_Bool (is_among name l.names)) [
   | inl t ↦
@@ -188,7 +188,7 @@ label_cut name base a (l ∷ ls) e = elim (cases_Bool (is_among name l.names)) [
       record {
         before = l ∷ c.before;
         after = c.after;
-        cut = ap (λ (x : List Line). l ∷ x) c.cut;
+        cut = ap (λ (x : List ListingLine). l ∷ x) c.cut;
         address = c.address;
         from = rw t c.from;
         place = λ p. label_at name p l.names _ ∙ rw t (c.place (p + length (places_in l.statement)) ∙ ap (λ (n : ℕ). Some n)
@@ -196,7 +196,7 @@ label_cut name base a (l ∷ ls) e = elim (cases_Bool (is_among name l.names)) [
       }
 ]
 
-pub no_label : (name : Name) (base p : ℕ) (all : List Line) → label_address name base all ≡ None → label_place name (labels_from p all) ≡ None
+pub no_label : (name : Name) (base p : ℕ) (all : List ListingLine) → label_address name base all ≡ None → label_place name (labels_from p all) ≡ None
 no_label name base p [] e = refl
 no_label name base p (l ∷ ls) e = elim (cases_Bool (is_among name l.names)) [
   | inl t ↦ absurd (let bad : Some base ≡ None = rw t at e in cc)
@@ -205,7 +205,7 @@ no_label name base p (l ∷ ls) e = elim (cases_Bool (is_among name l.names)) [
 
 -- ---- a label of a line is on no line before ----
 
-known_label : (name : Name) (n : ℕ) (known : List Name) (before after : List Line) (l : Line) → first_twice n known (before ++ l ∷ after) ≡ None → is_among name known ≡ true → is_among name l.names ≡ true → ⊥
+known_label : (name : Name) (n : ℕ) (known : List Name) (before after : List ListingLine) (l : ListingLine) → first_twice n known (before ++ l ∷ after) ≡ None → is_among name known ≡ true → is_among name l.names ≡ true → ⊥
 known_label name n known [] after l e k t = elim (cases_Bool (is_again known (defined_in l))) [
   | inl h ↦ (let bad : Some n ≡ None = rw h at e in cc)
   | inr h ↦ true≢false (sym t ∙ not_again name known l.names (again_front known l.names (set_names l.statement) h) k)
@@ -216,7 +216,7 @@ known_label name n known (b ∷ bs) after l e k t = elim (cases_Bool (is_again k
 ]
 
 -- the label of a line has the line's address
-pub first_label : (name : Name) (n base : ℕ) (known : List Name) (before after : List Line) (l : Line) → first_twice n known (before ++ l ∷ after) ≡ None → is_among name l.names ≡ true → label_address name base (before ++ l ∷ after) ≡ Some (end_of base before)
+pub first_label : (name : Name) (n base : ℕ) (known : List Name) (before after : List ListingLine) (l : ListingLine) → first_twice n known (before ++ l ∷ after) ≡ None → is_among name l.names ≡ true → label_address name base (before ++ l ∷ after) ≡ Some (end_of base before)
 first_label name n base known [] after l e t = rw t refl
 first_label name n base known (b ∷ bs) after l e t = elim (cases_Bool (is_again known (defined_in b))) [
   | inl h ↦ absurd (let bad : Some n ≡ None = rw h at e in cc)
@@ -227,7 +227,7 @@ first_label name n base known (b ∷ bs) after l e t = elim (cases_Bool (is_agai
 ]
 
 -- and the place that stands behind it
-pub first_place : (name : Name) (n p : ℕ) (known : List Name) (before after : List Line) (l : Line) → first_twice n known (before ++ l ∷ after) ≡ None → is_among name l.names ≡ true
+pub first_place : (name : Name) (n p : ℕ) (known : List Name) (before after : List ListingLine) (l : ListingLine) → first_twice n known (before ++ l ∷ after) ≡ None → is_among name l.names ≡ true
     → label_place name (labels_from p (before ++ l ∷ after)) ≡ Some (p + length (places_of before))
 first_place name n p known [] after l e t = label_at name p l.names _ ∙ rw t (ap (λ (k : ℕ). Some k) (let h : p ≡ p + 0 = omega arith in h))
 first_place name n p known (b ∷ bs) after l e t = elim (cases_Bool (is_again known (defined_in b))) [

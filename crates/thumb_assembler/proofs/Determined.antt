@@ -2,7 +2,7 @@
 use Rattle.std.proofs.Common.{◌≡◌, ℕ, ◌+◌, ◌<◌, ap, subst, refl, arith}
 use Rattle.thumb_instr.specs.declared.instr.Instr.{Instr}
 use Rattle.thumb_table.proofs.Codes.{one_instr}
-use Rattle.thumb_model.specs.States.{Next, Here, Ended, State}
+use Rattle.thumb_model.specs.States.{Continuation, Here, Ended, State}
 use Rattle.thumb_model.specs.Steps.{does}
 use Rattle.thumb_assembler.specs.Runs.{Loaded, half_at, IsFetched, ImageStep, stays, acts, falls_out, ImageSteps, none, more, act_in, following}
 use Rattle.thumb_assembler.specs.Promises.{HasBytes, RunsAreDetermined}
@@ -16,7 +16,7 @@ one_fetched m h a i j f g = one_instr i j (half_at m a) (half_at m (a + 2)) (hal
 never_both : (s : State) (a : ℕ) → s.at ≡ Ended → s.at ≡ Here a → ⊥
 never_both s a e f = let bad : Ended ≡ Here a = cc in cc
 
-one_step : (m : Loaded) → HasBytes m → (s t u : State) (n k : Next) → ImageStep m s n t → ImageStep m s k u → t ≡ u
+one_step : (m : Loaded) → HasBytes m → (s t u : State) (n k : Continuation) → ImageStep m s n t → ImageStep m s k u → t ≡ u
 one_step m h s _ _ _ _ (stays e) (stays f) = refl
 one_step m h s _ _ _ _ (stays e) (acts b j f g) = absurd (never_both s b e f)
 one_step m h s _ _ _ _ (stays e) (falls_out b f g) = absurd (never_both s b e f)

@@ -13,11 +13,11 @@ use Rattle.thumb_syntax.specs.Operands.{is_name}
 use Rattle.thumb_syntax.specs.Rows.{Shown, reading}
 use Rattle.thumb_syntax.specs.Whole.{is_whole}
 use Rattle.thumb_syntax.proofs.ReadWhole.{reading_is_whole}
-use Rattle.thumb_model.specs.Listing.{Name, Value, Statement, Nothing, Runs, Words, Aligns, Sets, Line}
+use Rattle.thumb_model.specs.Listing.{Name, Value, Statement, Nothing, Instruction, Words, Aligns, Sets, ListingLine}
 use Rattle.listing_parser.specs.declared.directive.Directive.{Directive}
 use Rattle.listing_parser.specs.declared.directive.Directive.TheVariants as directive
 use Rattle.listing_parser.specs.Grammar.{Bare, Read, labels_at_front, body, code, read_lines, said_of, bare, most_lines}
-use Rattle.listing_parser.specs.Directives.{Said, Plain, Instruction, Told, Unmarked, NextMarked, NameMarked, says, says_if, marks, size_of, aligns_at_most, aligned, sets, sets_by, typed_by, directed, directed_by, directive_named, is_word_byte, is_bare, is_alone, is_code_section, instruction, said, statement}
+use Rattle.listing_parser.specs.Directives.{Said, Plain, ByKind, Told, Unmarked, NextMarked, NameMarked, says, says_if, marks, size_of, aligns_at_most, aligned, sets, sets_by, typed_by, directed, directed_by, directive_named, is_word_byte, is_bare, is_alone, is_code_section, instruction, said, statement}
 use Rattle.listing_parser.specs.Values.{values, alone, gapped, pair}
 use Rattle.listing_parser.specs.Parsing.{IsListing, text_of_lines}
 use Rattle.listing_parser.specs.Targets.{is_aimed_at, is_on_target, first_target}
@@ -33,7 +33,7 @@ data IsRead (s : Shown) : Type 0 where
 -- an alignment keeps addresses even, and an instruction was read
 WellSaid : Said → Type 0
 WellSaid (Plain (Aligns size most)) = keeps_even size ≡ true
-WellSaid (Instruction s) = IsRead s
+WellSaid (ByKind s) = IsRead s
 WellSaid k = Unit {0}
 
 Sound : Option Told → Type 0
@@ -131,7 +131,7 @@ sound_directed_by (Some d) bs = sound_directed d bs
 sound_instruction : (bs : List ℕ) → Sound (instruction bs)
 unfolding instruction WellSaid
 sound_instruction bs = by (reading bs) refl where
-  by : (o : Option Shown) → reading bs ≡ o → Sound (option_map (λ (s : Shown). (let x : Told = record { said = Instruction s; mark = Unmarked } in x)) o)
+  by : (o : Option Shown) → reading bs ≡ o → Sound (option_map (λ (s : Shown). (let x : Told = record { said = ByKind s; mark = Unmarked } in x)) o)
   by None e = sound_none
   by (Some s) e = sound_some _ (read_as bs e)
 
@@ -161,17 +161,17 @@ all_well n start (t ∷ ts) rs e =
     let here : WellSaid o.told.said = sound_statement (labels_at_front (code (body (placed n start t)))).1 o.told o.is_told in
     subst AreWell (sym c.is) (subst WellSaid (sym o.said) here, all_well (n + 1) (start + length t) ts c.others c.read)
 
-statement_fair : (all : List Line) (marked : List Name) (s : Statement) → WellSaid (said_of s) → is_on_target all marked s ≡ true → is_fair all s ≡ true
+statement_fair : (all : List ListingLine) (marked : List Name) (s : Statement) → WellSaid (said_of s) → is_on_target all marked s ≡ true → is_fair all s ≡ true
 unfolding WellSaid
 statement_fair all marked Nothing h t = refl
-statement_fair all marked (Runs i m) h t = elim h [
+statement_fair all marked (Instruction i m) h t = elim h [
   | read_as bytes e ↦ and_from (is_whole i (label_in m)) (is_aimed_at all i m) (reading_is_whole bytes i (label_in m) e) t
 ]
 statement_fair all marked (Words vs) h t = refl
 statement_fair all marked (Aligns size most) h t = h
 statement_fair all marked (Sets name address) h t = refl
 
-lines_fair : (all : List Line) (marked : List Name) (n : ℕ) (rs : List Read) (ls : List Line) → map (λ (r : Read). r.line) rs ≡ map bare ls → AreWell rs → first_target all marked n ls ≡ None → are_fair all ls ≡ true
+lines_fair : (all : List ListingLine) (marked : List Name) (n : ℕ) (rs : List Read) (ls : List ListingLine) → map (λ (r : Read). r.line) rs ≡ map bare ls → AreWell rs → first_target all marked n ls ≡ None → are_fair all ls ≡ true
 unfolding AreWell
 lines_fair all marked n rs [] e w t = refl
 lines_fair all marked n [] (l ∷ ls) e w t = absurd (let bad : [] ≡ bare l ∷ map bare ls = e in cc)
@@ -187,21 +187,21 @@ lines_fair all marked n (r ∷ rs) (l ∷ ls) e w t =
       | inr off ↦ absurd (let bad : Some n ≡ None = rw off at t in cc)
     ]
 
-pub listed_fair : (bytes : List ℕ) (lines : List Line) → IsListing bytes lines → are_fair lines lines ≡ true
+pub listed_fair : (bytes : List ℕ) (lines : List ListingLine) → IsListing bytes lines → are_fair lines lines ≡ true
 listed_fair bytes lines h = lines_fair lines _ 1 h.reads lines h.are.same (all_well 1 0 (lines_of bytes) h.reads h.are.read) h.aimed
 
-length_lines : (rs : List Read) (ls : List Line) → map (λ (r : Read). r.line) rs ≡ map bare ls → length ls ≡ length rs
+length_lines : (rs : List Read) (ls : List ListingLine) → map (λ (r : Read). r.line) rs ≡ map bare ls → length ls ≡ length rs
 length_lines [] [] e = refl
 length_lines [] (l ∷ ls) e = absurd (let bad : [] ≡ bare l ∷ map bare ls = e in cc)
 length_lines (r ∷ rs) [] e = absurd (let bad : r.line ∷ map (λ (r : Read). r.line) rs ≡ [] = e in cc)
 length_lines (r ∷ rs) (l ∷ ls) e = ap suc (length_lines rs ls (let both : r.line ∷ map (λ (r : Read). r.line) rs ≡ bare l ∷ map bare ls = e in cc))
 
-pub few_lines : (bytes : List ℕ) (lines : List Line) → IsListing bytes lines → length lines ≤ most_lines
+pub few_lines : (bytes : List ℕ) (lines : List ListingLine) → IsListing bytes lines → length lines ≤ most_lines
 few_lines bytes lines h =
     let few = all_few 1 0 (lines_of bytes) h.reads h.are.read (omega arith) in
     let same = length_lines h.reads lines h.are.same in
     omega (arith, few.0)
 
 -- the text of a listing that was read is that of its lines
-pub of_its_text : (bytes : List ℕ) (lines : List Line) → IsListing bytes lines → IsListing (text_of_lines lines) lines
+pub of_its_text : (bytes : List ℕ) (lines : List ListingLine) → IsListing bytes lines → IsListing (text_of_lines lines) lines
 of_its_text bytes lines h = subst (λ (text : List ℕ). IsListing text lines) (sym (prints_back bytes lines h)) h

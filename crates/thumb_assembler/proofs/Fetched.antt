@@ -5,9 +5,9 @@ use Rattle.std.proofs.lemmas.Bool.{cases_lt, and_from, and_parts, le-leb, lt-ltb
 use Rattle.thumb_model.proofs.Lists.{length_map}
 use Rattle.thumb_instr.specs.declared.instr.Instr.{Instr}
 use Rattle.thumb_instr.specs.declared.instr.Instr.TheVariants as instr
-use Rattle.thumb_instr.specs.declared.operation.Hint.TheVariants as hint
+use Rattle.thumb_instr.specs.declared.operation.HintOperation.TheVariants as hint
 use Rattle.thumb_table.specs.Table.{width, packed, pieces, row_of, code_of, Encodes}
-use Rattle.thumb_model.specs.Listing.{Name, Mention, Value, Number, OfName, Statement, Nothing, Runs, Words, Aligns, Sets, Line, Place, Word, places_in, places_of}
+use Rattle.thumb_model.specs.Listing.{Name, Mention, Value, Number, OfName, Statement, Nothing, Instruction, Words, Aligns, Sets, ListingLine, Place, Word, places_in, places_of}
 use Rattle.thumb_model.specs.Layout.{instr_size, padding, size_at, end_of}
 use Rattle.thumb_model.specs.Naming.{Naming, laid}
 use Rattle.thumb_model.specs.Steps.{word_of_value}
@@ -46,7 +46,7 @@ nop_packed = refl
 nop_code : (k : ℕ) → Encodes (instr.Hint hint.Nop) 48896 k
 nop_code k = record { is = nop_packed ∙ sym (rw nop_width refl) }
 
-module _ (base : ℕ) (set : Name → ℕ) (all : List Line) (bytes : List ℕ) (made : IsAssembled base all bytes) (given : IsSetBy all set) where
+module _ (base : ℕ) (set : Name → ℕ) (all : List ListingLine) (bytes : List ℕ) (made : IsAssembled base all bytes) (given : IsSetBy all set) where
   abbrev pub names : Naming
   names = laid base set all
 
@@ -59,27 +59,27 @@ module _ (base : ℕ) (set : Name → ℕ) (all : List Line) (bytes : List ℕ) 
   pub fair : are_fair all all ≡ true
   fair = listed_fair _ all made.listed
 
-  pub fair_before : (before after : List Line) → all ≡ before ++ after → are_fair all before ≡ true
-  fair_before before after e = fair_front all before after (subst (λ (ls : List Line). are_fair all ls ≡ true) e fair)
+  pub fair_before : (before after : List ListingLine) → all ≡ before ++ after → are_fair all before ≡ true
+  fair_before before after e = fair_front all before after (subst (λ (ls : List ListingLine). are_fair all ls ≡ true) e fair)
 
-  pub fair_after : (before after : List Line) → all ≡ before ++ after → are_fair all after ≡ true
-  fair_after before after e = fair_back all before after (subst (λ (ls : List Line). are_fair all ls ≡ true) e fair)
+  pub fair_after : (before after : List ListingLine) → all ≡ before ++ after → are_fair all after ≡ true
+  fair_after before after e = fair_back all before after (subst (λ (ls : List ListingLine). are_fair all ls ≡ true) e fair)
 
-  pub fair_here : (before after : List Line) (l : Line) → all ≡ before ++ l ∷ after → is_fair all l.statement ≡ true
+  pub fair_here : (before after : List ListingLine) (l : ListingLine) → all ≡ before ++ l ∷ after → is_fair all l.statement ≡ true
   fair_here before after l e = (and_parts (is_fair all l.statement) (are_fair all after) (fair_after before (l ∷ after) e)).0
 
-  pub even_here : (before after : List Line) → all ≡ before ++ after → end_of base before % 2 ≡ 0
+  pub even_here : (before after : List ListingLine) → all ≡ before ++ after → end_of base before % 2 ≡ 0
   even_here before after e = end_even all base before (fair_before before after e) made.even
 
   -- the bytes from the end of the first lines on are those of the others
-  record Back (before after : List Line) : Type 0 where
+  record Back (before after : List ListingLine) : Type 0 where
     back : List ℕ
     are : AreLineBytes site (end_of base before) after back
     byte : (j : ℕ) → byte_at image (end_of base before + j) ≡ slice_index back j
 
-  back_is : (before after : List Line) → all ≡ before ++ after → Back before after
+  back_is : (before after : List ListingLine) → all ≡ before ++ after → Back before after
   back_is before after e =
-      let s = split site base before after bytes (subst (λ (ls : List Line). AreLineBytes site base ls bytes) e (made.image set given)) in
+      let s = split site base before after bytes (subst (λ (ls : List ListingLine). AreLineBytes site base ls bytes) e (made.image set given)) in
       let least = at_end base before in
       let long = lines_long all site base before s.front (fair_before before after e) made.even s.first in
       record {
@@ -90,13 +90,13 @@ module _ (base : ℕ) (set : Name → ℕ) (all : List Line) (bytes : List ℕ) 
             (ap (λ (bs : List ℕ). slice_index bs (end_of base before + j - base)) s.is ∙ index_back s.front s.back j (end_of base before + j - base) (omega arith));
       }
 
-  pub record HereBytes (before after : List Line) (l : Line) : Type 0 where
+  pub record HereBytes (before after : List ListingLine) (l : ListingLine) : Type 0 where
     pub here : List ℕ
     pub rest : List ℕ
     pub are : IsStatementBytes site (end_of base before) l.statement here
     pub byte : (j : ℕ) → byte_at image (end_of base before + j) ≡ slice_index (here ++ rest) j
 
-  pub here_is : (before after : List Line) (l : Line) → all ≡ before ++ l ∷ after → HereBytes before after l
+  pub here_is : (before after : List ListingLine) (l : ListingLine) → all ≡ before ++ l ∷ after → HereBytes before after l
   here_is before after l e =
       let b = back_is before (l ∷ after) e in
       record { here = b.are.0; rest = b.are.1; are = b.are.3; byte = λ j. b.byte j ∙ ap (λ (bs : List ℕ). slice_index bs j) b.are.2 }
@@ -117,7 +117,7 @@ module _ (base : ℕ) (set : Name → ℕ) (all : List Line) (bytes : List ℕ) 
       let h = ltb-true a (base + length bytes) both.1 in
       (omega arith, omega arith)
 
-  pub below_end : (before after : List Line) (l : Line) (k : ℕ) → all ≡ before ++ l ∷ after → k < size_at l.statement (end_of base before) → end_of base before + k < end_of base all
+  pub below_end : (before after : List ListingLine) (l : ListingLine) (k : ℕ) → all ≡ before ++ l ∷ after → k < size_at l.statement (end_of base before) → end_of base before + k < end_of base all
   below_end before after l k e h =
       let w : end_of base all ≡ end_of (end_of base before + size_at l.statement (end_of base before)) after = ap (end_of base) e ∙ end_append base before (l ∷ after) in
       let s = at_end (end_of base before + size_at l.statement (end_of base before)) after in
@@ -182,7 +182,7 @@ module _ (base : ℕ) (set : Name → ℕ) (all : List Line) (bytes : List ℕ) 
     fetched = fetched_at at b.0 here rest l h b.2 e;
   }
 
-  pub fetched_here : (before after : List Line) (l : Line) (i : Instr) (mention : Option Mention) → all ≡ before ++ l ∷ after → l.statement ≡ Runs i mention → FetchedHere (end_of base before) i mention
+  pub fetched_here : (before after : List ListingLine) (l : ListingLine) (i : Instr) (mention : Option Mention) → all ≡ before ++ l ∷ after → l.statement ≡ Instruction i mention → FetchedHere (end_of base before) i mention
   fetched_here before after l i mention e s =
       let b = here_is before after l e in
       let least = at_end base before in
@@ -191,7 +191,7 @@ module _ (base : ℕ) (set : Name → ℕ) (all : List Line) (bytes : List ℕ) 
       encoded_here (end_of base before) i mention b.here b.rest least (omega arith) (subst (λ (t : Statement). IsStatementBytes site (end_of base before) t b.here) s b.are) b.byte
 
   -- padding is fetched as instructions that do nothing
-  pub padding_here : (before after : List Line) (l : Line) (size most : ℕ) → all ≡ before ++ l ∷ after → l.statement ≡ Aligns size most → (j : ℕ) → 2 * j < padding size most (end_of base before)
+  pub padding_here : (before after : List ListingLine) (l : ListingLine) (size most : ℕ) → all ≡ before ++ l ∷ after → l.statement ≡ Aligns size most → (j : ℕ) → 2 * j < padding size most (end_of base before)
       → IsFetched image (end_of base before + 2 * j) (instr.Hint hint.Nop)
   padding_here before after l size most e s j k =
       let b = here_is before after l e in
@@ -243,7 +243,7 @@ module _ (base : ℕ) (set : Name → ℕ) (all : List Line) (bytes : List ℕ) 
       v g
 
   -- the words that stand behind a cut, before anything else
-  pub record DataAt (before after : List Line) (n : ℕ) : Type 0 where
+  pub record DataAt (before after : List ListingLine) (n : ℕ) : Type 0 where
     pub value : Value
     pub place : slice_get (places_of all) (length (places_of before) + n) ≡ Some (Word value)
     pub word : word_at image (end_of base before + 4 * n) ≡ word_of_value names value
@@ -258,7 +258,7 @@ module _ (base : ℕ) (set : Name → ℕ) (all : List Line) (bytes : List ℕ) 
   front_of (p ∷ ps) qs zero x e = e
   front_of (p ∷ ps) qs (suc n) x e = front_of ps qs n x e
 
-  data_moved : (before after : List Line) (l : Line) (n k : ℕ) → all ≡ before ++ l ∷ after → n ≡ length (places_in l.statement) + k → 4 * n ≡ size_at l.statement (end_of base before) + 4 * k → DataAt (before ++ l ∷ []) after k → DataAt before (l ∷ after) n
+  data_moved : (before after : List ListingLine) (l : ListingLine) (n k : ℕ) → all ≡ before ++ l ∷ after → n ≡ length (places_in l.statement) + k → 4 * n ≡ size_at l.statement (end_of base before) + 4 * k → DataAt (before ++ l ∷ []) after k → DataAt before (l ∷ after) n
   data_moved before after l n k e p a d =
       let places = next_places before l in
       let ends = next_end base before l in
@@ -268,12 +268,12 @@ module _ (base : ℕ) (set : Name → ℕ) (all : List Line) (bytes : List ℕ) 
         word = ap (word_at image) (let s : end_of base before + 4 * n ≡ end_of base (before ++ l ∷ []) + 4 * k = omega arith in s) ∙ d.word;
       }
 
-  data_by : (before after : List Line) (l : Line) (n : ℕ) → all ≡ before ++ l ∷ after → ((k : ℕ) → reaches after k ≡ true → DataAt (before ++ l ∷ []) after k) → (s : Statement) → l.statement ≡ s → onward n s (reaches after) ≡ true → DataAt before (l ∷ after) n
+  data_by : (before after : List ListingLine) (l : ListingLine) (n : ℕ) → all ≡ before ++ l ∷ after → ((k : ℕ) → reaches after k ≡ true → DataAt (before ++ l ∷ []) after k) → (s : Statement) → l.statement ≡ s → onward n s (reaches after) ≡ true → DataAt before (l ∷ after) n
   data_by before after l n e next Nothing is h =
       let p : length (places_in l.statement) ≡ 0 = ap (λ (t : Statement). length (places_in t)) is in
       let z : size_at l.statement (end_of base before) ≡ 0 = ap (λ (t : Statement). size_at t (end_of base before)) is in
       data_moved before after l n n e (omega arith) (omega arith) (next n h)
-  data_by before after l n e next (Runs i m) is h = absurd (true≢false (sym h))
+  data_by before after l n e next (Instruction i m) is h = absurd (true≢false (sym h))
   data_by before after l n e next (Aligns size most) is h = absurd (true≢false (sym h))
   data_by before after l n e next (Sets name address) is h =
       let p : length (places_in l.statement) ≡ 0 = ap (λ (t : Statement). length (places_in t)) is in
@@ -287,7 +287,7 @@ module _ (base : ℕ) (set : Name → ℕ) (all : List Line) (bytes : List ℕ) 
         let first : slice_get (places_of (l ∷ after)) n ≡ Some (Word g.0) = ap (λ (t : Statement). slice_get (places_in t ++ places_of after) n) is ∙ front_of (map Word vs) (places_of after) n (Word g.0) g.2 in
         record {
           value = g.0;
-          place = ap (λ (ls : List Line). slice_get (places_of ls) (length (places_of before) + n)) e ∙ place_behind before (l ∷ after) n ∙ first;
+          place = ap (λ (ls : List ListingLine). slice_get (places_of ls) (length (places_of before) + n)) e ∙ place_behind before (l ∷ after) n ∙ first;
           word = value_at (end_of base before) vs b.rest (b.here ++ b.rest) n (ap (λ (x : List ℕ). x ++ b.rest) words) b.byte g.0 g.1;
         }
     | inr above ↦
@@ -297,6 +297,6 @@ module _ (base : ℕ) (set : Name → ℕ) (all : List Line) (bytes : List ℕ) 
         (next (n - length vs) (rw (le-ltb n (length vs) above) at h))
   ]
 
-  pub data_from : (after before : List Line) (n : ℕ) → all ≡ before ++ after → reaches after n ≡ true → DataAt before after n
+  pub data_from : (after before : List ListingLine) (n : ℕ) → all ≡ before ++ after → reaches after n ≡ true → DataAt before after n
   data_from [] before n e r = absurd (true≢false (sym r))
   data_from (l ∷ after) before n e r = data_by before after l n e (λ k h. data_from after (before ++ l ∷ []) k (next_cut all before after l e) h) l.statement refl r

@@ -4,18 +4,18 @@ use Rattle.std.specs.Prelude.{slice_get}
 use Rattle.thumb_model.proofs.Follow.{alike_on}
 use Rattle.thumb_instr.specs.declared.instr.Instr.{Instr}
 use Rattle.thumb_instr.specs.declared.instr.Instr.TheVariants as instr
-use Rattle.thumb_instr.specs.declared.operation.Hint.TheVariants as hint
+use Rattle.thumb_instr.specs.declared.operation.HintOperation.TheVariants as hint
 use Rattle.thumb_model.specs.Effect.{assigned}
-use Rattle.thumb_model.specs.Listing.{Name, Mention, Runs, Line, Place, Op, Word, Code, places_in, places_of, code_of, place_of, is_op_place}
+use Rattle.thumb_model.specs.Listing.{Name, Mention, Instruction, ListingLine, Place, Op, Word, Code, places_in, places_of, code_of, place_of, is_op_place}
 use Rattle.thumb_model.specs.Layout.{instr_size, size_at, end_of}
 use Rattle.thumb_model.specs.Naming.{Naming, Fits, laid}
-use Rattle.thumb_model.specs.States.{Answer, World, Event, Fell, Act, Next, On, Stay, To, Over, At, Here, Ended, State, Around}
+use Rattle.thumb_model.specs.States.{Answer, World, Event, Fell, Act, Continuation, On, Stay, To, Over, Position, Here, Ended, State, Around}
 use Rattle.thumb_model.specs.Acts.{act}
 use Rattle.thumb_model.specs.Steps.{around_of, arrives, does, falls, step, step_at, step_on, times}
 use Rattle.thumb_model.specs.Same.{Alike, has_ended, here_or_ended, begun}
 use Rattle.thumb_model.proofs.Tied.{NextTied, ActTied}
 use Rattle.thumb_assembler.specs.Bytes.{IsSetBy}
-use Rattle.thumb_assembler.specs.Runs.{Loaded, around_in, following, ImageStep, acts, ImageSteps, none, more, IsAssembled, loaded, ends_in_loss, IsLost, Meets, begun_in, Follows}
+use Rattle.thumb_assembler.specs.Runs.{Loaded, around_in, following, ImageStep, acts, ImageSteps, none, more, IsAssembled, loaded, ends_in_loss, IsLost, Meets, begun_in, ImageFollows}
 use Rattle.thumb_assembler.specs.Promises.{ImagesFollow, ImagesFollowGiven}
 use Rattle.thumb_assembler.proofs.Loose.{IsLostAct, ends_behind, act_loose}
 use Rattle.thumb_assembler.proofs.Cuts.{next_end, next_places, next_cut, two_or_four}
@@ -23,7 +23,7 @@ use Rattle.thumb_assembler.proofs.Fetched.{fetched_here, out_of_image}
 use Rattle.thumb_assembler.proofs.Slides.{Slides, there, slid, Arrives, slides_from, label_found, arrives_within, place_here}
 use Rattle.thumb_assembler.proofs.Around.{coded_size, coded_act, looks}
 
-abbrev state : World → At → List Event → State
+abbrev state : World → Position → List Event → State
 state w a es = record { world = w; at = a; events = es }
 
 steps_more : (m : Loaded) (a b : ℕ) (r s t : State) → ImageSteps m a r s → ImageSteps m b s t → ImageSteps m (a + b) r t
@@ -41,7 +41,7 @@ lost_by q y a s l = record { ended = ap (arrives q y) l.next; last = ends_behind
 fell : (s : State) → IsLost (falls s)
 fell s = record { ended = refl; last = ends_behind s.events (Fell ∷ []) refl }
 
-module _ (base : ℕ) (set : Name → ℕ) (all : List Line) (bytes : List ℕ) (made : IsAssembled base all bytes) (given : IsSetBy all set) (fits : Fits (laid base set all) (code_of all)) where
+module _ (base : ℕ) (set : Name → ℕ) (all : List ListingLine) (bytes : List ℕ) (made : IsAssembled base all bytes) (given : IsSetBy all set) (fits : Fits (laid base set all) (code_of all)) where
   abbrev names : Naming
   names = laid base set all
 
@@ -54,7 +54,7 @@ module _ (base : ℕ) (set : Name → ℕ) (all : List Line) (bytes : List ℕ) 
   abbrev R : ℕ → ℕ → Type 0
   R = Arrives base set all bytes made given
 
-  abbrev AtTied : At → At → Type 0
+  abbrev AtTied : Position → Position → Type 0
   AtTied (Here q) (Here x) = R q x
   AtTied Ended Ended = Unit {0}
   AtTied (Here q) Ended = ⊥
@@ -72,7 +72,7 @@ module _ (base : ℕ) (set : Name → ℕ) (all : List Line) (bytes : List ℕ) 
     run : ImageSteps image steps t to
     tied : IsLost s ⊎ Tied s to
 
-  arrive : (q x y : ℕ) (n m : Next) → R q x → R (q + 1) y → NextTied R n m → AtTied (arrives q (q + 1) n) (arrives x y m)
+  arrive : (q x y : ℕ) (n m : Continuation) → R q x → R (q + 1) y → NextTied R n m → AtTied (arrives q (q + 1) n) (arrives x y m)
   arrive q x y On On here next h = next
   arrive q x y Stay Stay here next h = here
   arrive q x y (To p) (To z) here next h = h
@@ -90,7 +90,7 @@ module _ (base : ℕ) (set : Name → ℕ) (all : List Line) (bytes : List ℕ) 
   }
 
   -- at an instruction, both make one step
-  there_follows : (before after : List Line) (l : Line) (i : Instr) (mention : Option Mention) → all ≡ before ++ l ∷ after → l.statement ≡ Runs i mention → (w : World) (es : List Event)
+  there_follows : (before after : List ListingLine) (l : ListingLine) (i : Instr) (mention : Option Mention) → all ≡ before ++ l ∷ after → l.statement ≡ Instruction i mention → (w : World) (es : List Event)
       → Comes (step names code (state w (Here (length (places_of before))) es)) (state w (Here (end_of base before)) es)
   there_follows before after l i mention e s w es =
       let q = length (places_of before) in
@@ -153,7 +153,7 @@ module _ (base : ℕ) (set : Name → ℕ) (all : List Line) (bytes : List ℕ) 
     by (Some (Word v)) e = fell (state w (Here q) es)
     by (Some (Op i m)) e = absurd (true≢false (sym (ap is_op_place e) ∙ d))
 
-  tied_follows : (a b : At) → AtTied a b → (w : World) (es : List Event) → Comes (step names code (state w a es)) (state w b es)
+  tied_follows : (a b : Position) → AtTied a b → (w : World) (es : List Event) → Comes (step names code (state w a es)) (state w b es)
   tied_follows (Here q) (Here x) (inl d) w es = record { steps = 0; to = state w (Here x) es; run = none (state w (Here x) es); tied = inl (doomed q d w es) }
   tied_follows (Here q) (Here x) (inr s) w es = slides_follow q x s w es
   tied_follows (Here q) Ended h w es = absurd h
@@ -161,7 +161,7 @@ module _ (base : ℕ) (set : Name → ℕ) (all : List Line) (bytes : List ℕ) 
   tied_follows Ended Ended h w es = record { steps = 0; to = state w Ended es; run = none (state w Ended es); tied = inr (record { world = refl; events = refl; at = tt }) }
 
   lost_stays : (s : State) → IsLost s → step names code s ≡ s
-  lost_stays s l = ap (λ (a : At). step_at names code a s) l.ended
+  lost_stays s l = ap (λ (a : Position). step_at names code a s) l.ended
 
   run_follows : (n : ℕ) (s t : State) → IsLost s ⊎ Tied s t → Comes (times (step names code) n s) t
   run_follows zero s t f = record { steps = 0; to = t; run = none t; tied = f }
@@ -177,7 +177,7 @@ module _ (base : ℕ) (set : Name → ℕ) (all : List Line) (bytes : List ℕ) 
         tied = rest.tied;
       }
 
-  ended_alike : (a b : At) → AtTied a b → has_ended a ≡ has_ended b
+  ended_alike : (a b : Position) → AtTied a b → has_ended a ≡ has_ended b
   ended_alike (Here q) (Here x) h = refl
   ended_alike (Here q) Ended h = absurd h
   ended_alike Ended (Here x) h = absurd h
@@ -194,7 +194,7 @@ module _ (base : ℕ) (set : Name → ℕ) (all : List Line) (bytes : List ℕ) 
     }
   ]
 
-  pub follows : Follows base set all bytes all
+  pub follows : ImageFollows base set all bytes all
   follows label some w word es n live = by (place_of code label) refl some where
     by : (o : Option ℕ) → place_of (code_of all) label ≡ o → IsSome o → Meets (loaded base set all bytes) (begun_in base all label w es) (times (step (laid base set all) (code_of all)) n (begun (code_of all) label w es))
     by None e h = absurd (true≢false (sym h))
@@ -211,7 +211,7 @@ images_follow base set lines bytes made given fits = follows base set lines byte
 
 -- ---- the image of a rewritten listing against the given one ----
 
-is_ended : (a : At) → has_ended a ≡ true → a ≡ Ended
+is_ended : (a : Position) → has_ended a ≡ true → a ≡ Ended
 is_ended Ended e = refl
 is_ended (Here p) e = absurd (true≢false (sym e))
 

@@ -7,7 +7,7 @@ use Rattle.thumb_syntax.specs.Whole.{is_whole, is_label}
 use Rattle.thumb_syntax.specs.Operands.{is_name}
 use Rattle.thumb_instr.specs.declared.instr.Instr.{Instr}
 use Rattle.thumb_instr.specs.declared.instr.Instr.TheVariants as instr
-use Rattle.thumb_model.specs.Listing.{Name, Mention, Statement, Nothing, Runs, Words, Aligns, Sets, Line, Place, places_in, places_of, labels_from, place_among, place_of, code_of}
+use Rattle.thumb_model.specs.Listing.{Name, Mention, Statement, Nothing, Instruction, Words, Aligns, Sets, ListingLine, Place, places_in, places_of, labels_from, place_among, place_of, code_of}
 use Rattle.thumb_model.specs.Layout.{less, distance, branch_base, instr_fault, instr_size, padding, size_at, is_among, label_address, set_address, cleared, or_else, lies_in, literal_base, branch_fault, literal_fault, aim_fault, Fault, Range, Align}
 use Rattle.thumb_model.specs.Naming.{Naming, word_by, laid}
 use Rattle.thumb_assembler.specs.Bytes.{lies_at, mention_lies, IsSetBy, lies_nowhere, may_leave}
@@ -23,7 +23,7 @@ fixed_is None p s x w h e = h w e
 fixed_is (Some a) None s x w h e = let same : Some a ≡ Some w = e in cc
 fixed_is (Some a) (Some p) s x w h e = let same : Some (a + 1) ≡ Some w = e in cc
 
-pub word_is : (base : ℕ) (all : List Line) (set : Name → ℕ) (name : Name) (w : ℕ) → IsSetBy all set → fixed_word base all name ≡ Some w → (laid base set all).word_of name ≡ w
+pub word_is : (base : ℕ) (all : List ListingLine) (set : Name → ℕ) (name : Name) (w : ℕ) → IsSetBy all set → fixed_word base all name ≡ Some w → (laid base set all).word_of name ≡ w
 word_is base all set name w h e = fixed_is (label_address name base all) (place_of (code_of all) name) (set_address name all) (set name) w (h name) e
 
 fixed_lost : (a p s : Option ℕ) → fixed_by a p s ≡ None → or_else a (cleared s) ≡ None
@@ -37,10 +37,10 @@ fixed_found None p None w e = absurd (let bad : None ≡ Some w = e in cc)
 fixed_found None p (Some v) w e = refl
 fixed_found (Some a) p s w e = refl
 
-pub word_lost : (base : ℕ) (all : List Line) (name : Name) → fixed_word base all name ≡ None → lies_nowhere base all name ≡ true
+pub word_lost : (base : ℕ) (all : List ListingLine) (name : Name) → fixed_word base all name ≡ None → lies_nowhere base all name ≡ true
 word_lost base all name e = ap (λ (o : Option ℕ). not (is_some o)) (fixed_lost (label_address name base all) (place_of (code_of all) name) (set_address name all) e)
 
-pub word_found : (base : ℕ) (all : List Line) (name : Name) (w : ℕ) → fixed_word base all name ≡ Some w → lies_nowhere base all name ≡ false
+pub word_found : (base : ℕ) (all : List ListingLine) (name : Name) (w : ℕ) → fixed_word base all name ≡ Some w → lies_nowhere base all name ≡ false
 word_found base all name w e = ap not (fixed_found (label_address name base all) (place_of (code_of all) name) (set_address name all) w e)
 
 -- ---- where names lie ----
@@ -50,7 +50,7 @@ lies_is names (Some a) s p x to h e = let same : Some a ≡ Some to = e in cc
 lies_is names None None p x to h e = absurd (let bad : None ≡ Some to = e in cc)
 lies_is names None (Some v) p x to h e = let same : Some (v / 2 * 2) ≡ Some to = e in let is : v / 2 * 2 ≡ to = cc in ap (λ (n : ℕ). n / 2 * 2) (h v refl) ∙ is
 
-pub lies_there : (base : ℕ) (all : List Line) (set : Name → ℕ) (m : Mention) (to : ℕ) → IsSetBy all set → lies_in base all m.name ≡ Some to → mention_lies base (laid base set all) all m ≡ to + m.plus
+pub lies_there : (base : ℕ) (all : List ListingLine) (set : Name → ℕ) (m : Mention) (to : ℕ) → IsSetBy all set → lies_in base all m.name ≡ Some to → mention_lies base (laid base set all) all m ≡ to + m.plus
 lies_there base all set m to h e = ap (λ (n : ℕ). n + m.plus) (lies_is (laid base set all) (label_address m.name base all) (set_address m.name all) (place_of (code_of all) m.name) (set m.name) to (h m.name) e)
 
 -- ---- addresses are even ----
@@ -82,14 +82,14 @@ padding_even size most at k h = picked_even (nat_le ((size - at % size) % size) 
       even_mod size (size / 2) (size - at % size) half less
 ])
 
-pub size_even : (all : List Line) (s : Statement) (at : ℕ) → is_fair all s ≡ true → at % 2 ≡ 0 → size_at s at % 2 ≡ 0
+pub size_even : (all : List ListingLine) (s : Statement) (at : ℕ) → is_fair all s ≡ true → at % 2 ≡ 0 → size_at s at % 2 ≡ 0
 size_even all Nothing at f h = refl
-size_even all (Runs i m) at f h = instr_even i
+size_even all (Instruction i m) at f h = instr_even i
 size_even all (Words vs) at f h = omega arith
 size_even all (Aligns size most) at f h = padding_even size most at f h
 size_even all (Sets name address) at f h = refl
 
-pub label_even : (all : List Line) (name : Name) (at a : ℕ) (ls : List Line) → are_fair all ls ≡ true → at % 2 ≡ 0 → label_address name at ls ≡ Some a → a % 2 ≡ 0
+pub label_even : (all : List ListingLine) (name : Name) (at a : ℕ) (ls : List ListingLine) → are_fair all ls ≡ true → at % 2 ≡ 0 → label_address name at ls ≡ Some a → a % 2 ≡ 0
 label_even all name at a [] f h e = absurd (let bad : None ≡ Some a = e in cc)
 label_even all name at a (l ∷ ls) f h e = elim (cases_Bool (is_among name l.names)) [
   | inl t ↦ let same : Some at ≡ Some a = rw t at e in let is : at ≡ a = cc in omega arith
@@ -104,19 +104,19 @@ lies_even_by (Some a) s to h e = h to e
 lies_even_by None None to h e = absurd (let bad : None ≡ Some to = e in cc)
 lies_even_by None (Some v) to h e = let same : Some (v / 2 * 2) ≡ Some to = e in let is : v / 2 * 2 ≡ to = cc in omega arith
 
-pub lies_even : (base : ℕ) (all : List Line) (name : Name) (to : ℕ) → are_fair all all ≡ true → base % 2 ≡ 0 → lies_in base all name ≡ Some to → to % 2 ≡ 0
+pub lies_even : (base : ℕ) (all : List ListingLine) (name : Name) (to : ℕ) → are_fair all all ≡ true → base % 2 ≡ 0 → lies_in base all name ≡ Some to → to % 2 ≡ 0
 lies_even base all name to f h e = lies_even_by (label_address name base all) (set_address name all) to (λ n g. label_even all name base n all f h g) e
 
 -- ---- what an instruction mentions is there ----
 
-pub unlabelled : (name : Name) (at : ℕ) (ls : List Line) → label_address name at ls ≡ None → from_label name ls ≡ []
+pub unlabelled : (name : Name) (at : ℕ) (ls : List ListingLine) → label_address name at ls ≡ None → from_label name ls ≡ []
 unlabelled name at [] e = refl
 unlabelled name at (l ∷ ls) e = elim (cases_Bool (is_among name l.names)) [
   | inl t ↦ absurd (let bad : Some at ≡ None = rw t at e in cc)
   | inr t ↦ rw t (unlabelled name (at + size_at l.statement at) ls (rw t at e))
 ]
 
-no_code : (name : Name) (places : List Place) (p at : ℕ) (ls : List Line) → label_address name at ls ≡ None → place_among name places (labels_from p ls) ≡ None
+no_code : (name : Name) (places : List Place) (p at : ℕ) (ls : List ListingLine) → label_address name at ls ≡ None → place_among name places (labels_from p ls) ≡ None
 no_code name places p at [] e = refl
 no_code name places p at (l ∷ ls) e = elim (cases_Bool (is_among name l.names)) [
   | inl t ↦ absurd (let bad : Some at ≡ None = rw t at e in cc)
@@ -127,20 +127,20 @@ or_else_none : (a b : Option ℕ) → or_else a b ≡ None → a ≡ None
 or_else_none None b e = refl
 or_else_none (Some a) b e = absurd (let bad : Some a ≡ None = e in cc)
 
-code_found : (base : ℕ) (all : List Line) (name : Name) → is_code_label all name ≡ true → lies_in base all name ≡ None → ⊥
+code_found : (base : ℕ) (all : List ListingLine) (name : Name) → is_code_label all name ≡ true → lies_in base all name ≡ None → ⊥
 code_found base all name c e = true≢false (sym c ∙ ap is_some (no_code name (places_of all) 0 base all (or_else_none (label_address name base all) (cleared (set_address name all)) e)))
 
-literal_found : (base : ℕ) (all : List Line) (m : Mention) → is_literal all m ≡ true → lies_in base all m.name ≡ None → ⊥
+literal_found : (base : ℕ) (all : List ListingLine) (m : Mention) → is_literal all m ≡ true → lies_in base all m.name ≡ None → ⊥
 literal_found base all m c e =
     let none = unlabelled m.name base all (or_else_none (label_address m.name base all) (cleared (set_address m.name all)) e) in
     let a = and_parts (m.plus % 4 == 0) (nat_le m.plus 1020 && reaches (from_label m.name all) (m.plus / 4)) c in
     let b = and_parts (nat_le m.plus 1020) (reaches (from_label m.name all) (m.plus / 4)) a.1 in
-    true≢false (sym b.1 ∙ ap (λ (ls : List Line). reaches ls (m.plus / 4)) none)
+    true≢false (sym b.1 ∙ ap (λ (ls : List ListingLine). reaches ls (m.plus / 4)) none)
 
 -- an instruction that mentions a name which lies nowhere is a branch or a call
-pub lost_leaves : (base : ℕ) (all : List Line) (i : Instr) (m : Mention) → is_fair all (Runs i (Some m)) ≡ true → lies_in base all m.name ≡ None → may_leave i ≡ true
+pub lost_leaves : (base : ℕ) (all : List ListingLine) (i : Instr) (m : Mention) → is_fair all (Instruction i (Some m)) ≡ true → lies_in base all m.name ≡ None → may_leave i ≡ true
 lost_leaves base all i m f e = by i f where
-  by : (j : Instr) → is_fair all (Runs j (Some m)) ≡ true → may_leave j ≡ true
+  by : (j : Instr) → is_fair all (Instruction j (Some m)) ≡ true → may_leave j ≡ true
   by (instr.Branch d) g = refl
   by (instr.Call d) g = refl
   by (instr.BranchIf c d) g = absurd (code_found base all m.name (and_parts (is_whole (instr.BranchIf c d) (label_in (Some m))) (is_code_label all m.name) g).1 e)
@@ -204,9 +204,9 @@ branch_reach half at to plus i few low even z e f =
     record { fault = subst (λ (n : ℕ). aim_fault at i (Some n) 0 ≡ None) same f; even = omega arith; small = omega arith }
 
 -- what a fair instruction mentions is reached, where the layout refuses nothing
-reach : (all : List Line) (at to : ℕ) (i : Instr) (m : Mention) → at ≤ 2 ^ 29 → to % 2 ≡ 0 → is_fair all (Runs i (Some m)) ≡ true → aim_fault at i (Some to) m.plus ≡ None → Reach at (to + m.plus) i
+reach : (all : List ListingLine) (at to : ℕ) (i : Instr) (m : Mention) → at ≤ 2 ^ 29 → to % 2 ≡ 0 → is_fair all (Instruction i (Some m)) ≡ true → aim_fault at i (Some to) m.plus ≡ None → Reach at (to + m.plus) i
 reach all at to i m low even f e = by i f e where
-  by : (j : Instr) → is_fair all (Runs j (Some m)) ≡ true → aim_fault at j (Some to) m.plus ≡ None → Reach at (to + m.plus) j
+  by : (j : Instr) → is_fair all (Instruction j (Some m)) ≡ true → aim_fault at j (Some to) m.plus ≡ None → Reach at (to + m.plus) j
   by (instr.Literal t d) g h = literal_reach at to m.plus (instr.Literal t d) low h refl
   by (instr.Address t d) g h = literal_reach at to m.plus (instr.Address t d) low h refl
   by (instr.BranchIf c d) g h = branch_reach 128 at to m.plus (instr.BranchIf c d) (omega arith) low even (no_plus (d.field == 0) m.name m.plus (and_parts (is_whole (instr.BranchIf c d) (label_in (Some m))) (is_code_label all m.name) g).0) h h
@@ -215,9 +215,9 @@ reach all at to i m low even f e = by i f e where
   by j g h = absurd (true≢false (sym g))
 
 -- the name's bytes, and where it was found
-pub found_there : (base : ℕ) (all : List Line) (m : Mention) (name : Name) (o : Option ℕ) → name ≡ m.name → o ≡ lies_in base all name → lies_in base all m.name ≡ o
+pub found_there : (base : ℕ) (all : List ListingLine) (m : Mention) (name : Name) (o : Option ℕ) → name ≡ m.name → o ≡ lies_in base all name → lies_in base all m.name ≡ o
 found_there base all m name o e f = ap (lies_in base all) (sym e) ∙ sym f
 
-pub reach_found : (base : ℕ) (all : List Line) (at to : ℕ) (i : Instr) (m : Mention) → are_fair all all ≡ true → base % 2 ≡ 0 → at ≤ 2 ^ 29 → is_fair all (Runs i (Some m)) ≡ true → instr_fault (lies_in base all) at i (Some m) ≡ None → lies_in base all m.name ≡ Some to
+pub reach_found : (base : ℕ) (all : List ListingLine) (at to : ℕ) (i : Instr) (m : Mention) → are_fair all all ≡ true → base % 2 ≡ 0 → at ≤ 2 ^ 29 → is_fair all (Instruction i (Some m)) ≡ true → instr_fault (lies_in base all) at i (Some m) ≡ None → lies_in base all m.name ≡ Some to
     → Reach at (to + m.plus) i
 reach_found base all at to i m fair even low here fault found = reach all at to i m low (lies_even base all m.name to fair even found) here (ap (λ (o : Option ℕ). aim_fault at i o m.plus) (sym found) ∙ fault)

@@ -3,7 +3,7 @@ use Rattle.std.proofs.Common.{◌≡◌, ◌∙◌, ℕ, ◌+◌, ◌*◌, ◌/�
 use Rattle.std.proofs.Math.Bool.{and-false}
 use Rattle.thumb_instr.specs.declared.instr.Instr.{Instr}
 use Rattle.thumb_instr.specs.declared.instr.Instr.TheVariants as instr
-use Rattle.thumb_model.specs.Listing.{Name, Mention, Value, Number, OfName, Nothing, Runs, Words, Aligns, Sets, Line}
+use Rattle.thumb_model.specs.Listing.{Name, Mention, Value, Number, OfName, Nothing, Instruction, Words, Aligns, Sets, ListingLine}
 use Rattle.thumb_model.specs.Layout.{instr_size, padding, lies_in}
 use Rattle.thumb_model.specs.Steps.{word_of_value}
 use Rattle.thumb_model.specs.Naming.{laid}
@@ -21,7 +21,7 @@ grown old new here e = ap length e ∙ length-append old here
 
 -- ---- instructions ----
 
-pub code_pushed : (base : ℕ) (all : List Line) (at : ℕ) (i : Instr) (old new : List ℕ) → PushedCode i old new → PushedLaid base all at (Runs i None) old new
+pub code_pushed : (base : ℕ) (all : List ListingLine) (at : ℕ) (i : Instr) (old new : List ℕ) → PushedCode i old new → PushedLaid base all at (Instruction i None) old new
 code_pushed base all at i old new p =
     let size = grown old new p.here p.pushed in
     let long = p.long in
@@ -39,7 +39,7 @@ aims_size at to (instr.Branch d) j a = ap instr_size a.2
 aims_size at to (instr.Call d) j a = ap instr_size a.2
 aims_size at to i j a = ap instr_size a
 
-pub aimed_pushed : (base : ℕ) (all : List Line) (at x : ℕ) (i j : Instr) (m : Mention) (old new : List ℕ) → lies_in base all m.name ≡ Some x → Aims at (x + m.plus) i j → PushedCode j old new → PushedLaid base all at (Runs i (Some m)) old new
+pub aimed_pushed : (base : ℕ) (all : List ListingLine) (at x : ℕ) (i j : Instr) (m : Mention) (old new : List ℕ) → lies_in base all m.name ≡ Some x → Aims at (x + m.plus) i j → PushedCode j old new → PushedLaid base all at (Instruction i (Some m)) old new
 aimed_pushed base all at x i j m old new e a p =
     let size = grown old new p.here p.pushed in
     let long = p.long in
@@ -51,38 +51,38 @@ aimed_pushed base all at x i j m old new e a p =
       long = omega arith;
     }
 
-pub aimed_lost : (base : ℕ) (all : List Line) (i : Instr) (m : Mention) → is_fair all (Runs i (Some m)) ≡ true → lies_in base all m.name ≡ None → flaw_of base all (Runs i (Some m)) ≡ Some flaw.NoAddress
+pub aimed_lost : (base : ℕ) (all : List ListingLine) (i : Instr) (m : Mention) → is_fair all (Instruction i (Some m)) ≡ true → lies_in base all m.name ≡ None → flaw_of base all (Instruction i (Some m)) ≡ Some flaw.NoAddress
 aimed_lost base all i m f e =
     let lost : branch_lost base all i (Some m) ≡ true = ap (λ (o : Option ℕ). may_leave i && not (is_some o)) e ∙ ap (λ (b : Bool). b && true) (lost_leaves base all i m f e) in
     ap (λ (b : Bool). if b then Some flaw.NoAddress else None) lost
 
 -- ---- words ----
 
-pub number_pushed : (base : ℕ) (all : List Line) (n : ℕ) (old new : List ℕ) → n < 2 ^ 32 → new ≡ old ++ word_bytes n → PushedValue base all (Number n) old new
+pub number_pushed : (base : ℕ) (all : List ListingLine) (n : ℕ) (old new : List ℕ) → n < 2 ^ 32 → new ≡ old ++ word_bytes n → PushedValue base all (Number n) old new
 number_pushed base all n old new l e =
     let same : n ≡ n % 2 ^ 32 = omega arith in
     record { found = refl; pushed = λ set h. e ∙ ap (λ (w : ℕ). old ++ word_bytes w) same; long = grown old new (word_bytes n) e }
 
-pub name_pushed : (base : ℕ) (all : List Line) (m : Mention) (w : ℕ) (old new : List ℕ) → fixed_word base all m.name ≡ Some w → new ≡ old ++ word_bytes ((w + m.plus) % 2 ^ 32) → PushedValue base all (OfName m) old new
+pub name_pushed : (base : ℕ) (all : List ListingLine) (m : Mention) (w : ℕ) (old new : List ℕ) → fixed_word base all m.name ≡ Some w → new ≡ old ++ word_bytes ((w + m.plus) % 2 ^ 32) → PushedValue base all (OfName m) old new
 name_pushed base all m w old new f e = record {
   found = word_found base all m.name w f;
   pushed = λ set h. e ∙ ap (λ (n : ℕ). old ++ word_bytes ((n + m.plus) % 2 ^ 32)) (sym (word_is base all set m.name w h f));
   long = grown old new (word_bytes ((w + m.plus) % 2 ^ 32)) e;
 }
 
-pub name_lost : (base : ℕ) (all : List Line) (m : Mention) → fixed_word base all m.name ≡ None → value_lost base all (OfName m) ≡ true
+pub name_lost : (base : ℕ) (all : List ListingLine) (m : Mention) → fixed_word base all m.name ≡ None → value_lost base all (OfName m) ≡ true
 name_lost base all m e = word_lost base all m.name e
 
 -- the first words came behind
-pub record Front (base : ℕ) (all : List Line) (vs : List Value) (old : List ℕ) (left : List Value) (now : List ℕ) : Type 0 where
+pub record Front (base : ℕ) (all : List ListingLine) (vs : List Value) (old : List ℕ) (left : List Value) (now : List ℕ) : Type 0 where
   pub found : values_lost base all vs ≡ values_lost base all left
   pub pushed : (set : Name → ℕ) → IsSetBy all set → now ++ words_bytes (laid base set all) left ≡ old ++ words_bytes (laid base set all) vs
   pub long : length now + 4 * length left ≡ length old + 4 * length vs
 
-pub front_start : (base : ℕ) (all : List Line) (vs : List Value) (old : List ℕ) → Front base all vs old vs old
+pub front_start : (base : ℕ) (all : List ListingLine) (vs : List Value) (old : List ℕ) → Front base all vs old vs old
 front_start base all vs old = record { found = refl; pushed = λ set h. refl; long = refl }
 
-pub front_more : (base : ℕ) (all : List Line) (vs : List Value) (old : List ℕ) (v : Value) (left : List Value) (now new : List ℕ) → Front base all vs old (v ∷ left) now → PushedValue base all v now new → Front base all vs old left new
+pub front_more : (base : ℕ) (all : List ListingLine) (vs : List Value) (old : List ℕ) (v : Value) (left : List Value) (now new : List ℕ) → Front base all vs old (v ∷ left) now → PushedValue base all v now new → Front base all vs old left new
 front_more base all vs old v left now new f p =
     let a = f.long in
     let b = p.long in
@@ -95,22 +95,22 @@ front_more base all vs old v left now new f p =
       long = omega arith;
     }
 
-pub front_lost : (base : ℕ) (all : List Line) (vs : List Value) (old : List ℕ) (v : Value) (left : List Value) (now : List ℕ) → Front base all vs old (v ∷ left) now → value_lost base all v ≡ true → values_lost base all vs ≡ true
+pub front_lost : (base : ℕ) (all : List ListingLine) (vs : List Value) (old : List ℕ) (v : Value) (left : List Value) (now : List ℕ) → Front base all vs old (v ∷ left) now → value_lost base all v ≡ true → values_lost base all vs ≡ true
 front_lost base all vs old v left now f e = f.found ∙ ap (λ (b : Bool). b || values_lost base all left) e
 
-pub front_all : (base : ℕ) (all : List Line) (vs : List Value) (old now : List ℕ) → Front base all vs old [] now → PushedValues base all vs old now
+pub front_all : (base : ℕ) (all : List ListingLine) (vs : List Value) (old now : List ℕ) → Front base all vs old [] now → PushedValues base all vs old now
 front_all base all vs old now f =
     let a = f.long in
     record { found = f.found; pushed = λ set h. sym (append-nil now) ∙ f.pushed set h; long = omega arith }
 
-words_pushed : (base : ℕ) (all : List Line) (at : ℕ) (vs : List Value) (old new : List ℕ) → PushedValues base all vs old new → PushedLaid base all at (Words vs) old new
+words_pushed : (base : ℕ) (all : List ListingLine) (at : ℕ) (vs : List Value) (old new : List ℕ) → PushedValues base all vs old new → PushedLaid base all at (Words vs) old new
 words_pushed base all at vs old new p = record {
   sound = ap (λ (b : Bool). if b then Some flaw.NoAddress else None) p.found;
   pushed = λ set h. record { here = words_bytes (laid base set all) vs; are = refl; pushed = p.pushed set h };
   long = p.long;
 }
 
-pub words_push : {T : Type 0} (base : ℕ) (all : List Line) (at : ℕ) (vs : List Value) (old new : List ℕ) (r : Result T Flaw) → PushesValues base all vs old new r → Pushes base all at (Words vs) old new r
+pub words_push : {T : Type 0} (base : ℕ) (all : List ListingLine) (at : ℕ) (vs : List Value) (old new : List ℕ) (r : Result T Flaw) → PushesValues base all vs old new r → Pushes base all at (Words vs) old new r
 words_push base all at vs old new (Ok t) p = words_pushed base all at vs old new p
 words_push base all at vs old new (Err flaw.NoAddress) p = ap (λ (b : Bool). if b then Some flaw.NoAddress else None) p
 words_push base all at vs old new (Err flaw.Inside) p = absurd p
@@ -121,24 +121,24 @@ words_push base all at vs old new (Err flaw.Memory) p = tt
 nothing_came : (old : List ℕ) → length old ≡ length old + 0
 nothing_came old = omega arith
 
-pub nothing_pushed : (base : ℕ) (all : List Line) (at : ℕ) (old : List ℕ) → PushedLaid base all at Nothing old old
+pub nothing_pushed : (base : ℕ) (all : List ListingLine) (at : ℕ) (old : List ℕ) → PushedLaid base all at Nothing old old
 nothing_pushed base all at old = record {
   sound = refl;
   pushed = λ set h. record { here = []; are = refl; pushed = sym (append-nil old) };
   long = nothing_came old;
 }
 
-pub set_pushed : (base : ℕ) (all : List Line) (at : ℕ) (name : Name) (address : ℕ) (old : List ℕ) → lies_inside base all address ≡ false → PushedLaid base all at (Sets name address) old old
+pub set_pushed : (base : ℕ) (all : List ListingLine) (at : ℕ) (name : Name) (address : ℕ) (old : List ℕ) → lies_inside base all address ≡ false → PushedLaid base all at (Sets name address) old old
 set_pushed base all at name address old e = record {
   sound = ap (λ (b : Bool). if b then Some flaw.Inside else None) e;
   pushed = λ set h. record { here = []; are = refl; pushed = sym (append-nil old) };
   long = nothing_came old;
 }
 
-pub set_inside : (base : ℕ) (all : List Line) (name : Name) (address : ℕ) → lies_inside base all address ≡ true → flaw_of base all (Sets name address) ≡ Some flaw.Inside
+pub set_inside : (base : ℕ) (all : List ListingLine) (name : Name) (address : ℕ) → lies_inside base all address ≡ true → flaw_of base all (Sets name address) ≡ Some flaw.Inside
 set_inside base all name address e = ap (λ (b : Bool). if b then Some flaw.Inside else None) e
 
-pub padding_pushed : (base : ℕ) (all : List Line) (at size most : ℕ) (old new : List ℕ) → is_fair all (Aligns size most) ≡ true → at % 2 ≡ 0 → new ≡ old ++ nops (padding size most at) → PushedLaid base all at (Aligns size most) old new
+pub padding_pushed : (base : ℕ) (all : List ListingLine) (at size most : ℕ) (old new : List ℕ) → is_fair all (Aligns size most) ≡ true → at % 2 ≡ 0 → new ≡ old ++ nops (padding size most at) → PushedLaid base all at (Aligns size most) old new
 padding_pushed base all at size most old new f h e =
     let even = padding_even size most at f h in
     let n = padding size most at in

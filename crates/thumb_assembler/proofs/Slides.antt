@@ -8,8 +8,8 @@ use Rattle.thumb_model.proofs.Moved.{count_append}
 use Rattle.thumb_model.proofs.Returns.{no_words}
 use Rattle.thumb_instr.specs.declared.instr.Instr.{Instr}
 use Rattle.thumb_instr.specs.declared.instr.Instr.TheVariants as instr
-use Rattle.thumb_instr.specs.declared.operation.Hint.TheVariants as hint
-use Rattle.thumb_model.specs.Listing.{Name, Mention, Value, Statement, Runs, Words, Aligns, Line, Place, Op, Word, Code, places_in, places_of, labels_at, labels_from, code_of, place_of, is_op_place, is_call_instr, call_count}
+use Rattle.thumb_instr.specs.declared.operation.HintOperation.TheVariants as hint
+use Rattle.thumb_model.specs.Listing.{Name, Mention, Value, Statement, Instruction, Words, Aligns, ListingLine, Place, Op, Word, Code, places_in, places_of, labels_at, labels_from, code_of, place_of, is_op_place, is_call_instr, call_count}
 use Rattle.thumb_model.specs.Layout.{instr_size, padding, size_at, end_of, is_among, label_address}
 use Rattle.thumb_model.specs.Naming.{Naming, Fits, points_of, returns_from, points, is_odd, is_in_range, laid, word_by}
 use Rattle.thumb_model.specs.Steps.{label_place, least_or, point_among, landing}
@@ -28,7 +28,7 @@ use Rattle.listing_parser.proofs.TwiceLemmas.{once_none}
 use Rattle.thumb_machine.proofs.PointsMade.{points_append}
 use Rattle.thumb_assembler.proofs.Fetched.{fair_here, even_here, padding_here, fetched_here, out_of_image}
 
-module _ (base : ℕ) (set : Name → ℕ) (all : List Line) (bytes : List ℕ) (made : IsAssembled base all bytes) (given : IsSetBy all set) where
+module _ (base : ℕ) (set : Name → ℕ) (all : List ListingLine) (bytes : List ℕ) (made : IsAssembled base all bytes) (given : IsSetBy all set) where
   abbrev names : Naming
   names = laid base set all
 
@@ -39,7 +39,7 @@ module _ (base : ℕ) (set : Name → ℕ) (all : List Line) (bytes : List ℕ) 
   image = loaded base set all bytes
 
   pub data Slides (q : ℕ) : ℕ → Type 0 where
-    there : (before after : List Line) (l : Line) (i : Instr) (mention : Option Mention) (x : ℕ) → all ≡ before ++ l ∷ after → l.statement ≡ Runs i mention → length (places_of before) ≡ q → end_of base before ≡ x → Slides q x
+    there : (before after : List ListingLine) (l : ListingLine) (i : Instr) (mention : Option Mention) (x : ℕ) → all ≡ before ++ l ∷ after → l.statement ≡ Instruction i mention → length (places_of before) ≡ q → end_of base before ≡ x → Slides q x
     slid : (x : ℕ) → IsFetched image x (instr.Hint hint.Nop) → Slides q (x + 2) → Slides q x
 
   -- or no instruction is at the place
@@ -57,17 +57,17 @@ module _ (base : ℕ) (set : Name → ℕ) (all : List Line) (bytes : List ℕ) 
   arrive_more q j x y e f (inr s) = inr (slide_more q j x y e f s)
 
   -- a line without bytes or places
-  pass : (before : List Line) (l : Line) → length (places_in l.statement) ≡ 0 → size_at l.statement (end_of base before) ≡ 0 → Arrives (length (places_of (before ++ l ∷ []))) (end_of base (before ++ l ∷ [])) → Arrives (length (places_of before)) (end_of base before)
+  pass : (before : List ListingLine) (l : ListingLine) → length (places_in l.statement) ≡ 0 → size_at l.statement (end_of base before) ≡ 0 → Arrives (length (places_of (before ++ l ∷ []))) (end_of base (before ++ l ∷ [])) → Arrives (length (places_of before)) (end_of base before)
   pass before l p z a =
       let places = next_places before l in
       let ends = next_end base before l in
       subst (λ (q : ℕ). Arrives q (end_of base before)) (let e : length (places_of (before ++ l ∷ [])) ≡ length (places_of before) = omega arith in e)
       (subst (Arrives (length (places_of (before ++ l ∷ [])))) (let e : end_of base (before ++ l ∷ []) ≡ end_of base before = omega arith in e) a)
 
-  slides_by : (before after : List Line) (l : Line) → all ≡ before ++ l ∷ after → Arrives (length (places_of (before ++ l ∷ []))) (end_of base (before ++ l ∷ [])) → (s : Statement) → l.statement ≡ s → Arrives (length (places_of before)) (end_of base before)
+  slides_by : (before after : List ListingLine) (l : ListingLine) → all ≡ before ++ l ∷ after → Arrives (length (places_of (before ++ l ∷ []))) (end_of base (before ++ l ∷ [])) → (s : Statement) → l.statement ≡ s → Arrives (length (places_of before)) (end_of base before)
   slides_by before after l e next (Words (v ∷ vs)) is =
-      inl (ap is_op_place (ap (λ (ls : List Line). slice_get (places_of ls) (length (places_of before))) e ∙ first_behind before (l ∷ after) ∙ ap (λ (t : Statement). slice_get (places_in t ++ places_of after) 0) is))
-  slides_by before after l e next (Runs i mention) is = inr (there before after l i mention (end_of base before) e is refl refl)
+      inl (ap is_op_place (ap (λ (ls : List ListingLine). slice_get (places_of ls) (length (places_of before))) e ∙ first_behind before (l ∷ after) ∙ ap (λ (t : Statement). slice_get (places_in t ++ places_of after) 0) is))
+  slides_by before after l e next (Instruction i mention) is = inr (there before after l i mention (end_of base before) e is refl refl)
   slides_by before after l e next (Aligns size most) is =
       let p = padding size most (end_of base before) in
       let even = padding_even size most (end_of base before) (subst (λ (t : Statement). is_fair all t ≡ true) is (fair_here base set all bytes made given before after l e)) (even_here base set all bytes made given before (l ∷ after) e) in
@@ -80,8 +80,8 @@ module _ (base : ℕ) (set : Name → ℕ) (all : List Line) (bytes : List ℕ) 
   slides_by before after l e next s is = pass before l (ap (λ (t : Statement). length (places_in t)) is) (ap (λ (t : Statement). size_at t (end_of base before)) is) next
 
   -- a cut of the lines is one of the places and one of the addresses
-  pub slides_from : (after before : List Line) → all ≡ before ++ after → Arrives (length (places_of before)) (end_of base before)
-  slides_from [] before e = inl (ap is_op_place (ap (λ (ls : List Line). slice_get (places_of ls) (length (places_of before))) e ∙ first_behind before []))
+  pub slides_from : (after before : List ListingLine) → all ≡ before ++ after → Arrives (length (places_of before)) (end_of base before)
+  slides_from [] before e = inl (ap is_op_place (ap (λ (ls : List ListingLine). slice_get (places_of ls) (length (places_of before))) e ∙ first_behind before []))
   slides_from (l ∷ after) before e = slides_by before after l e (slides_from after (before ++ l ∷ []) (next_cut all before after l e)) l.statement refl
 
   -- where an instruction is to come, the address is one of the image
@@ -163,17 +163,17 @@ module _ (base : ℕ) (set : Name → ℕ) (all : List Line) (bytes : List ℕ) 
   word_of_label n a p e f = ap (λ (o : Option ℕ). word_by (set n) o (place_of code n)) e ∙ ap (word_by (set n) (Some a)) f
 
   -- a label of a line has the line's address and place
-  label_here : (before after : List Line) (l : Line) (n : Name) → all ≡ before ++ l ∷ after → is_among n l.names ≡ true → is_op_place (slice_get (places_of all) (length (places_of before))) ≡ true → names.word_of n ≡ end_of base before + 1
+  label_here : (before after : List ListingLine) (l : ListingLine) (n : Name) → all ≡ before ++ l ∷ after → is_among n l.names ≡ true → is_op_place (slice_get (places_of all) (length (places_of before))) ≡ true → names.word_of n ≡ end_of base before + 1
   unfolding code_place
   label_here before after l n e t o =
       let once : first_twice 1 [] (before ++ l ∷ after) ≡ None = once_none (before ++ l ∷ after) (subst DefineOnce e made.listed.once) in
       let address : label_address n base all ≡ Some (end_of base before) = ap (label_address n base) e ∙ first_label n 1 base [] before after l once t in
-      let place : label_place n (labels_from 0 all) ≡ Some (0 + length (places_of before)) = ap (λ (ls : List Line). label_place n (labels_from 0 ls)) e ∙ first_place n 1 0 [] before after l once t in
+      let place : label_place n (labels_from 0 all) ≡ Some (0 + length (places_of before)) = ap (λ (ls : List ListingLine). label_place n (labels_from 0 ls)) e ∙ first_place n 1 0 [] before after l once t in
       let zero : 0 + length (places_of before) ≡ length (places_of before) = omega arith in
       let found : place_of code n ≡ Some (length (places_of before)) = label_is n ∙ ap (code_place (places_of all)) (place ∙ ap (λ (m : ℕ). Some m) zero) ∙ rw o refl in
       word_of_label n (end_of base before) (length (places_of before)) address found
 
-  at_first : (before after : List Line) (l : Line) → all ≡ before ++ l ∷ after → (seen : List Name) (n : Name) (ns : List Name) → l.names ≡ seen ++ n ∷ ns → (j w p : ℕ)
+  at_first : (before after : List ListingLine) (l : ListingLine) → all ≡ before ++ l ∷ after → (seen : List Name) (n : Name) (ns : List Name) → l.names ≡ seen ++ n ∷ ns → (j w p : ℕ)
       → slice_get ((names.word_of n, length (places_of before)) ∷ points_of names (places_of all) (labels_at (length (places_of before)) ns)) j ≡ Some (w, p) → is_op_place (slice_get (places_of all) (length (places_of before))) ≡ true
       → ((k : ℕ) → slice_get (points_of names (places_of all) (labels_at (length (places_of before)) ns)) k ≡ Some (w, p) → PointIs w p) → PointIs w p
   at_first before after l e seen n ns s zero w p f t rest =
@@ -184,7 +184,7 @@ module _ (base : ℕ) (set : Name → ℕ) (all : List Line) (bytes : List ℕ) 
   at_first before after l e seen n ns s (suc j) w p f t rest = rest j f
 
   -- the code points of one line's labels
-  labels_here : (before after : List Line) (l : Line) → all ≡ before ++ l ∷ after → (seen ns : List Name) → l.names ≡ seen ++ ns → (k w p : ℕ)
+  labels_here : (before after : List ListingLine) (l : ListingLine) → all ≡ before ++ l ∷ after → (seen ns : List Name) → l.names ≡ seen ++ ns → (k w p : ℕ)
       → slice_get (points_of names (places_of all) (labels_at (length (places_of before)) ns)) k ≡ Some (w, p) → PointIs w p
   labels_here before after l e seen [] s k w p g = absurd (let bad : None ≡ Some (w, p) = g in cc)
   labels_here before after l e seen (n ∷ ns) s k w p g = elim (cases_Bool (is_op_place (slice_get (places_of all) (length (places_of before))))) [
@@ -192,7 +192,7 @@ module _ (base : ℕ) (set : Name → ℕ) (all : List Line) (bytes : List ℕ) 
     | inl t ↦ at_first before after l e seen n ns s k w p (rw t at g) t (λ j f. labels_here before after l e (seen ++ n ∷ []) ns (s ∙ sym (append_assoc seen (n ∷ []) ns)) j w p f)
   ]
 
-  labels_point : (after before : List Line) → all ≡ before ++ after → (k w p : ℕ) → slice_get (points_of names (places_of all) (labels_from (length (places_of before)) after)) k ≡ Some (w, p) → PointIs w p
+  labels_point : (after before : List ListingLine) → all ≡ before ++ after → (k w p : ℕ) → slice_get (points_of names (places_of all) (labels_from (length (places_of before)) after)) k ≡ Some (w, p) → PointIs w p
   labels_point [] before e k w p g = absurd (let bad : None ≡ Some (w, p) = g in cc)
   labels_point (l ∷ after) before e k w p g =
       let places = next_places before l in
@@ -205,42 +205,42 @@ module _ (base : ℕ) (set : Name → ℕ) (all : List Line) (bytes : List ℕ) 
 
   -- ---- return points ----
 
-  first_address : (a : ℕ) (l : Line) (after : List Line) (i : Instr) (mention : Option Mention) → l.statement ≡ Runs i mention → slice_get (addresses_from a (l ∷ after)) 0 ≡ Some a
+  first_address : (a : ℕ) (l : ListingLine) (after : List ListingLine) (i : Instr) (mention : Option Mention) → l.statement ≡ Instruction i mention → slice_get (addresses_from a (l ∷ after)) 0 ≡ Some a
   first_address a l after i mention s = ap (λ (t : Statement). slice_get (addresses_in a t ++ addresses_from (a + size_at l.statement a) after) 0) s
 
-  first_op : (l : Line) (after : List Line) (i : Instr) (mention : Option Mention) → l.statement ≡ Runs i mention → slice_get (places_of (l ∷ after)) 0 ≡ Some (Op i mention)
+  first_op : (l : ListingLine) (after : List ListingLine) (i : Instr) (mention : Option Mention) → l.statement ≡ Instruction i mention → slice_get (places_of (l ∷ after)) 0 ≡ Some (Op i mention)
   first_op l after i mention s = ap (λ (t : Statement). slice_get (places_in t ++ places_of after) 0) s
 
   -- the place of an instruction's line
-  pub place_here : (before after : List Line) (l : Line) (i : Instr) (mention : Option Mention) → all ≡ before ++ l ∷ after → l.statement ≡ Runs i mention → slice_get (places_of all) (length (places_of before)) ≡ Some (Op i mention)
-  place_here before after l i mention e s = ap (λ (ls : List Line). slice_get (places_of ls) (length (places_of before))) e ∙ first_behind before (l ∷ after) ∙ first_op l after i mention s
+  pub place_here : (before after : List ListingLine) (l : ListingLine) (i : Instr) (mention : Option Mention) → all ≡ before ++ l ∷ after → l.statement ≡ Instruction i mention → slice_get (places_of all) (length (places_of before)) ≡ Some (Op i mention)
+  place_here before after l i mention e s = ap (λ (ls : List ListingLine). slice_get (places_of ls) (length (places_of before))) e ∙ first_behind before (l ∷ after) ∙ first_op l after i mention s
 
   -- a call's return word is that of the address behind it
-  pub return_here : (before after : List Line) (l : Line) (i : Instr) (mention : Option Mention) → all ≡ before ++ l ∷ after → l.statement ≡ Runs i mention → is_call_instr i ≡ true
+  pub return_here : (before after : List ListingLine) (l : ListingLine) (i : Instr) (mention : Option Mention) → all ≡ before ++ l ∷ after → l.statement ≡ Instruction i mention → is_call_instr i ≡ true
       → names.return_word (call_count (take (length (places_of before)) (places_of all))) ≡ end_of base before + instr_size i + 1
   return_here before after l i mention e s c =
       let place : slice_get (places_of all) (length (places_of before)) ≡ Some (Op i mention) = place_here before after l i mention e s in
       let address : slice_get (addresses_from base all) (length (places_of before)) ≡ Some (end_of base before) =
-      ap (λ (ls : List Line). slice_get (addresses_from base ls) (length (places_of before))) e ∙ address_behind base before (l ∷ after) ∙ first_address (end_of base before) l after i mention s in
+      ap (λ (ls : List ListingLine). slice_get (addresses_from base ls) (length (places_of before))) e ∙ address_behind base before (l ∷ after) ∙ first_address (end_of base before) l after i mention s in
       ap (λ (n : ℕ). n + 1) (return_point base all (length (places_of before)) (Op i mention) (end_of base before) place c address)
 
   returns_words : (k p : ℕ) (vs : List Value) (ps : List Place) → returns_from names k p (map Word vs ++ ps) ≡ returns_from names k (p + length (map Word vs)) ps
   returns_words k p [] ps = ap (λ (n : ℕ). returns_from names k n ps) (let e : p ≡ p + 0 = omega arith in e)
   returns_words k p (v ∷ vs) ps = returns_words k (p + 1) vs ps ∙ ap (λ (n : ℕ). returns_from names k n ps) (let e : p + 1 + length (map Word vs) ≡ p + suc (length (map Word vs)) = omega arith in e)
 
-  count_front : (before : List Line) (l : Line) → call_count (places_of (before ++ l ∷ [])) ≡ call_count (places_of before ++ places_in l.statement)
+  count_front : (before : List ListingLine) (l : ListingLine) → call_count (places_of (before ++ l ∷ [])) ≡ call_count (places_of before ++ places_in l.statement)
   count_front before l = ap call_count (places_append before (l ∷ []) ∙ ap (λ (ps : List Place). places_of before ++ ps) (append-nil (places_in l.statement)))
 
-  abbrev ReturnsFrom : List Line → List Line → Type 0
+  abbrev ReturnsFrom : List ListingLine → List ListingLine → Type 0
   ReturnsFrom after before = (j w p : ℕ) → slice_get (returns_from names (call_count (places_of before)) (length (places_of before)) (places_of after)) j ≡ Some (w, p) → PointIs w p
 
-  returns_next : (before after : List Line) (l : Line) (c : ℕ) → call_count (places_in l.statement) ≡ c → ReturnsFrom after (before ++ l ∷ []) → (j w p : ℕ)
+  returns_next : (before after : List ListingLine) (l : ListingLine) (c : ℕ) → call_count (places_in l.statement) ≡ c → ReturnsFrom after (before ++ l ∷ []) → (j w p : ℕ)
       → slice_get (returns_from names (call_count (places_of before) + c) (length (places_of before) + length (places_in l.statement)) (places_of after)) j ≡ Some (w, p) → PointIs w p
   returns_next before after l c is rest j w p g =
       let counts = count_front before l ∙ count_append (places_of before) (places_in l.statement) ∙ ap (λ (n : ℕ). call_count (places_of before) + n) is in
       rest j w p (ap (λ (n : ℕ). slice_get (returns_from names n (length (places_of (before ++ l ∷ []))) (places_of after)) j) counts ∙ ap (λ (n : ℕ). slice_get (returns_from names (call_count (places_of before) + c) n (places_of after)) j) (next_places before l) ∙ g)
 
-  quiet : (before after : List Line) (l : Line) → places_in l.statement ≡ [] → ReturnsFrom after (before ++ l ∷ []) → ReturnsFrom (l ∷ after) before
+  quiet : (before after : List ListingLine) (l : ListingLine) → places_in l.statement ≡ [] → ReturnsFrom after (before ++ l ∷ []) → ReturnsFrom (l ∷ after) before
   quiet before after l empty rest j w p g =
       let long : length (places_in l.statement) ≡ 0 = ap length empty in
       returns_next before after l 0 (ap call_count empty) rest j w p
@@ -249,12 +249,12 @@ module _ (base : ℕ) (set : Name → ℕ) (all : List Line) (bytes : List ℕ) 
       ∙ ap (λ (ps : List Place). slice_get (returns_from names (call_count (places_of before)) (length (places_of before)) (ps ++ places_of after)) j) (sym empty)
       ∙ g)
 
-  called : (before after : List Line) (l : Line) (i : Instr) (mention : Option Mention) → all ≡ before ++ l ∷ after → l.statement ≡ Runs i mention → is_call_instr i ≡ true → ReturnsFrom after (before ++ l ∷ []) → (m w p : ℕ)
+  called : (before after : List ListingLine) (l : ListingLine) (i : Instr) (mention : Option Mention) → all ≡ before ++ l ∷ after → l.statement ≡ Instruction i mention → is_call_instr i ≡ true → ReturnsFrom after (before ++ l ∷ []) → (m w p : ℕ)
       → slice_get ((names.return_word (call_count (places_of before)), length (places_of before) + 1) ∷ returns_from names (call_count (places_of before) + 1) (length (places_of before) + 1) (places_of after)) m ≡ Some (w, p) → PointIs w p
   called before after l i mention e is c rest zero w p f =
       let same : Some (names.return_word (call_count (places_of before)), length (places_of before) + 1) ≡ Some (w, p) = f in
       let pair : (names.return_word (call_count (places_of before)), length (places_of before) + 1) ≡ (w, p) = cc in
-      let count : call_count (take (length (places_of before)) (places_of all)) ≡ call_count (places_of before) = ap call_count (ap (λ (ls : List Line). take (length (places_of before)) (places_of ls)) e ∙ places_taken before (l ∷ after)) in
+      let count : call_count (take (length (places_of before)) (places_of all)) ≡ call_count (places_of before) = ap call_count (ap (λ (ls : List ListingLine). take (length (places_of before)) (places_of ls)) e ∙ places_taken before (l ∷ after)) in
       let word : names.return_word (call_count (places_of before)) ≡ end_of base before + instr_size i + 1 = ap names.return_word (sym count) ∙ return_here before after l i mention e is c in
       let ends : end_of base (before ++ l ∷ []) ≡ end_of base before + instr_size i = next_end base before l ∙ ap (λ (t : Statement). end_of base before + size_at t (end_of base before)) is in
       let places : length (places_of (before ++ l ∷ [])) ≡ length (places_of before) + 1 = next_places before l ∙ ap (λ (t : Statement). length (places_of before) + length (places_in t)) is in (
@@ -266,7 +266,7 @@ module _ (base : ℕ) (set : Name → ℕ) (all : List Line) (bytes : List ℕ) 
       returns_next before after l 1 (ap (λ (t : Statement). call_count (places_in t)) is ∙ rw c refl) rest m w p
       (ap (λ (t : Statement). slice_get (returns_from names (call_count (places_of before) + 1) (length (places_of before) + length (places_in t)) (places_of after)) m) is ∙ f)
 
-  returns_by : (before after : List Line) (l : Line) → all ≡ before ++ l ∷ after → ReturnsFrom after (before ++ l ∷ []) → (s : Statement) → l.statement ≡ s → ReturnsFrom (l ∷ after) before
+  returns_by : (before after : List ListingLine) (l : ListingLine) → all ≡ before ++ l ∷ after → ReturnsFrom after (before ++ l ∷ []) → (s : Statement) → l.statement ≡ s → ReturnsFrom (l ∷ after) before
   returns_by before after l e rest (Words vs) is j w p g =
       returns_next before after l 0 (ap (λ (t : Statement). call_count (places_in t)) is ∙ no_words vs) rest j w p
       (ap (λ (n : ℕ). slice_get (returns_from names n (length (places_of before) + length (places_in l.statement)) (places_of after)) j) (let z : call_count (places_of before) + 0 ≡ call_count (places_of before) = omega arith in z)
@@ -274,7 +274,7 @@ module _ (base : ℕ) (set : Name → ℕ) (all : List Line) (bytes : List ℕ) 
       ∙ ap (λ (ps : List (ℕ × ℕ)). slice_get ps j) (sym (returns_words (call_count (places_of before)) (length (places_of before)) vs (places_of after)))
       ∙ ap (λ (t : Statement). slice_get (returns_from names (call_count (places_of before)) (length (places_of before)) (places_in t ++ places_of after)) j) (sym is)
       ∙ g)
-  returns_by before after l e rest (Runs i mention) is j w p g =
+  returns_by before after l e rest (Instruction i mention) is j w p g =
       let there : slice_get (returns_from names (call_count (places_of before)) (length (places_of before)) (Op i mention ∷ places_of after)) j ≡ Some (w, p) =
       ap (λ (t : Statement). slice_get (returns_from names (call_count (places_of before)) (length (places_of before)) (places_in t ++ places_of after)) j) (sym is) ∙ g in
       elim (cases_Bool (is_call_instr i)) [
@@ -286,7 +286,7 @@ module _ (base : ℕ) (set : Name → ℕ) (all : List Line) (bytes : List ℕ) 
       ]
   returns_by before after l e rest s is j w p g = quiet before after l (ap places_in is) rest j w p g
 
-  returns_point : (after before : List Line) → all ≡ before ++ after → ReturnsFrom after before
+  returns_point : (after before : List ListingLine) → all ≡ before ++ after → ReturnsFrom after before
   returns_point [] before e j w p g = absurd (let bad : None ≡ Some (w, p) = g in cc)
   returns_point (l ∷ after) before e j w p g = returns_by before after l e (returns_point after (before ++ l ∷ []) (next_cut all before after l e)) l.statement refl j w p g
 

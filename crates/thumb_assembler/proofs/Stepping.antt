@@ -7,8 +7,8 @@ use Rattle.thumb_machine.specs.declared.world.World.{World}
 use Rattle.thumb_machine.specs.declared.world.Around.{Around}
 use Rattle.thumb_machine.specs.declared.world.End.{End}
 use Rattle.thumb_machine.specs.declared.world.End.TheVariants as end
-use Rattle.thumb_machine.specs.declared.world.Next.{Next}
-use Rattle.thumb_machine.specs.declared.world.Next.TheVariants as next
+use Rattle.thumb_machine.specs.declared.world.Continuation.{Continuation}
+use Rattle.thumb_machine.specs.declared.world.Continuation.TheVariants as next
 use Rattle.thumb_machine.specs.declared.machine.Stage.{Stage}
 use Rattle.thumb_machine.specs.declared.machine.Stage.TheVariants as stage
 use Rattle.thumb_machine.specs.Stages.{stage_of}
@@ -20,8 +20,8 @@ use Rattle.thumb_model.specs.States.{Act, State}
 use Rattle.thumb_model.specs.Acts.{act}
 use Rattle.thumb_model.specs.Steps.{arrives, does, falls, set_bit}
 use Rattle.thumb_model.specs.States as model
-use Rattle.thumb_assembler.specs.declared.machine.At.{At}
-use Rattle.thumb_assembler.specs.declared.machine.At.TheVariants as at
+use Rattle.thumb_assembler.specs.declared.machine.Position.{Position}
+use Rattle.thumb_assembler.specs.declared.machine.Position.TheVariants as at
 use Rattle.thumb_assembler.specs.declared.machine.ImageMachine.{ImageMachine}
 use Rattle.thumb_assembler.specs.Machines.{EndedBy, IsStage, LeadsTo, Stepped, Steps, at_of, loaded_of, state_of}
 use Rattle.thumb_assembler.specs.Runs.{Loaded, stays, acts, falls_out, IsFetched, act_in, around_in, following, literal_in, lands_at, target_in}
@@ -31,7 +31,7 @@ pub around_is : (m : Loaded) (a : ℕ) (i : Instr) (around : Around) → target_
 around_is m a i around t l k = λ n. record { target = t n; literal = l n; link = k n; lands = lands_at m }
 
 -- a run that is over after an instruction ended by its last event
-ended_by : (n : Next) (old new : At) (a b : ℕ) (before es all : List model.Event) → old ≡ at.Here a → at_of new ≡ arrives a b (next_of n) → LeadsTo n new → EndsBy n es → all ≡ before ++ es → EndedBy old new all
+ended_by : (n : Continuation) (old new : Position) (a b : ℕ) (before es all : List model.Event) → old ≡ at.Here a → at_of new ≡ arrives a b (next_of n) → LeadsTo n new → EndsBy n es → all ≡ before ++ es → EndedBy old new all
 ended_by n old (at.Here q) a b before es all here arrived leads ends told = tt
 ended_by next.On old (at.Ended e) a b before es all here arrived leads ends told = absurd (cc)
 ended_by next.Stay old (at.Ended e) a b before es all here arrived leads ends told = absurd (cc)
@@ -39,10 +39,10 @@ ended_by (next.To q) old (at.Ended e) a b before es all here arrived leads ends 
 ended_by (next.Over d) old (at.Ended e) a b before es all here arrived leads ends told =
     let same : e ≡ d = cc in
     let split : all ≡ (before ++ ends.0) ++ ends.1 ∷ [] = told ∙ ap (λ l. before ++ l) ends.2 ∙ sym (append_assoc before ends.0 (ends.1 ∷ [])) in
-    subst (λ (o : At). EndedBy o (at.Ended e) all) (sym here) (before ++ ends.0, ends.1, split, ends.3 ∙ ap (λ (x : End). Some x) (sym same))
+    subst (λ (o : Position). EndedBy o (at.Ended e) all) (sym here) (before ++ ends.0, ends.1, split, ends.3 ∙ ap (λ (x : End). Some x) (sym same))
 
 -- what is known of a step at an instruction
-pub record Done (old : ImageMachine) (before : List Answer) (a : ℕ) (i : Instr) (n : Next) (middle : World) (new : ImageMachine) (left : List Answer) (s : Stage) : Type 0 where
+pub record Done (old : ImageMachine) (before : List Answer) (a : ℕ) (i : Instr) (n : Continuation) (middle : World) (new : ImageMachine) (left : List Answer) (s : Stage) : Type 0 where
   pub here : old.at ≡ at.Here a
   pub fetched : IsFetched (loaded_of old.image) a i
   pub acted : Acted (act (around_in (loaded_of old.image) a i) i (world_of old.world before)) old.world middle left n
@@ -51,7 +51,7 @@ pub record Done (old : ImageMachine) (before : List Answer) (a : ℕ) (i : Instr
   pub stage : IsStage s (next_of n) new.at
   pub leads : LeadsTo n new.at
 
-pub does_step : (old : ImageMachine) (before : List Answer) (a : ℕ) (i : Instr) (n : Next) (middle : World) (new : ImageMachine) (left : List Answer) (s : Stage) → Done old before a i n middle new left s → Stepped old before new left s
+pub does_step : (old : ImageMachine) (before : List Answer) (a : ℕ) (i : Instr) (n : Continuation) (middle : World) (new : ImageMachine) (left : List Answer) (s : Stage) → Done old before a i n middle new left s → Stepped old before new left s
 does_step old before a i n middle new left s d =
     let start : State = state_of old before in
     let x : Act = act_in (loaded_of old.image) a i start in
@@ -64,19 +64,19 @@ does_step old before a i n middle new left s d =
         values = ap (λ (w : World). values_of w.registers) d.world ∙ d.acted.changed.registers;
         memory = ap (λ (w : World). memory_of w.memory) d.world ∙ d.acted.changed.memory;
         answers = d.acted.answers;
-        address = d.at ∙ ap (λ (y : model.Next). arrives a (following a i) y) d.acted.next;
+        address = d.at ∙ ap (λ (y : model.Continuation). arrives a (following a i) y) d.acted.next;
         events = told;
       };
-      stage = subst (λ (y : model.Next). IsStage s y new.at) d.acted.next d.stage;
+      stage = subst (λ (y : model.Continuation). IsStage s y new.at) d.acted.next d.stage;
       ends = ended_by n old.at new.at a (following a i) (events_of old.world.events.items) x.events (events_of new.world.events.items) d.here d.at d.leads d.acted.ends told;
     }
 
-ends_again : (here : At) (e : End) (es : List model.Event) → here ≡ at.Ended e → EndedBy here here es
+ends_again : (here : Position) (e : End) (es : List model.Event) → here ≡ at.Ended e → EndedBy here here es
 ends_again (at.Ended d) e es h = refl
 ends_again (at.Here a) e es h = absurd (cc)
 
-stage_again : (here : At) (e : End) (s : Stage) → here ≡ at.Ended e → s ≡ stage_of e → IsStage s model.Over here
-stage_again here e s h t = subst (λ (x : At). IsStage s model.Over x) (sym h) t
+stage_again : (here : Position) (e : End) (s : Stage) → here ≡ at.Ended e → s ≡ stage_of e → IsStage s model.Over here
+stage_again here e s h t = subst (λ (x : Position). IsStage s model.Over x) (sym h) t
 
 -- an ended machine stays
 pub ended_step : (m : ImageMachine) (left : List Answer) (e : End) (s : Stage) → m.at ≡ at.Ended e → s ≡ stage_of e → Stepped m left m left s
@@ -89,8 +89,8 @@ ended_step m left e s h t = record {
   ends = ends_again m.at e (events_of m.world.events.items) h;
 }
 
-fallen_at : (old new : At) (a : ℕ) (es : List model.Event) → old ≡ at.Here a → new ≡ at.Ended end.Fell → EndedBy old new (es ++ (model.Fell ∷ []))
-fallen_at old new a es h e = subst (λ (x : At). EndedBy x new (es ++ (model.Fell ∷ []))) (sym h) (subst (λ (y : At). EndedBy (at.Here a) y (es ++ (model.Fell ∷ []))) (sym e) (es, model.Fell, refl, refl))
+fallen_at : (old new : Position) (a : ℕ) (es : List model.Event) → old ≡ at.Here a → new ≡ at.Ended end.Fell → EndedBy old new (es ++ (model.Fell ∷ []))
+fallen_at old new a es h e = subst (λ (x : Position). EndedBy x new (es ++ (model.Fell ∷ []))) (sym h) (subst (λ (y : Position). EndedBy (at.Here a) y (es ++ (model.Fell ∷ []))) (sym e) (es, model.Fell, refl, refl))
 
 -- where nothing is fetched, the run falls out
 pub fall_step : (old new : ImageMachine) (left : List Answer) (a : ℕ) (s : Stage) → old.at ≡ at.Here a → ((i : Instr) → IsFetched (loaded_of old.image) a i → ⊥) → Changed [] (memory_of old.world.memory) (model.Fell ∷ []) old.world new.world → s ≡ stage.Fell

@@ -6,7 +6,7 @@ use Rattle.thumb_instr.specs.declared.within.Within.{Within}
 use Rattle.thumb_instr.specs.declared.distance.Distance.{Distance}
 use Rattle.thumb_instr.specs.Items.{bytes_of}
 use Rattle.thumb_table.specs.Table.{Encodes}
-use Rattle.thumb_model.specs.Listing.{Name, Mention, Value, Statement, Nothing, Runs, Words, Aligns, Sets, Line, Number, OfName}
+use Rattle.thumb_model.specs.Listing.{Name, Mention, Value, Statement, Nothing, Instruction, Words, Aligns, Sets, ListingLine, Number, OfName}
 use Rattle.thumb_model.specs.Layout.{instr_size, padding, size_at, label_address, distance, literal_base, set_address, end_of, lies_in}
 use Rattle.thumb_model.specs.Naming.{laid, Naming}
 use Rattle.thumb_model.specs.Steps.{word_of_value}
@@ -44,7 +44,7 @@ abbrev pub lies_at : Naming → Option ℕ → ℕ → ℕ
 lies_at names (Some a) word = a
 lies_at names None word = word / 2 * 2
 
-abbrev pub mention_lies : ℕ → Naming → List Line → Mention → ℕ
+abbrev pub mention_lies : ℕ → Naming → List ListingLine → Mention → ℕ
 mention_lies base names all m = lies_at names (label_address m.name base all) (names.word_of m.name) + m.plus
 
 -- the bytes of data words
@@ -60,7 +60,7 @@ IsInstrBytes i bytes = (first : ℕ) × (second : ℕ) × Encodes i first second
 pub record Laid : Type 0 where
   pub base : ℕ
   pub names : Naming
-  pub lines : List Line
+  pub lines : List ListingLine
 
 -- the bytes of an instruction at an address: as it stands where it mentions nothing
 abbrev pub IsEncoded : Laid → ℕ → Instr → Option Mention → List ℕ → Type 0
@@ -70,32 +70,32 @@ IsEncoded laid at i (Some m) bytes = (j : Instr) × Aims at (mention_lies laid.b
 -- the bytes of a statement at an address
 abbrev pub IsStatementBytes : Laid → ℕ → Statement → List ℕ → Type 0
 IsStatementBytes laid at Nothing bytes = bytes ≡ []
-IsStatementBytes laid at (Runs i mention) bytes = IsEncoded laid at i mention bytes
+IsStatementBytes laid at (Instruction i mention) bytes = IsEncoded laid at i mention bytes
 IsStatementBytes laid at (Words vs) bytes = bytes ≡ words_bytes laid.names vs
 IsStatementBytes laid at (Aligns size most) bytes = bytes ≡ nops (padding size most at)
 IsStatementBytes laid at (Sets name address) bytes = bytes ≡ []
 
 -- the bytes of lines that lie from an address on
-abbrev pub AreLineBytes : Laid → ℕ → List Line → List ℕ → Type 0
+abbrev pub AreLineBytes : Laid → ℕ → List ListingLine → List ℕ → Type 0
 AreLineBytes laid at [] bytes = bytes ≡ []
 AreLineBytes laid at (l ∷ ls) bytes = (here : List ℕ) × (rest : List ℕ) × (bytes ≡ here ++ rest) × IsStatementBytes laid at l.statement here × AreLineBytes laid (at + size_at l.statement at) ls rest
 
 -- the image of a listing at a base
-abbrev pub IsImage : ℕ → (Name → ℕ) → List Line → List ℕ → Type 0
+abbrev pub IsImage : ℕ → (Name → ℕ) → List ListingLine → List ℕ → Type 0
 IsImage base set all bytes = AreLineBytes (record { base = base; names = laid base set all; lines = all }) base all bytes
 
 -- what stands for external names is what the lines set for them, where they set it
-abbrev pub IsSetBy : List Line → (Name → ℕ) → Type 0
+abbrev pub IsSetBy : List ListingLine → (Name → ℕ) → Type 0
 IsSetBy lines set = (name : Name) (address : ℕ) → set_address name lines ≡ Some address → set name ≡ address
 
 -- the bytes are the image of the lines at a base, with the addresses that the lines set
-abbrev pub AreImage : ℕ → List Line → List ℕ → Type 0
+abbrev pub AreImage : ℕ → List ListingLine → List ℕ → Type 0
 AreImage base lines bytes = (set : Name → ℕ) → IsSetBy lines set → IsImage base set lines bytes
 
 -- The first line by which a listing has no image.
 
 -- a name lies nowhere where no label has it and no line sets its address
-abbrev pub lies_nowhere : ℕ → List Line → Name → Bool
+abbrev pub lies_nowhere : ℕ → List ListingLine → Name → Bool
 lies_nowhere base all name = not (is_some (lies_in base all name))
 
 -- B and BL: they go to a name that may be external
@@ -104,26 +104,26 @@ may_leave (instr.Branch d) = true
 may_leave (instr.Call d) = true
 may_leave i = false
 
-abbrev pub branch_lost : ℕ → List Line → Instr → Option Mention → Bool
+abbrev pub branch_lost : ℕ → List ListingLine → Instr → Option Mention → Bool
 branch_lost base all i None = false
 branch_lost base all i (Some m) = may_leave i && lies_nowhere base all m.name
 
-abbrev pub value_lost : ℕ → List Line → Value → Bool
+abbrev pub value_lost : ℕ → List ListingLine → Value → Bool
 value_lost base all (Number n) = false
 value_lost base all (OfName m) = lies_nowhere base all m.name
 
-abbrev pub values_lost : ℕ → List Line → List Value → Bool
+abbrev pub values_lost : ℕ → List ListingLine → List Value → Bool
 values_lost base all [] = false
 values_lost base all (v ∷ vs) = value_lost base all v || values_lost base all vs
 
 -- an address lies in the image where it lies from the base up to and not including the end
-abbrev pub lies_inside : ℕ → List Line → ℕ → Bool
+abbrev pub lies_inside : ℕ → List ListingLine → ℕ → Bool
 lies_inside base all address = nat_le base address && nat_lt address (end_of base all)
 
 -- why a statement has no place in the image: it mentions in `b`, `bl` or `.word` a name that lies nowhere, or sets an address in the image
-abbrev pub flaw_of : ℕ → List Line → Statement → Option Flaw
+abbrev pub flaw_of : ℕ → List ListingLine → Statement → Option Flaw
 flaw_of base all Nothing = None
-flaw_of base all (Runs i mention) = if branch_lost base all i mention then Some flaw.NoAddress else None
+flaw_of base all (Instruction i mention) = if branch_lost base all i mention then Some flaw.NoAddress else None
 flaw_of base all (Words vs) = if values_lost base all vs then Some flaw.NoAddress else None
 flaw_of base all (Aligns size most) = None
 flaw_of base all (Sets name address) = if lies_inside base all address then Some flaw.Inside else None
@@ -133,16 +133,16 @@ abbrev pub or_first : ℕ → Option Flaw → Option (ℕ × Flaw) → Option (�
 or_first n None rest = rest
 or_first n (Some f) rest = Some (n, f)
 
-abbrev pub flaws_from : ℕ → List Line → ℕ → List Line → Option (ℕ × Flaw)
+abbrev pub flaws_from : ℕ → List ListingLine → ℕ → List ListingLine → Option (ℕ × Flaw)
 flaws_from base all n [] = None
 flaws_from base all n (l ∷ ls) = or_first n (flaw_of base all l.statement) (flaws_from base all (n + 1) ls)
 
 -- the first of all, lines counting from 1
-abbrev pub first_flaw : ℕ → List Line → Option (ℕ × Flaw)
+abbrev pub first_flaw : ℕ → List ListingLine → Option (ℕ × Flaw)
 first_flaw base all = flaws_from base all 1 all
 
 -- lines have no image exactly where a line has a flaw, by the first one's
-abbrev pub IsRefusal : ℕ → List Line → ImageError → Type 0
+abbrev pub IsRefusal : ℕ → List ListingLine → ImageError → Type 0
 IsRefusal base all (error.NoAddress line) = first_flaw base all ≡ Some (line, flaw.NoAddress)
 IsRefusal base all (error.Inside line) = first_flaw base all ≡ Some (line, flaw.Inside)
 IsRefusal base all error.Memory = Unit {0}

@@ -4,8 +4,8 @@ use Rattle.thumb_machine.specs.declared.answers.Answer.{Answer}
 use Rattle.thumb_machine.specs.declared.machine.Stage.{Stage}
 use Rattle.thumb_machine.specs.declared.machine.Stage.TheVariants as stage
 use Rattle.thumb_machine.specs.declared.machine.State.{State as Start}
-use Rattle.thumb_machine.specs.declared.world.Next.{Next}
-use Rattle.thumb_machine.specs.declared.world.Next.TheVariants as next
+use Rattle.thumb_machine.specs.declared.world.Continuation.{Continuation}
+use Rattle.thumb_machine.specs.declared.world.Continuation.TheVariants as next
 use Rattle.thumb_machine.specs.declared.world.Target.{Target}
 use Rattle.thumb_machine.specs.Registers.{values_of}
 use Rattle.thumb_machine.specs.Memory.{memory_of}
@@ -17,8 +17,8 @@ use Rattle.thumb_machine.specs.Starting.{start_values}
 use Rattle.thumb_model.specs.States.{State, Here, Ended, with_bytes}
 use Rattle.thumb_model.specs.States as model
 use Rattle.thumb_assembler.specs.declared.image.Image.{Image}
-use Rattle.thumb_assembler.specs.declared.machine.At.{At}
-use Rattle.thumb_assembler.specs.declared.machine.At.TheVariants as at
+use Rattle.thumb_assembler.specs.declared.machine.Position.{Position}
+use Rattle.thumb_assembler.specs.declared.machine.Position.TheVariants as at
 use Rattle.thumb_assembler.specs.declared.machine.ImageMachine.{ImageMachine}
 use Rattle.thumb_assembler.specs.Runs.{Loaded, ImageStep}
 
@@ -30,7 +30,7 @@ target_of t = acting.target_of t
 
 -- ---- states ----
 
-abbrev pub at_of : At → model.At
+abbrev pub at_of : Position → model.Position
 at_of (at.Here a) = Here a
 at_of (at.Ended e) = Ended
 
@@ -55,7 +55,7 @@ pub record Starts (s : Start) (first : ℕ) (m : ImageMachine) : Type 0 where
 -- ---- steps ----
 
 -- a step goes on, stays for want of answers, or leaves the run ended so
-abbrev pub IsStage : Stage → model.Next → At → Type 0
+abbrev pub IsStage : Stage → model.Continuation → Position → Type 0
 IsStage s model.On here = s ≡ stage.Going
 IsStage s (model.To p) here = s ≡ stage.Going
 IsStage s model.Stay here = s ≡ stage.Wants
@@ -63,20 +63,20 @@ IsStage s model.Over (at.Here a) = ⊥
 IsStage s model.Over (at.Ended e) = s ≡ stage_of e
 
 -- where a run is after an instruction that goes on so
-abbrev pub LeadsTo : Next → At → Type 0
+abbrev pub LeadsTo : Continuation → Position → Type 0
 LeadsTo next.On here = Unit {0}
 LeadsTo next.Stay here = Unit {0}
 LeadsTo (next.To a) here = Unit {0}
 LeadsTo (next.Over e) here = here ≡ at.Ended e
 
 -- a run that ended just now ended by its last event
-abbrev pub EndedBy : At → At → List model.Event → Type 0
+abbrev pub EndedBy : Position → Position → List model.Event → Type 0
 EndedBy old (at.Here a) es = Unit {0}
 EndedBy (at.Ended d) (at.Ended e) es = d ≡ e
 EndedBy (at.Here a) (at.Ended e) es = (front : List model.Event) × (last : model.Event) × (es ≡ front ++ last ∷ []) × (end_of last ≡ Some e)
 
 pub record Stepped (old : ImageMachine) (before : List Answer) (new : ImageMachine) (left : List Answer) (s : Stage) : Type 0 where
-  pub next : model.Next
+  pub next : model.Continuation
   pub state : State
   pub step : ImageStep (loaded_of old.image) (state_of old before) next state
   pub stands : Stands state new left

@@ -2,10 +2,10 @@
 use Rattle.std.specs.Prelude.{◌≡◌, ℕ, ◌<◌, List}
 use Rattle.thumb_model.specs.Naming.{Fits, laid}
 use Rattle.thumb_model.specs.States.{State}
-use Rattle.thumb_model.specs.Listing.{Name, Line, code_of}
+use Rattle.thumb_model.specs.Listing.{Name, ListingLine, code_of}
 use Rattle.thumb_model.specs.Same.{Same}
 use Rattle.thumb_assembler.specs.Bytes.{IsSetBy}
-use Rattle.thumb_assembler.specs.Runs.{Loaded, ImageSteps, byte_at, IsAssembled, Follows}
+use Rattle.thumb_assembler.specs.Runs.{Loaded, ImageSteps, byte_at, IsAssembled, ImageFollows}
 
 -- its bytes are bytes
 abbrev pub HasBytes : Loaded → Type 0
@@ -18,11 +18,11 @@ RunsAreDetermined = (m : Loaded) (n : ℕ) (s t u : State) → HasBytes m → Im
 -- the image's run meets that of its listing, where the laid naming fits
 abbrev pub ImagesFollow : Type 0
 ImagesFollow =
-    (base : ℕ) (set : Name → ℕ) (lines : List Line) (bytes : List ℕ) → IsAssembled base lines bytes → IsSetBy lines set → Fits (laid base set lines) (code_of lines)
-    → Follows base set lines bytes lines
+    (base : ℕ) (set : Name → ℕ) (lines : List ListingLine) (bytes : List ℕ) → IsAssembled base lines bytes → IsSetBy lines set → Fits (laid base set lines) (code_of lines)
+    → ImageFollows base set lines bytes lines
 
 -- and that of a listing with the same runs, which it was rewritten from, where the naming fits that too
 abbrev pub ImagesFollowGiven : Type 0
 ImagesFollowGiven =
-    (base : ℕ) (set : Name → ℕ) (lines given : List Line) (bytes : List ℕ) → IsAssembled base lines bytes → IsSetBy lines set → Fits (laid base set lines) (code_of lines)
-    → Fits (laid base set lines) (code_of given) → Same (code_of given) (code_of lines) → Follows base set lines bytes given
+    (base : ℕ) (set : Name → ℕ) (lines given : List ListingLine) (bytes : List ℕ) → IsAssembled base lines bytes → IsSetBy lines set → Fits (laid base set lines) (code_of lines)
+    → Fits (laid base set lines) (code_of given) → Same (code_of given) (code_of lines) → ImageFollows base set lines bytes given

@@ -6,10 +6,10 @@ use Rattle.thumb_instr.specs.Items.{bytes_of}
 use Rattle.thumb_table.specs.Table.{Encodes}
 use Rattle.thumb_model.specs.Layout.{instr_size, literal_base, Layable, end_of, label_address}
 use Rattle.thumb_model.specs.Naming.{is_odd, laid}
-use Rattle.thumb_model.specs.States.{Target, Inside, External, Landing, Goes, Leaves, Strays, Around, Act, Next, Over, Here, Ended, State, World, IsWorld, Event, Load, Store, Call, Sys, Left, Fault, Astray, Fell}
+use Rattle.thumb_model.specs.States.{Target, Inside, External, Landing, Goes, Leaves, Strays, Around, Act, Continuation, Over, Here, Ended, State, World, IsWorld, Event, Load, Store, Call, Sys, Left, Fault, Astray, Fell}
 use Rattle.thumb_model.specs.Acts.{act}
 use Rattle.thumb_model.specs.Steps.{set_bit, does, falls, step, times}
-use Rattle.thumb_model.specs.Listing.{Name, Line, code_of, place_of}
+use Rattle.thumb_model.specs.Listing.{Name, ListingLine, code_of, place_of}
 use Rattle.thumb_model.specs.Same.{Alike, here_or_ended, begun}
 use Rattle.listing_parser.specs.Parsing.{IsListing, text_of_lines}
 use Rattle.thumb_assembler.specs.Bytes.{AreImage, first_flaw}
@@ -83,7 +83,7 @@ abbrev pub act_in : Loaded → ℕ → Instr → State → Act
 act_in m a i s = act (around_in m a i) i s.world
 
 -- one step, and how it goes on: an instruction acts, or there is none
-pub data ImageStep (m : Loaded) (s : State) : Next → State → Type 0 where
+pub data ImageStep (m : Loaded) (s : State) : Continuation → State → Type 0 where
   stays : s.at ≡ Ended → ImageStep m s Over s
   acts : (a : ℕ) (i : Instr) → s.at ≡ Here a → IsFetched m a i → ImageStep m s (act_in m a i s).next (does a (following a i) (act_in m a i s) s)
   falls_out : (a : ℕ) → s.at ≡ Here a → ((i : Instr) → IsFetched m a i → ⊥) → ImageStep m s Over (falls s)
@@ -91,12 +91,12 @@ pub data ImageStep (m : Loaded) (s : State) : Next → State → Type 0 where
 -- so many steps, each going on as it does
 pub data ImageSteps (m : Loaded) : ℕ → State → State → Type 0 where
   none : (s : State) → ImageSteps m zero s s
-  more : (n : ℕ) (next : Next) (r s t : State) → ImageStep m r next s → ImageSteps m n s t → ImageSteps m (suc n) r t
+  more : (n : ℕ) (next : Continuation) (r s t : State) → ImageStep m r next s → ImageSteps m n s t → ImageSteps m (suc n) r t
 
 -- The image's run meets the listing's.
 
 -- a listing was assembled at a base: it is laid out without a fault, and these bytes are its image
-pub record IsAssembled (base : ℕ) (lines : List Line) (bytes : List ℕ) : Type 0 where
+pub record IsAssembled (base : ℕ) (lines : List ListingLine) (bytes : List ℕ) : Type 0 where
   pub listed : IsListing (text_of_lines lines) lines
   pub layable : Layable base lines
   pub even : base % 2 ≡ 0
@@ -105,7 +105,7 @@ pub record IsAssembled (base : ℕ) (lines : List Line) (bytes : List ℕ) : Typ
   pub image : AreImage base lines bytes
 
 -- the image in memory, whose code ends where the laid naming's does
-abbrev pub loaded : ℕ → (Name → ℕ) → List Line → List ℕ → Loaded
+abbrev pub loaded : ℕ → (Name → ℕ) → List ListingLine → List ℕ → Loaded
 loaded base set lines bytes = record { base = base; bytes = bytes; high = (laid base set lines).high }
 
 -- ---- runs that are lost ----
@@ -139,11 +139,11 @@ pub record Meets (image : Loaded) (start s : State) : Type 0 where
   pub run : ImageSteps image steps start state
   pub alike : Alike s state
 
-abbrev pub begun_in : ℕ → List Line → Name → World → List Event → State
+abbrev pub begun_in : ℕ → List ListingLine → Name → World → List Event → State
 begun_in base lines label w es = record { world = w; at = here_or_ended (label_address label base lines); events = es }
 
 -- under the laid naming, the run from a code label is met by the image's until it is lost
-abbrev pub Follows : ℕ → (Name → ℕ) → List Line → List ℕ → List Line → Type 0
-Follows base set lines bytes given =
+abbrev pub ImageFollows : ℕ → (Name → ℕ) → List ListingLine → List ℕ → List ListingLine → Type 0
+ImageFollows base set lines bytes given =
     (label : Name) → IsSome (place_of (code_of given) label) → (w : World) → IsWorld w → (es : List Event) → (n : ℕ) → (IsLost (times (step (laid base set lines) (code_of given)) n (begun (code_of given) label w es)) → ⊥)
     → Meets (loaded base set lines bytes) (begun_in base lines label w es) (times (step (laid base set lines) (code_of given)) n (begun (code_of given) label w es))

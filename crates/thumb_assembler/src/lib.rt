@@ -12,4 +12,4 @@ mod pushing;
 
 pub use assembling::assemble;
 pub use errors::ImageError;
-pub use machine::{At, ImageMachine};
+pub use machine::{ImageMachine, Position};

@@ -15,13 +15,13 @@ use crate::image::{Image, behind};
 use std::alloc::{AllocError, Global};
 use thumb_instr::{Distance, Instr};
 use thumb_machine::{
-    Answer, Answers, Around, End, Event, Memory, Next, Registers, Stage, State, Target, World,
-    registers_of, stage_of,
+    Answer, Answers, Around, Continuation, End, Event, Memory, Registers, Stage, State, Target,
+    World, registers_of, stage_of,
 };
 
 /// Where a machine over an image is.
 #[derive(Clone, Copy, Debug, PartialEq, Eq)]
-pub enum At {
+pub enum Position {
     /// At an address.
     Here { address: u32 },
     /// At the end of its run.
@@ -33,7 +33,7 @@ pub enum At {
 pub struct ImageMachine {
     pub(crate) image: Image,
     pub(crate) world: World,
-    pub(crate) at: At,
+    pub(crate) at: Position,
 }
 
 /// What a run changes, at its beginning. A memory is written by stores and by the outside alone, so the first bytes come as the answer to a call.
@@ -95,7 +95,7 @@ impl ImageMachine {
         Ok(ImageMachine {
             image,
             world,
-            at: At::Here { address: at },
+            at: Position::Here { address: at },
         })
     }
 
@@ -106,8 +106,8 @@ impl ImageMachine {
         ensures step { Steps self.old answers.old self.new answers.new result }
     {
         let address = match self.at {
-            At::Here { address } => address,
-            At::Ended { end } => return Ok(stage_of(end)),
+            Position::Here { address } => address,
+            Position::Ended { end } => return Ok(stage_of(end)),
         };
         match self.image.fetch(address) {
             None => self.fall(),
@@ -122,7 +122,7 @@ impl ImageMachine {
         address: u32,
         instr: Instr,
     ) -> Result<Stage, AllocError>
-        requires here { self.old.at ≡ At.Here address }
+        requires here { self.old.at ≡ Position.Here address }
         requires fetched { IsFetched (loaded_of self.old.image) address instr }
         ensures image { self.new.image ≡ self.old.image }
         ensures kept { OnErr result (self.new.at ≡ self.old.at) }
@@ -138,17 +138,17 @@ impl ImageMachine {
     fn fall(&mut self) -> Result<Stage, AllocError>
         ensures image { self.new.image ≡ self.old.image }
         ensures told { Changes [] (memory_of self.old.world.memory) (Fell ∷ []) self.old.world self.new.world result }
-        ensures ended { IfOk result (λ s. (s ≡ Stage.Fell) × (self.new.at ≡ At.Ended End.Fell)) }
+        ensures ended { IfOk result (λ s. (s ≡ Stage.Fell) × (self.new.at ≡ Position.Ended End.Fell)) }
         ensures kept { OnErr result (self.new.at ≡ self.old.at) }
     {
         self.world.events.push(Event::Fell)?;
-        self.at = At::Ended { end: End::Fell };
+        self.at = Position::Ended { end: End::Fell };
         Ok(Stage::Fell)
     }
 
     /// Goes on after an instruction at an address, behind which another stands.
-    fn arrive(&mut self, address: u32, following: u32, next: Next) -> Stage
-        requires { self.old.at ≡ At.Here address }
+    fn arrive(&mut self, address: u32, following: u32, next: Continuation) -> Stage
+        requires { self.old.at ≡ Position.Here address }
         ensures image { self.new.image ≡ self.old.image }
         ensures world { self.new.world ≡ self.old.world }
         ensures at { at_of self.new.at ≡ arrives address following (next_of next) }
@@ -156,17 +156,17 @@ impl ImageMachine {
         ensures ends { LeadsTo next self.new.at }
     {
         match next {
-            Next::On => {
-                self.at = At::Here { address: following };
+            Continuation::On => {
+                self.at = Position::Here { address: following };
                 Stage::Going
             }
-            Next::Stay => Stage::Wants,
-            Next::To { at } => {
-                self.at = At::Here { address: at };
+            Continuation::Stay => Stage::Wants,
+            Continuation::To { at } => {
+                self.at = Position::Here { address: at };
                 Stage::Going
             }
-            Next::Over { end } => {
-                self.at = At::Ended { end };
+            Continuation::Over { end } => {
+                self.at = Position::Ended { end };
                 stage_of(end)
             }
         }

@@ -1,6 +1,6 @@
 //! Bytes, put behind those of the lines before.
 ghost use Rattle.std.specs.Prelude.{◌≡◌, ◌+◌, ◌*◌, ◌%◌, ◌≤◌, ◌^◌, ◌++◌, true, None, OnOk, length, map};
-ghost use Rattle.thumb_model.specs.Listing.{Runs};
+ghost use Rattle.thumb_model.specs.Listing.{Instruction};
 ghost use Rattle.thumb_model.specs.Layout.{fault_at, instr_fault, lies_in, padding as padding_at};
 ghost use Rattle.thumb_assembler.specs.Bytes.{half_bytes, nops, word_bytes, lies_inside};
 ghost use Rattle.listing_parser.specs.Views.{mention_view, statement_view, value_view};
@@ -120,11 +120,11 @@ fn push_aimed(
     mention: &Mention,
 ) -> Result<(), Flaw>
     requires ready { IsReady listing.now layout.now }
-    requires fair { is_fair listing.now (Runs instr.now (Some (mention_view mention.now))) ≡ true }
+    requires fair { is_fair listing.now (Instruction instr.now (Some (mention_view mention.now))) ≡ true }
     requires reached { instr_fault (lies_in layout.now.base listing.now) at instr.now (Some (mention_view mention.now)) ≡ None }
     requires even { at % 2 ≡ 0 }
     requires in_code { at ≤ 2 ^ 29 }
-    ensures { Pushes layout.now.base listing.now at (Runs instr.now (Some (mention_view mention.now))) bytes.old.items bytes.new.items result }
+    ensures { Pushes layout.now.base listing.now at (Instruction instr.now (Some (mention_view mention.now))) bytes.old.items bytes.new.items result }
 {
     match layout.target(listing, &mention.name) {
         None => Err(Flaw::NoAddress),
@@ -161,14 +161,14 @@ pub(crate) fn push_statement(
 {
     match statement {
         Statement::Nothing => Ok(()),
-        Statement::Runs {
+        Statement::Instruction {
             instr,
             mention: None,
         } => {
             push_code(bytes, instr)?;
             Ok(())
         }
-        Statement::Runs {
+        Statement::Instruction {
             instr,
             mention: Some(mention),
         } => push_aimed(bytes, listing, layout, at, instr, mention),

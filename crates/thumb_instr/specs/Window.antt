@@ -13,8 +13,8 @@ use Rattle.thumb_instr.specs.declared.within.NotBothSp.{NotBothSp}
 use Rattle.thumb_instr.specs.Parts.{parts_of}
 use Rattle.thumb_instr.specs.Roles.{roles}
 use Rattle.thumb_instr.specs.declared.instr.Instr.TheVariants.{Mov, Three, Two, Movs, ShiftLeft, ShiftRight, ThreeNumber, TwoNumber, Add, Extend, Reverse}
-use Rattle.thumb_instr.specs.declared.operation.Sum.{Sum}
-use Rattle.thumb_instr.specs.declared.operation.Sum.TheVariants as sum
+use Rattle.thumb_instr.specs.declared.operation.SumOperation.{SumOperation}
+use Rattle.thumb_instr.specs.declared.operation.SumOperation.TheVariants as sum
 use Rattle.thumb_instr.specs.declared.operation.ByteOperation.{ByteOperation}
 use Rattle.thumb_instr.specs.declared.operation.ByteOperation.TheVariants as byte
 
@@ -122,7 +122,7 @@ is_in_window i = false
 abbrev pub byte_of : Within 0 8 → Within 0 256
 byte_of i = record { number = i.number; least = i.least; below = lt_of_lt_of_le i.below (lit≤ tt) }
 
-abbrev pub byte_sum : Sum → ByteOperation
+abbrev pub byte_sum : SumOperation → ByteOperation
 byte_sum sum.Add = byte.Add
 byte_sum sum.Sub = byte.Sub
 

@@ -1,8 +1,8 @@
 //! The instructions of Armv6-M that the product knows, as data whose fields hold only what has an encoding.
 use crate::distance::{Far, Farthest, Near};
 use crate::operation::{
-    Access, Barrier, ByteOperation, Condition, Extension, Hint, Interrupts, OffsetAccess,
-    Operation, Reversal, Right, Special, Sum, WordAccess,
+    Access, Barrier, ByteOperation, Condition, Extension, HintOperation, Interrupts, OffsetAccess,
+    Operation, Reversal, Right, Special, SumOperation, WordAccess,
 };
 use crate::within::{
     Byte, General, Low, LowList, NotBothLow, NotBothSp, Reg, StackList, Stored, Within,
@@ -18,7 +18,7 @@ pub enum Instr {
     },
     /// `adds target, left, right` (ADD and SUB register, encoding T1)
     Three {
-        sum: Sum,
+        sum: SumOperation,
         target: Low,
         left: Low,
         right: Low,
@@ -53,7 +53,7 @@ pub enum Instr {
     },
     /// `adds target, source, #number` (ADD and SUB immediate, encoding T1)
     ThreeNumber {
-        sum: Sum,
+        sum: SumOperation,
         target: Low,
         source: Low,
         number: Within<0, 8>,
@@ -113,7 +113,7 @@ pub enum Instr {
     },
     /// `add sp, sp, #offset` (ADD SP plus immediate, encoding T2, SUB SP minus immediate, encoding T1); the offset in words
     StackMove {
-        sum: Sum,
+        sum: SumOperation,
         offset: Within<0, 128>,
     },
     /// `sxth target, source` (SXTH, SXTB, UXTH and UXTB, encoding T1)
@@ -155,7 +155,7 @@ pub enum Instr {
     },
     /// `nop` (hints, encoding T1)
     Hint {
-        hint: Hint,
+        hint: HintOperation,
     },
     /// `cpsie i` (CPS, encoding T1)
     ChangeState {
@@ -192,12 +192,14 @@ pub enum Instr {
 impl Default for Instr {
     ghost use Rattle.std.specs.Prelude.{◌≡◌};
     ghost use Rattle.thumb_instr.specs.declared.instr.Instr.TheVariants.{Hint};
-    ghost use Rattle.thumb_instr.specs.declared.operation.Hint.TheVariants.{Nop};
+    ghost use Rattle.thumb_instr.specs.declared.operation.HintOperation.TheVariants.{Nop};
 
     ghost is_default = { λ i. i ≡ Hint Nop };
 
     /// `nop`
     fn default() -> Self {
-        Instr::Hint { hint: Hint::Nop }
+        Instr::Hint {
+            hint: HintOperation::Nop,
+        }
     }
 }

@@ -1,20 +1,20 @@
 //! Instructions without their registers and numbers, and with them as plain numbers.
 use crate::operation::{
-    Access, Barrier, ByteOperation, Condition, Extension, Hint, Interrupts, OffsetAccess,
-    Operation, Reversal, Right, Special, Sum, WordAccess,
+    Access, Barrier, ByteOperation, Condition, Extension, HintOperation, Interrupts, OffsetAccess,
+    Operation, Reversal, Right, Special, SumOperation, WordAccess,
 };
 
 /// What an instruction is, without its registers and numbers: as the constructors of `Instr`, with the operation.
 #[derive(Clone, Copy, Debug, PartialEq, Eq)]
 pub enum Kind {
     Mov,
-    Three(Sum),
+    Three(SumOperation),
     Two(Operation),
     Bx,
     Movs,
     ShiftLeft,
     ShiftRight(Right),
-    ThreeNumber(Sum),
+    ThreeNumber(SumOperation),
     TwoNumber(ByteOperation),
     Add,
     Compare,
@@ -25,7 +25,7 @@ pub enum Kind {
     Stack(WordAccess),
     Address,
     StackAddress,
-    StackMove(Sum),
+    StackMove(SumOperation),
     Extend(Extension),
     Reverse(Reversal),
     Push,
@@ -34,7 +34,7 @@ pub enum Kind {
     LoadMany,
     Breakpoint,
     Service,
-    Hint(Hint),
+    Hint(HintOperation),
     ChangeState(Interrupts),
     BranchIf(Condition),
     Branch,

@@ -24,8 +24,8 @@ pub use items::{Items, Mask, Shape};
 pub use kind::{Kind, Parts};
 pub use laws::rebuilding_gives_back;
 pub use operation::{
-    Access, Barrier, ByteOperation, Condition, Extension, Hint, Interrupts, OffsetAccess,
-    Operation, Reversal, Right, Special, Sum, WordAccess,
+    Access, Barrier, ByteOperation, Condition, Extension, HintOperation, Interrupts, OffsetAccess,
+    Operation, Reversal, Right, Special, SumOperation, WordAccess,
 };
 pub use rebuilding::{made, rebuilt};
 pub use renaming::{registers_of, renamed};

@@ -1,7 +1,7 @@
 //! Operations of one encoding each, told apart by a field of it, so that a form of instruction has one row and not one for each of them.
 /// A sum or a difference.
 #[derive(Clone, Copy, Debug, PartialEq, Eq)]
-pub enum Sum {
+pub enum SumOperation {
     /// ADDS, or ADD of sp
     Add,
     /// SUBS, or SUB of sp
@@ -173,7 +173,7 @@ pub enum Condition {
 
 /// A hint, by the four bits of its encoding.
 #[derive(Clone, Copy, Debug, PartialEq, Eq)]
-pub enum Hint {
+pub enum HintOperation {
     /// NOP
     Nop,
     /// YIELD

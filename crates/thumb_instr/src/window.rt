@@ -3,7 +3,7 @@ ghost use Rattle.std.specs.Prelude.{◌≡◌};
 ghost use Rattle.thumb_instr.specs.Window.{is_in_window, normal_of, byte_sum};
 
 use crate::instr::Instr;
-use crate::operation::{ByteOperation, Sum};
+use crate::operation::{ByteOperation, SumOperation};
 use crate::within::Within;
 
 /// Whether the instruction may stand in a window: it goes on to the next place, touches no memory and no state but registers and flags,
@@ -28,12 +28,12 @@ pub fn in_window(instr: &Instr) -> bool
 }
 
 /// The sum of a register and an 8-bit number.
-fn byte_sum(sum: Sum) -> ByteOperation
+fn byte_sum(sum: SumOperation) -> ByteOperation
     ensures { result ≡ byte_sum sum }
 {
     match sum {
-        Sum::Add => ByteOperation::Add,
-        Sum::Sub => ByteOperation::Sub,
+        SumOperation::Add => ByteOperation::Add,
+        SumOperation::Sub => ByteOperation::Sub,
     }
 }
 

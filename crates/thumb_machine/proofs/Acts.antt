@@ -4,9 +4,9 @@ use Rattle.thumb_instr.specs.declared.operation.Access.{Access}
 use Rattle.thumb_instr.specs.declared.operation.Access.TheVariants as access
 use Rattle.thumb_machine.specs.declared.answers.Answer.{Answer}
 use Rattle.thumb_machine.specs.declared.world.World.{World}
-use Rattle.thumb_machine.specs.declared.world.Next.{Next}
+use Rattle.thumb_machine.specs.declared.world.Continuation.{Continuation}
 use Rattle.thumb_machine.specs.Accesses.{is_store}
-use Rattle.thumb_machine.specs.declared.world.Next.TheVariants as next
+use Rattle.thumb_machine.specs.declared.world.Continuation.TheVariants as next
 use Rattle.thumb_machine.specs.Memory.{memory_of}
 use Rattle.thumb_machine.specs.Outside.{answer_values, answers_of}
 use Rattle.thumb_machine.specs.Acting.{world_of, Changed, Acted, Acts}
@@ -16,7 +16,7 @@ use Rattle.thumb_model.specs.Accesses.{access_size, accesses, behind, device_wor
 use Rattle.thumb_model.specs.Acts.{act}
 use Rattle.thumb_model.specs.States as model
 
-pub acts_by : {E : Type 0} (f g : model.World → Act) (old : World) (before : List Answer) (new : World) (left : List Answer) (r : Result Next E)
+pub acts_by : {E : Type 0} (f g : model.World → Act) (old : World) (before : List Answer) (new : World) (left : List Answer) (r : Result Continuation E)
     → f (world_of old before) ≡ g (world_of old before) → Acts g old before new left r → Acts f old before new left r
 acts_by f g old before new left (Ok n) e h = subst (λ (a : Act). Acted a old new left n) (sym e) h
 acts_by f g old before new left (Err x) e h = h
@@ -86,7 +86,7 @@ load_many_done base address xs w h k = rw (h, k) refl
 -- ---- rows ----
 
 -- an instruction's act is this one
-pub acts_row : {E : Type 0} (around : model.Around) (i j : Instr) (f : model.World → Act) (old : World) (before : List Answer) (new : World) (left : List Answer) (r : Result Next E)
+pub acts_row : {E : Type 0} (around : model.Around) (i j : Instr) (f : model.World → Act) (old : World) (before : List Answer) (new : World) (left : List Answer) (r : Result Continuation E)
     → i ≡ j → act around j (world_of old before) ≡ f (world_of old before) → Acts f old before new left r → Acts (act around i) old before new left r
 acts_row around i j f old before new left r is e h = acts_by (act around i) f old before new left r (ap (λ (k : Instr). act around k (world_of old before)) is ∙ e) h
 

@@ -3,7 +3,7 @@ use Rattle.std.proofs.Common.{◌≡◌, inl, inr, ℕ, zero, suc, ◌+◌, ◌�
 use Rattle.std.specs.Prelude.{slice_get}
 use Rattle.std.proofs.lemmas.Bool.{cases_Bool}
 use Rattle.std.proofs.lemmas.Option.{same_Some}
-use Rattle.thumb_model.specs.Listing.{Label, Line, Place, is_call, is_code, is_op_place, labels_at, labels_from, places_in}
+use Rattle.thumb_model.specs.Listing.{Label, ListingLine, Place, is_call, is_code, is_op_place, labels_at, labels_from, places_in}
 use Rattle.thumb_model.specs.Naming.{Naming, points_of, returns_from}
 use Rattle.thumb_model.specs.Steps.{point_among}
 use Rattle.thumb_machine.specs.Making.{merged}
@@ -58,7 +58,7 @@ points_append names places (x ∷ xs) ys = elim (cases_Bool (is_code places x)) 
 ]
 
 -- the labels of one line come before those of the others
-pub labels_next : (w : ℕ) (names : Naming) (places : List Place) (p : ℕ) (l : Line) (ls : List Line) (rest : List (ℕ × ℕ))
+pub labels_next : (w : ℕ) (names : Naming) (places : List Place) (p : ℕ) (l : ListingLine) (ls : List ListingLine) (rest : List (ℕ × ℕ))
     → point_among w (points_of names places (labels_at p l.names) ++ (points_of names places (labels_from (p + length (places_in l.statement)) ls) ++ rest)) ≡ point_among w (points_of names places (labels_from p (l ∷ ls)) ++ rest)
 labels_next w names places p l ls rest =
     let here = labels_at p l.names in

@@ -4,8 +4,8 @@ use Rattle.std.proofs.lemmas.List.{map-append}
 use Rattle.thumb_machine.specs.declared.answers.Answer.{Answer}
 use Rattle.thumb_machine.specs.declared.event.Event.{Event}
 use Rattle.thumb_machine.specs.declared.world.World.{World}
-use Rattle.thumb_machine.specs.declared.world.Next.{Next}
-use Rattle.thumb_machine.specs.declared.world.Next.TheVariants as next
+use Rattle.thumb_machine.specs.declared.world.Continuation.{Continuation}
+use Rattle.thumb_machine.specs.declared.world.Continuation.TheVariants as next
 use Rattle.thumb_machine.specs.Registers.{values_of}
 use Rattle.thumb_machine.specs.Memory.{memory_of}
 use Rattle.thumb_machine.specs.Outside.{answers_of, event_of, events_of}
@@ -21,7 +21,7 @@ pub events_push : (es : List Event) (e : Event) (x : model.Event) → event_of e
 events_push es e x h = rw map-append (ap (λ y. events_of es ++ y ∷ []) h)
 
 -- a run that is over ends by its last event, whatever came before
-pub ends_behind : (n : Next) (front es : List model.Event) → EndsBy n es → EndsBy n (front ++ es)
+pub ends_behind : (n : Continuation) (front es : List model.Event) → EndsBy n es → EndsBy n (front ++ es)
 ends_behind (next.Over e) front es h = (front ++ h.0, h.1, ap (λ l. front ++ l) h.2 ∙ sym (append_assoc front h.0 (h.1 ∷ [])), h.3)
 ends_behind n front es h = tt
 
@@ -30,7 +30,7 @@ landed_pop : (l : Landing) (address : ℕ) (xs : List ℕ) (w : model.World)
 landed_pop (Goes p) address xs w = refl
 landed_pop l address xs w = refl
 
-pub popped_acts : (old new : World) (before left : List Answer) (lands : ℕ → Landing) (l : Landing) (address word : ℕ) (xs : List ℕ) (u : Values) (n : Next)
+pub popped_acts : (old new : World) (before left : List Answer) (lands : ℕ → Landing) (l : Landing) (address word : ℕ) (xs : List ℕ) (u : Values) (n : Continuation)
     → word ≡ popped_word address xs (world_of old before) → l ≡ lands word
     → u ≡ assigned (many_outputs sp (behind (with_pc xs) address) address xs (world_of old before)) (values_of old.registers)
     → values_of new.registers ≡ u → memory_of new.memory ≡ memory_of old.memory

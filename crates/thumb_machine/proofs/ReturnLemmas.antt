@@ -3,7 +3,7 @@ use Rattle.std.proofs.Common.{◌≡◌, ◌∙◌, inl, inr, ℕ, zero, suc, �
 use Rattle.std.specs.Prelude.{slice_get, slice_index}
 use Rattle.std.proofs.lemmas.Bool.{cases_Bool}
 use Rattle.thumb_instr.specs.declared.instr.Instr.{Instr}
-use Rattle.thumb_model.specs.Listing.{Line, Mention, Place, Op, call_count, is_call, is_call_instr, places_of}
+use Rattle.thumb_model.specs.Listing.{ListingLine, Mention, Place, Op, call_count, is_call, is_call_instr, places_of}
 use Rattle.thumb_model.specs.Layout.{end_of, instr_size}
 use Rattle.thumb_model.specs.Naming.{last_is_call, return_address, IsCutAtCall}
 use Rattle.thumb_model.proofs.Returns.{call_within, laid_behind}
@@ -13,10 +13,10 @@ use Rattle.label_layout.proofs.Sums.{places_counted}
 use Rattle.thumb_machine.specs.Returns.{AreReturns, is_call_place}
 
 -- the layout has an address for each place
-pub has_address : (lines : List Line) (a : Addresses) (p : ℕ) → AreAddresses lines a → p < length (places_of lines) → p < length a.places
+pub has_address : (lines : List ListingLine) (a : Addresses) (p : ℕ) → AreAddresses lines a → p < length (places_of lines) → p < length a.places
 has_address lines a p laid lt = let e = ap length laid.places in let f = places_counted a.base lines in omega arith
 
-pub call_returns : (lines : List Line) (a : Addresses) (p at size : ℕ) (i : Instr) (m : Option Mention) → AreAddresses lines a → Some (Op i m) ≡ slice_get (places_of lines) p → is_call_instr i ≡ true
+pub call_returns : (lines : List ListingLine) (a : Addresses) (p at size : ℕ) (i : Instr) (m : Option Mention) → AreAddresses lines a → Some (Op i m) ≡ slice_get (places_of lines) p → is_call_instr i ≡ true
     → slice_get a.places p ≡ Some at → size ≡ instr_size i → at + size + 1 ≡ return_address (call_count (take p (places_of lines))) a.base lines + 1
 call_returns lines a p at size i m laid here call lies is =
     ap (λ (n : ℕ). n + 1) (ap (λ (s : ℕ). at + s) is ∙ sym (return_point a.base lines p (Op i m) at (sym here) call (ap (λ (l : List ℕ). slice_get l p) (sym laid.places) ∙ lies)))
@@ -36,7 +36,7 @@ count_more : (xs : List Place) (p : ℕ) → call_count (take (p + 1) xs) ≡ (i
 count_more xs p = let e : p + 1 ≡ suc p = omega arith in ap (λ (n : ℕ). call_count (take n xs)) e ∙ count_suc xs p
 
 -- a place that is no call
-pub returns_same : (base : ℕ) (lines : List Line) (p : ℕ) (list : List ℕ) → is_call_place (slice_get (places_of lines) p) ≡ false → AreReturns base lines (call_count (take p (places_of lines))) list
+pub returns_same : (base : ℕ) (lines : List ListingLine) (p : ℕ) (list : List ℕ) → is_call_place (slice_get (places_of lines) p) ≡ false → AreReturns base lines (call_count (take p (places_of lines))) list
     → AreReturns base lines (call_count (take (p + 1) (places_of lines))) list
 returns_same base lines p list none are = let e : call_count (take (p + 1) (places_of lines)) ≡ call_count (take p (places_of lines)) = count_more (places_of lines) p ∙ rw none refl in rw e are
 
@@ -50,7 +50,7 @@ at_front (x ∷ xs) w zero lt = refl
 at_front (x ∷ xs) w (suc j) lt = at_front xs w j (omega arith)
 
 -- and one that is
-pub returns_more : (base : ℕ) (lines : List Line) (p : ℕ) (list new : List ℕ) (w : ℕ) → is_call_place (slice_get (places_of lines) p) ≡ true → w ≡ return_address (call_count (take p (places_of lines))) base lines + 1
+pub returns_more : (base : ℕ) (lines : List ListingLine) (p : ℕ) (list new : List ℕ) (w : ℕ) → is_call_place (slice_get (places_of lines) p) ≡ true → w ≡ return_address (call_count (take p (places_of lines))) base lines + 1
     → new ≡ list ++ w ∷ [] → AreReturns base lines (call_count (take p (places_of lines))) list → AreReturns base lines (call_count (take (p + 1) (places_of lines))) new
 returns_more base lines p list new w call is put are =
     let k : ℕ = call_count (take p (places_of lines)) in
@@ -68,7 +68,7 @@ last_at (p ∷ []) = refl
 last_at (p ∷ q ∷ ps) = let e : length (p ∷ q ∷ ps) - 1 ≡ suc (length (q ∷ ps) - 1) = omega arith in ap (λ (n : ℕ). is_call_place (slice_get (p ∷ q ∷ ps) n)) e ∙ last_at (q ∷ ps)
 
 -- a naming's words are those of the layout, where its words of calls are
-pub laid_returns : (base : ℕ) (lines : List Line) (words : List ℕ) → AreReturns base lines (call_count (places_of lines)) words
-    → (k : ℕ) (before : List Line) (call : Line) (after : List Line) → IsCutAtCall lines k before call after → slice_index words k ≡ end_of base (before ++ call ∷ []) + 1
+pub laid_returns : (base : ℕ) (lines : List ListingLine) (words : List ℕ) → AreReturns base lines (call_count (places_of lines)) words
+    → (k : ℕ) (before : List ListingLine) (call : ListingLine) (after : List ListingLine) → IsCutAtCall lines k before call after → slice_index words k ≡ end_of base (before ++ call ∷ []) + 1
 laid_returns base lines words are k before call after is =
     are.words k (call_within lines k before call after is) ∙ laid_behind base (λ name. 0) lines k before call after is

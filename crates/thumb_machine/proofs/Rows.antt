@@ -6,8 +6,8 @@ use Rattle.std.proofs.lemmas.Option.{slice_get_past, same_Some}
 use Rattle.thumb_model.specs.Listing.{Code, Place, call_count, is_call}
 use Rattle.thumb_model.specs.Naming.{Naming}
 use Rattle.thumb_model.proofs.Lists.{get_front, get_back}
-use Rattle.thumb_machine.specs.declared.program.Row.{Row}
-use Rattle.thumb_machine.specs.Running.{IsRow}
+use Rattle.thumb_machine.specs.declared.program.PlaceContents.{PlaceContents}
+use Rattle.thumb_machine.specs.Running.{IsPlaceContents}
 
 pub call_next : (xs : List Place) (p : ℕ) (x : Place) → slice_get xs p ≡ Some x → call_count (take (suc p) xs) ≡ call_count (take p xs) + (if is_call x then 1 else 0)
 call_next [] p x h = absurd (cc)
@@ -17,10 +17,10 @@ call_next (y ∷ ys) (suc p) x h =
     elim (cases_Bool (is_call y)) [ inl t ↦ rw t (omega (arith, e)) | inr t ↦ rw t e ]
 
 -- what holds of each row so far holds with one row more
-pub row_next : (names : Naming) (code : Code) (rows : List Row) (r : Row) (n : ℕ) → length rows ≡ n → ((p : ℕ) → p < n → IsRow names code p (slice_get code.places p) (slice_get rows p)) → IsRow names code n (slice_get code.places n) (Some r)
-    → (p : ℕ) → p < n + 1 → IsRow names code p (slice_get code.places p) (slice_get (rows ++ r ∷ []) p)
+pub row_next : (names : Naming) (code : Code) (rows : List PlaceContents) (r : PlaceContents) (n : ℕ) → length rows ≡ n → ((p : ℕ) → p < n → IsPlaceContents names code p (slice_get code.places p) (slice_get rows p)) → IsPlaceContents names code n (slice_get code.places n) (Some r)
+    → (p : ℕ) → p < n + 1 → IsPlaceContents names code p (slice_get code.places p) (slice_get (rows ++ r ∷ []) p)
 row_next names code rows r n len before here p h = elim (cases_lt p n) [
-  | inl l ↦ subst (λ (o : Option Row). IsRow names code p (slice_get code.places p) o) (sym (get_front rows (r ∷ []) p (omega (arith, len)))) (before p l)
+  | inl l ↦ subst (λ (o : Option PlaceContents). IsPlaceContents names code p (slice_get code.places p) o) (sym (get_front rows (r ∷ []) p (omega (arith, len)))) (before p l)
   | inr l ↦
       let e : p ≡ n = omega arith in
       let at_end : slice_get (rows ++ r ∷ []) n ≡ Some r = get_back rows (r ∷ []) 0 n (omega (arith, len)) in
@@ -28,8 +28,8 @@ row_next names code rows r n len before here p h = elim (cases_lt p n) [
 ]
 
 -- there is no row past the last place
-pub row_past : (names : Naming) (code : Code) (rows : List Row) (n : ℕ) → length rows ≡ n → length code.places ≡ n → ((p : ℕ) → p < n → IsRow names code p (slice_get code.places p) (slice_get rows p))
-    → (p : ℕ) → IsRow names code p (slice_get code.places p) (slice_get rows p)
+pub row_past : (names : Naming) (code : Code) (rows : List PlaceContents) (n : ℕ) → length rows ≡ n → length code.places ≡ n → ((p : ℕ) → p < n → IsPlaceContents names code p (slice_get code.places p) (slice_get rows p))
+    → (p : ℕ) → IsPlaceContents names code p (slice_get code.places p) (slice_get rows p)
 row_past names code rows n len places before p = elim (cases_lt p n) [
   | inl l ↦ before p l
   | inr l ↦

@@ -7,19 +7,19 @@ use Rattle.thumb_machine.specs.declared.answers.Answer.{Answer}
 use Rattle.thumb_machine.specs.declared.world.World.{World}
 use Rattle.thumb_machine.specs.declared.world.Around.{Around}
 use Rattle.thumb_machine.specs.declared.world.End.{End}
-use Rattle.thumb_machine.specs.declared.world.Next.{Next}
-use Rattle.thumb_machine.specs.declared.world.Next.TheVariants as next
-use Rattle.thumb_machine.specs.declared.program.Row.TheVariants as row
+use Rattle.thumb_machine.specs.declared.world.Continuation.{Continuation}
+use Rattle.thumb_machine.specs.declared.world.Continuation.TheVariants as next
+use Rattle.thumb_machine.specs.declared.program.PlaceContents.TheVariants as contents
 use Rattle.thumb_machine.specs.declared.program.Program.{Program}
-use Rattle.thumb_machine.specs.declared.machine.At.{At}
-use Rattle.thumb_machine.specs.declared.machine.At.TheVariants as at
+use Rattle.thumb_machine.specs.declared.machine.Position.{Position}
+use Rattle.thumb_machine.specs.declared.machine.Position.TheVariants as at
 use Rattle.thumb_machine.specs.declared.machine.Stage.{Stage}
 use Rattle.thumb_machine.specs.declared.machine.Machine.{Machine}
 use Rattle.thumb_machine.specs.Registers.{values_of}
 use Rattle.thumb_machine.specs.Memory.{memory_of}
 use Rattle.thumb_machine.specs.Outside.{events_of}
 use Rattle.thumb_machine.specs.Acting.{around_of, next_of, world_of, Acted, EndsBy}
-use Rattle.thumb_machine.specs.Running.{EndedBy, IsProgram, IsRow, IsStage, LeadsTo, Stands, Stepped, at_of, lands_in, state_of}
+use Rattle.thumb_machine.specs.Running.{EndedBy, IsProgram, IsPlaceContents, IsStage, LeadsTo, Stands, Stepped, at_of, lands_in, state_of}
 use Rattle.thumb_machine.specs.Stages.{next_at, next_on}
 use Rattle.thumb_model.specs.Listing.{Code, Mention, Place, Op, Word}
 use Rattle.thumb_model.specs.Naming.{Naming, points}
@@ -45,7 +45,7 @@ same_around : (a b : model.Around) → a.target ≡ b.target → a.literal ≡ b
 same_around a b t l k f = let e : a.lands ≡ b.lands = fun_ext f in λ i. record { target = t i; literal = l i; link = k i; lands = e i }
 
 -- a run that is over after an instruction ended by its last event
-ended_by : (n : Next) (old new : At) (p : ℕ) (before es all : List model.Event) → old ≡ at.Here p → at_of new ≡ arrives p (p + 1) (next_of n) → LeadsTo n new → EndsBy n es → all ≡ before ++ es → EndedBy old new all
+ended_by : (n : Continuation) (old new : Position) (p : ℕ) (before es all : List model.Event) → old ≡ at.Here p → at_of new ≡ arrives p (p + 1) (next_of n) → LeadsTo n new → EndsBy n es → all ≡ before ++ es → EndedBy old new all
 ended_by n old (at.Here q) p before es all here arrived leads ends told = tt
 ended_by next.On old (at.Ended e) p before es all here arrived leads ends told = absurd (cc)
 ended_by next.Stay old (at.Ended e) p before es all here arrived leads ends told = absurd (cc)
@@ -53,10 +53,10 @@ ended_by (next.To q) old (at.Ended e) p before es all here arrived leads ends to
 ended_by (next.Over d) old (at.Ended e) p before es all here arrived leads ends told =
     let same : e ≡ d = cc in
     let split : all ≡ (before ++ ends.0) ++ ends.1 ∷ [] = told ∙ ap (λ l. before ++ l) ends.2 ∙ sym (append_assoc before ends.0 (ends.1 ∷ [])) in
-    subst (λ (o : At). EndedBy o (at.Ended e) all) (sym here) (before ++ ends.0, ends.1, split, ends.3 ∙ ap (λ (x : End). Some x) (sym same))
+    subst (λ (o : Position). EndedBy o (at.Ended e) all) (sym here) (before ++ ends.0, ends.1, split, ends.3 ∙ ap (λ (x : End). Some x) (sym same))
 
 -- what is known of a step at a row
-pub record Done (old : Machine) (before : List Answer) (p : ℕ) (a : Act) (n : Next) (middle : World) (new : Machine) (left : List Answer) (s : Stage) : Type 0 where
+pub record Done (old : Machine) (before : List Answer) (p : ℕ) (a : Act) (n : Continuation) (middle : World) (new : Machine) (left : List Answer) (s : Stage) : Type 0 where
   pub here : old.at ≡ at.Here p
   pub acted : Acted a old.world middle left n
   pub world : new.world ≡ middle
@@ -65,33 +65,33 @@ pub record Done (old : Machine) (before : List Answer) (p : ℕ) (a : Act) (n : 
   pub leads : LeadsTo n new.at
 
 -- a step that does an act is the definition's where that act is the step's
-does_step : (names : Naming) (code : Code) (old : Machine) (before : List Answer) (p : ℕ) (i : Instr) (m : Option Mention) (n : Next) (middle : World) (new : Machine) (left : List Answer) (s : Stage)
+does_step : (names : Naming) (code : Code) (old : Machine) (before : List Answer) (p : ℕ) (i : Instr) (m : Option Mention) (n : Continuation) (middle : World) (new : Machine) (left : List Answer) (s : Stage)
     → slice_get code.places p ≡ Some (Op i m) → Done old before p (act (model_steps.around_of names code p i m) i (world_of old.world before)) n middle new left s → Stepped names code old before new left s
 does_step names code old before p i m n middle new left s is d =
     let start : State = state_of old before in
     let a : Act = act (model_steps.around_of names code p i m) i (world_of old.world before) in
     let here : at_of old.at ≡ model.Here p = ap at_of d.here in
-    let steps : step names code start ≡ does p (p + 1) a start = ap (λ (x : model.At). step_at names code x start) here ∙ ap (λ (x : Option Place). step_on names code p x start) is in
-    let goes : next_at names code (at_of old.at) start ≡ a.next = ap (λ (x : model.At). next_at names code x start) here ∙ ap (λ (x : Option Place). next_on names code p x start) is in
+    let steps : step names code start ≡ does p (p + 1) a start = ap (λ (x : model.Position). step_at names code x start) here ∙ ap (λ (x : Option Place). step_on names code p x start) is in
+    let goes : next_at names code (at_of old.at) start ≡ a.next = ap (λ (x : model.Position). next_at names code x start) here ∙ ap (λ (x : Option Place). next_on names code p x start) is in
     let told : events_of new.world.events.items ≡ events_of old.world.events.items ++ a.events = ap (λ (w : World). events_of w.events.items) d.world ∙ d.acted.changed.events in
     record {
       stands = subst (λ (x : State). Stands x new left) (sym steps) (record {
         values = ap (λ (w : World). values_of w.registers) d.world ∙ d.acted.changed.registers;
         memory = ap (λ (w : World). memory_of w.memory) d.world ∙ d.acted.changed.memory;
         answers = d.acted.answers;
-        place = d.at ∙ ap (λ (x : model.Next). arrives p (p + 1) x) d.acted.next;
+        place = d.at ∙ ap (λ (x : model.Continuation). arrives p (p + 1) x) d.acted.next;
         events = told;
       });
-      stage = subst (λ (x : model.Next). IsStage s x new.at) (d.acted.next ∙ sym goes) d.stage;
+      stage = subst (λ (x : model.Continuation). IsStage s x new.at) (d.acted.next ∙ sym goes) d.stage;
       ends = ended_by n old.at new.at p (events_of old.world.events.items) a.events (events_of new.world.events.items) d.here d.at d.leads d.acted.ends told;
     }
 
 -- the same of another act that is equal
-other_act : (old : Machine) (before : List Answer) (p : ℕ) (a b : Act) (n : Next) (middle : World) (new : Machine) (left : List Answer) (s : Stage) → a ≡ b → Done old before p a n middle new left s → Done old before p b n middle new left s
+other_act : (old : Machine) (before : List Answer) (p : ℕ) (a b : Act) (n : Continuation) (middle : World) (new : Machine) (left : List Answer) (s : Stage) → a ≡ b → Done old before p a n middle new left s → Done old before p b n middle new left s
 other_act old before p a b n middle new left s e d = subst (λ (x : Act). Done old before p x n middle new left s) e d
 
-pub row_steps : (names : Naming) (code : Code) (old : Machine) (before : List Answer) (p : ℕ) (x : Option Place) (j : Instr) (around : Around) (n : Next) (middle : World) (new : Machine) (left : List Answer) (s : Stage)
-    → IsProgram names code old.program → slice_get code.places p ≡ x → IsRow names code p x (Some (row.Runs j around))
+pub row_steps : (names : Naming) (code : Code) (old : Machine) (before : List Answer) (p : ℕ) (x : Option Place) (j : Instr) (around : Around) (n : Continuation) (middle : World) (new : Machine) (left : List Answer) (s : Stage)
+    → IsProgram names code old.program → slice_get code.places p ≡ x → IsPlaceContents names code p x (Some (contents.Instruction j around))
     → Done old before p (act (around_of around (lands_in old.program)) j (world_of old.world before)) n middle new left s → Stepped names code old before new left s
 row_steps names code old before p None j around n middle new left s is at_p r d = absurd r
 row_steps names code old before p (Some (Word v)) j around n middle new left s is at_p r d = absurd r

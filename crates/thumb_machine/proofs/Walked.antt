@@ -3,7 +3,7 @@ use Rattle.std.proofs.Common.{◌≡◌, ◌∙◌, ℕ, ◌+◌, ◌&&◌, ◌�
 use Rattle.std.specs.List.{list_all}
 use Rattle.std.proofs.lemmas.Bool.{cases_Bool}
 use Rattle.std.proofs.lemmas.List.Folds.{list_all-append}
-use Rattle.thumb_model.specs.Listing.{Value, Word, Statement, Nothing, Runs, Words, Aligns, Sets, Line, Place, call_count, code_of, is_call, labels_at, labels_from, places_in, places_of}
+use Rattle.thumb_model.specs.Listing.{Value, Word, Statement, Nothing, Instruction, Words, Aligns, Sets, ListingLine, Place, call_count, code_of, is_call, labels_at, labels_from, places_in, places_of}
 use Rattle.thumb_model.specs.Naming.{ends_in_call, Naming, points, points_of, returns_from}
 use Rattle.thumb_model.proofs.Moved.{returns_append}
 use Rattle.thumb_model.proofs.Returns.{statement_calls}
@@ -23,7 +23,7 @@ crossed true false false d = refl
 
 -- the return point of one statement
 pub return_of : (names : Naming) (k p : ℕ) (s : Statement) (b : Bool) → ends_in_call s ≡ b → returns_from names k p (places_in s) ≡ (if b then (names.return_word k, p + 1) ∷ [] else [])
-return_of names k p (Runs i mention) b e = rw e refl
+return_of names k p (Instruction i mention) b e = rw e refl
 return_of names k p (Words vs) b e = none p vs ∙ ap (λ c. if c then (names.return_word k, p + 1) ∷ [] else []) e where
   none : (p : ℕ) (vs : List Value) → returns_from names k p (map Word vs) ≡ []
   none p [] = refl
@@ -41,7 +41,7 @@ calls_few [] = omega arith
 calls_few (x ∷ xs) = let few = calls_few xs in elim (cases_Bool (is_call x)) [ inl e ↦ rw e (omega arith) | inr e ↦ rw e (omega arith) ]
 
 module _ (f : ℕ × ℕ → Bool) (names : Naming) where
-  walked_from : (places : List Place) (k p : ℕ) (ls : List Line)
+  walked_from : (places : List Place) (k p : ℕ) (ls : List ListingLine)
       → (list_all f (points_of names places (labels_from p ls)) && list_all f (returns_from names k p (places_of ls))) ≡ list_all f (points_from names places k p ls)
   walked_from places k p [] = refl
   walked_from places k p (l ∷ ls) =
@@ -57,7 +57,7 @@ module _ (f : ℕ × ℕ → Bool) (names : Naming) where
       ∙ ap (λ b. list_all f labels && (list_all f returns && b)) (walked_from places m q ls)
       ∙ sym (list_all-append f (labels ++ returns) rest ∙ ap (λ b. b && list_all f rest) (list_all-append f labels returns) ∙ and_assoc (list_all f labels) (list_all f returns) (list_all f rest))
 
-  pub walked : (lines : List Line) → list_all f (points names (code_of lines)) ≡ list_all f (points_from names (places_of lines) 0 0 lines)
+  pub walked : (lines : List ListingLine) → list_all f (points names (code_of lines)) ≡ list_all f (points_from names (places_of lines) 0 0 lines)
   walked lines = list_all-append f (points_of names (places_of lines) (labels_from 0 lines)) (returns_from names 0 0 (places_of lines)) ∙ walked_from (places_of lines) 0 0 lines
 
 -- a test that stays the same

@@ -11,7 +11,7 @@ use Rattle.std.proofs.Math.Bool.{or-false, or-true}
 use Rattle.std.proofs.lemmas.List.{take_all}
 use Rattle.std.proofs.lemmas.Slice.Eq.{bytes_eq-Decides}
 use Rattle.indexmap.specs.IndexMap.{insert_entry}
-use Rattle.thumb_model.specs.Listing.{Name, Statement, Sets, Line, Place, code_of, place_of, places_of}
+use Rattle.thumb_model.specs.Listing.{Name, Statement, Sets, ListingLine, Place, code_of, place_of, places_of}
 use Rattle.thumb_model.specs.Layout.{cleared, is_among, label_address, lies_in, or_else, set_address, set_in, size_at}
 use Rattle.thumb_model.specs.Naming.{word_by}
 use Rattle.listing_parser.proofs.LabelLemmas.{among_append}
@@ -52,7 +52,7 @@ among_last n k xs = among_append n xs (k ∷ []) ∙ ap (λ b. is_among n xs || 
 -- ---- fixed words ----
 
 -- one more name has its word
-pub fixed_more : (base : ℕ) (lines : List Line) (known : List Name) (k : Vec ℕ Global) (w : ℕ) (old new : Entries) → fixed_word base lines k.items ≡ Some w
+pub fixed_more : (base : ℕ) (lines : List ListingLine) (known : List Name) (k : Vec ℕ Global) (w : ℕ) (old new : Entries) → fixed_word base lines k.items ≡ Some w
     → new ≡ insert_entry (λ x y. bytes_eq x.items y.items) old k w → AreFixed base lines known old → AreFixed base lines (known ++ k.items ∷ []) new
 fixed_more base lines known k w old new is put are = record {
   words = λ n. ap (λ (es : Entries). word_in es n) put ∙ put_in n old k w ∙ elim (cases_Bool (bytes_eq n k.items)) [
@@ -62,7 +62,7 @@ fixed_more base lines known k w old new is put are = record {
 }
 
 -- a name without a word changes nothing
-pub fixed_none : (base : ℕ) (lines : List Line) (known : List Name) (k : Name) (old : Entries) → fixed_word base lines k ≡ None → AreFixed base lines known old → AreFixed base lines (known ++ k ∷ []) old
+pub fixed_none : (base : ℕ) (lines : List ListingLine) (known : List Name) (k : Name) (old : Entries) → fixed_word base lines k ≡ None → AreFixed base lines known old → AreFixed base lines (known ++ k ∷ []) old
 fixed_none base lines known k old none are = record {
   words = λ n. are.words n ∙ elim (cases_Bool (bytes_eq n k)) [
     | inl same ↦ rw (among_last n k known, same, or-true (is_among n known)) (elim (cases_Bool (is_among n known)) [
@@ -74,7 +74,7 @@ fixed_none base lines known k old none are = record {
 }
 
 -- a name that no line defines has no word
-undefined : (n : Name) (base : ℕ) (ls : List Line) → is_among n (flat_map defined_in ls) ≡ false → (label_address n base ls ≡ None) × (set_address n ls ≡ None)
+undefined : (n : Name) (base : ℕ) (ls : List ListingLine) → is_among n (flat_map defined_in ls) ≡ false → (label_address n base ls ≡ None) × (set_address n ls ≡ None)
 undefined n base [] e = (refl, refl)
 undefined n base (l ∷ ls) e =
     let p = or_parts (is_among n (defined_in l)) (is_among n (flat_map defined_in ls)) (sym (among_append n (defined_in l) (flat_map defined_in ls)) ∙ e) in
@@ -86,7 +86,7 @@ undefined n base (l ∷ ls) e =
       unset s rest e none = none
 
 -- once all lines were gone through, each name has its word
-pub all_fixed : (base : ℕ) (lines : List Line) (es : Entries) → AreFixed base lines (flat_map defined_in lines) es → AreOwn base lines [] es
+pub all_fixed : (base : ℕ) (lines : List ListingLine) (es : Entries) → AreFixed base lines (flat_map defined_in lines) es → AreOwn base lines [] es
 all_fixed base lines es are = record {
   words = λ n. are.words n ∙ elim (cases_Bool (is_among n (flat_map defined_in lines))) [
     | inl h ↦ rw h (sym (or_none (fixed_word base lines n)))
@@ -119,23 +119,23 @@ pub some_or : (a b : Option ℕ) → is_some (or_else a b) ≡ (is_some a || is_
 some_or None b = refl
 some_or (Some a) b = refl
 
-is_there : (base : ℕ) (lines : List Line) (n : Name) (known : List Name) → is_some (or_else (fixed_word base lines n) (own_word 0 n known)) ≡ (is_some (lies_in base lines n) || is_among n known)
+is_there : (base : ℕ) (lines : List ListingLine) (n : Name) (known : List Name) → is_some (or_else (fixed_word base lines n) (own_word 0 n known)) ≡ (is_some (lies_in base lines n) || is_among n known)
 is_there base lines n known = some_or (fixed_word base lines n) (own_word 0 n known)
     ∙ ap₂ (λ a b. a || b) (lies_fixed (label_address n base lines) (place_of (code_of lines) n) (set_address n lines)) (own_among 0 n known)
 
 -- a name that has a word stays out
-pub own_same : (base : ℕ) (lines : List Line) (n : Name) (known : List Name) (es : Entries) → AreOwn base lines known es → is_some (word_in es n) ≡ true → with_name base lines known (Some n) ≡ known
+pub own_same : (base : ℕ) (lines : List ListingLine) (n : Name) (known : List Name) (es : Entries) → AreOwn base lines known es → is_some (word_in es n) ≡ true → with_name base lines known (Some n) ≡ known
 own_same base lines n known es are there = let e = sym (is_there base lines n known) ∙ ap is_some (sym (are.words n)) ∙ there in rw e refl
 
 -- and one that has none is put in
-pub own_next : (base : ℕ) (lines : List Line) (n : Name) (known : List Name) (es : Entries) → AreOwn base lines known es → is_some (word_in es n) ≡ false → with_name base lines known (Some n) ≡ known ++ n ∷ []
+pub own_next : (base : ℕ) (lines : List ListingLine) (n : Name) (known : List Name) (es : Entries) → AreOwn base lines known es → is_some (word_in es n) ≡ false → with_name base lines known (Some n) ≡ known ++ n ∷ []
 own_next base lines n known es are none = let e = sym (is_there base lines n known) ∙ ap is_some (sym (are.words n)) ∙ none in rw e refl
 
 nothing_there : (o : Option ℕ) → is_some o ≡ false → o ≡ None
 nothing_there None e = refl
 nothing_there (Some a) e = absurd (true≢false e)
 
-pub own_put : (base : ℕ) (lines : List Line) (known : List Name) (k : Vec ℕ Global) (w : ℕ) (old new : Entries) → AreOwn base lines known old → is_some (word_in old k.items) ≡ false
+pub own_put : (base : ℕ) (lines : List ListingLine) (known : List Name) (k : Vec ℕ Global) (w : ℕ) (old new : Entries) → AreOwn base lines known old → is_some (word_in old k.items) ≡ false
     → w ≡ (805306368 + 256 * length known) % 2 ^ 32 → new ≡ insert_entry (λ x y. bytes_eq x.items y.items) old k w → AreOwn base lines (known ++ k.items ∷ []) new
 own_put base lines known k w old new are none is put = record {
   words = λ n. ap (λ (es : Entries). word_in es n) put ∙ put_in n old k w ∙ elim (cases_Bool (bytes_eq n k.items)) [
@@ -161,7 +161,7 @@ word_is None c s o = refl
 word_is (Some a) None s o = refl
 word_is (Some a) (Some p) s o = refl
 
-pub laid_word : (base : ℕ) (lines : List Line) (es : Entries) → AreOwn base lines (nowhere base lines) es → (n : Name) → unwrap_or (word_in es n) 0
+pub laid_word : (base : ℕ) (lines : List ListingLine) (es : Entries) → AreOwn base lines (nowhere base lines) es → (n : Name) → unwrap_or (word_in es n) 0
     ≡ word_by (outside_word base lines n) (label_address n base lines) (place_of (code_of lines) n)
 laid_word base lines es are n = ap (λ (o : Option ℕ). unwrap_or o 0) (are.words n) ∙ word_is (label_address n base lines) (place_of (code_of lines) n) (set_address n lines) (own_word 0 n (nowhere base lines))
 
@@ -179,10 +179,10 @@ fold_suc f a [] i x e = absurd (let bad : None ≡ Some x = e in cc)
 fold_suc f a (y ∷ ys) zero x e = let some : Some y ≡ Some x = e in let same : y ≡ x = cc in ap (f a) same
 fold_suc f a (y ∷ ys) (suc i) x e = fold_suc f (f a y) ys i x e
 
-abbrev pub known_before : ℕ → List Line → ℕ → List Name
+abbrev pub known_before : ℕ → List ListingLine → ℕ → List Name
 known_before base lines p = fold (λ known x. with_name base lines known (place_name x)) [] (take p (places_of lines))
 
-pub known_more : (base : ℕ) (lines : List Line) (p : ℕ) (x : Place) → slice_get (places_of lines) p ≡ Some x → known_before base lines (p + 1) ≡ with_name base lines (known_before base lines p) (place_name x)
+pub known_more : (base : ℕ) (lines : List ListingLine) (p : ℕ) (x : Place) → slice_get (places_of lines) p ≡ Some x → known_before base lines (p + 1) ≡ with_name base lines (known_before base lines p) (place_name x)
 known_more base lines p x e = let n : p + 1 ≡ suc p = omega arith in ap (known_before base lines) n ∙ fold_suc (λ known y. with_name base lines known (place_name y)) [] (places_of lines) p x e
 
 filter_both : (a b c : Name → Bool) → ((m : Name) → (b m && a m) ≡ c m) → (xs : List Name) → filter a (filter b xs) ≡ filter c xs
@@ -205,11 +205,11 @@ abbrev is_other : List Name → Name → Bool
 is_other known m = not (is_among m known)
 
 -- the names that come of places behind known ones, whose names come as these
-abbrev behind_known : ℕ → List Line → List Name → List Name → List Name
+abbrev behind_known : ℕ → List ListingLine → List Name → List Name → List Name
 behind_known base lines known names = known ++ filter (is_other known) (firsts (filter (lies_nowhere base lines) names))
 
 -- one name, and those behind it
-known_step : (base : ℕ) (lines : List Line) (known names : List Name) (o : Option Name) → behind_known base lines (with_name base lines known o) names ≡ behind_known base lines known (cons_option o names)
+known_step : (base : ℕ) (lines : List ListingLine) (known names : List Name) (o : Option Name) → behind_known base lines (with_name base lines known o) names ≡ behind_known base lines known (cons_option o names)
 known_step base lines known names None = refl
 known_step base lines known names (Some n) = elim (cases_Bool (is_some (lies_in base lines n))) [
   | inl lies ↦ rw lies refl
@@ -237,29 +237,29 @@ known_step base lines known names (Some n) = elim (cases_Bool (is_some (lies_in 
     neither false true = refl
     neither false false = refl
 
-known_names : (base : ℕ) (lines : List Line) (known : List Name) (ps : List Place) → fold (λ ns x. with_name base lines ns (place_name x)) known ps ≡ behind_known base lines known (filter_map place_name ps)
+known_names : (base : ℕ) (lines : List ListingLine) (known : List Name) (ps : List Place) → fold (λ ns x. with_name base lines ns (place_name x)) known ps ≡ behind_known base lines known (filter_map place_name ps)
 known_names base lines known [] = sym (append-nil known)
 known_names base lines known (p ∷ ps) = known_names base lines (with_name base lines known (place_name p)) ps ∙ known_step base lines known (filter_map place_name ps) (place_name p)
 
-pub known_all : (base : ℕ) (lines : List Line) (p : ℕ) → length (places_of lines) ≤ p → known_before base lines p ≡ nowhere base lines
+pub known_all : (base : ℕ) (lines : List ListingLine) (p : ℕ) → length (places_of lines) ≤ p → known_before base lines p ≡ nowhere base lines
 known_all base lines p le =
     ap (fold (λ known x. with_name base lines known (place_name x)) []) (take_all p (places_of lines) le)
     ∙ known_names base lines [] (places_of lines) ∙ filter_none (is_other []) (λ m. refl) (nowhere base lines)
 
 -- so many places were gone through
-pub record SoManyOwn (base : ℕ) (lines : List Line) (p count : ℕ) (es : Entries) : Type 0 where
+pub record SoManyOwn (base : ℕ) (lines : List ListingLine) (p count : ℕ) (es : Entries) : Type 0 where
   pub own : AreOwn base lines (known_before base lines p) es
   pub counted : count ≡ length (known_before base lines p)
   pub few : count ≤ p
 
 -- a place that mentions nothing
-pub own_nothing : (base : ℕ) (lines : List Line) (p count : ℕ) (es : Entries) (x : Place) → Some x ≡ slice_get (places_of lines) p → None ≡ place_name x → SoManyOwn base lines p count es → SoManyOwn base lines (p + 1) count es
+pub own_nothing : (base : ℕ) (lines : List ListingLine) (p count : ℕ) (es : Entries) (x : Place) → Some x ≡ slice_get (places_of lines) p → None ≡ place_name x → SoManyOwn base lines p count es → SoManyOwn base lines (p + 1) count es
 own_nothing base lines p count es x here none far =
     let e : known_before base lines (p + 1) ≡ known_before base lines p = known_more base lines p x (sym here) ∙ ap (with_name base lines (known_before base lines p)) (sym none) in
     record { own = rw e far.own; counted = rw e far.counted; few = let f = far.few in omega arith }
 
 -- and one that mentions a name
-pub own_name : (base : ℕ) (lines : List Line) (p count next : ℕ) (new : Entries) (x : Place) (n : Name) → Some x ≡ slice_get (places_of lines) p → Some n ≡ place_name x
+pub own_name : (base : ℕ) (lines : List ListingLine) (p count next : ℕ) (new : Entries) (x : Place) (n : Name) → Some x ≡ slice_get (places_of lines) p → Some n ≡ place_name x
     → AreOwn base lines (with_name base lines (known_before base lines p) (Some n)) new → next ≡ length (with_name base lines (known_before base lines p) (Some n)) → next ≤ p + 1 → SoManyOwn base lines (p + 1) next new
 own_name base lines p count next new x n here some own counted few =
     let e : known_before base lines (p + 1) ≡ with_name base lines (known_before base lines p) (Some n) = known_more base lines p x (sym here) ∙ ap (with_name base lines (known_before base lines p)) (sym some) in

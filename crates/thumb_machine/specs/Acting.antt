@@ -2,8 +2,8 @@
 use Rattle.std.specs.Prelude.{◌≡◌, ℕ, List, [], ◌∷◌, ◌++◌, Option, Some, None, Result, Ok, Err}
 use Rattle.thumb_machine.specs.declared.answers.Answer.{Answer}
 use Rattle.thumb_machine.specs.declared.world.World.{World}
-use Rattle.thumb_machine.specs.declared.world.Next.{Next}
-use Rattle.thumb_machine.specs.declared.world.Next.TheVariants as next
+use Rattle.thumb_machine.specs.declared.world.Continuation.{Continuation}
+use Rattle.thumb_machine.specs.declared.world.Continuation.TheVariants as next
 use Rattle.thumb_machine.specs.declared.world.End.{End}
 use Rattle.thumb_machine.specs.declared.world.End.TheVariants as end
 use Rattle.thumb_machine.specs.declared.world.Target.{Target}
@@ -24,7 +24,7 @@ use Rattle.thumb_model.specs.States as model
 abbrev pub world_of : World → List Answer → model.World
 world_of w left = record { values = values_of w.registers; memory = memory_of w.memory; answers = answers_of left }
 
-abbrev pub next_of : Next → model.Next
+abbrev pub next_of : Continuation → model.Continuation
 next_of next.On = model.On
 next_of next.Stay = model.Stay
 next_of (next.To p) = model.To p
@@ -43,7 +43,7 @@ abbrev pub around_of : Around → (ℕ → model.Landing) → model.Around
 around_of a lands = record { target = target_of a.target; literal = a.literal; link = a.link; lands = lands }
 
 -- a run that is over ended by its last event
-abbrev pub EndsBy : Next → List model.Event → Type 0
+abbrev pub EndsBy : Continuation → List model.Event → Type 0
 EndsBy next.On es = Unit {0}
 EndsBy next.Stay es = Unit {0}
 EndsBy (next.To p) es = Unit {0}
@@ -58,13 +58,13 @@ pub record Changed (os : List (ℕ × ℕ)) (bytes : ℕ → ℕ) (es : List mod
   pub events : events_of new.events.items ≡ events_of old.events.items ++ es
 
 -- nothing changed
-pub record Kept (old new : World) : Type 0 where
+pub record Unchanged (old new : World) : Type 0 where
   pub registers : values_of new.registers ≡ values_of old.registers
   pub memory : memory_of new.memory ≡ memory_of old.memory
   pub events : events_of new.events.items ≡ events_of old.events.items
 
 -- the act was done, and these answers are left
-pub record Acted (act : Act) (old new : World) (left : List Answer) (n : Next) : Type 0 where
+pub record Acted (act : Act) (old new : World) (left : List Answer) (n : Continuation) : Type 0 where
   pub changed : Changed act.outputs act.memory act.events old new
   pub answers : answers_of left ≡ act.answers
   pub next : next_of n ≡ act.next
@@ -72,15 +72,15 @@ pub record Acted (act : Act) (old new : World) (left : List Answer) (n : Next) :
 
 -- nothing changed and no answer was given
 pub record Refused (old new : World) (before left : List Answer) : Type 0 where
-  pub kept : Kept old new
+  pub kept : Unchanged old new
   pub answers : left ≡ before
 
 -- the change was made, or for want of memory nothing was
 abbrev pub Changes : {T E : Type 0} → List (ℕ × ℕ) → (ℕ → ℕ) → List model.Event → World → World → Result T E → Type 0
 Changes os bytes es old new (Ok t) = Changed os bytes es old new
-Changes os bytes es old new (Err e) = Kept old new
+Changes os bytes es old new (Err e) = Unchanged old new
 
 -- what the model's act is of the world was done, or for want of memory nothing was
-abbrev pub Acts : {E : Type 0} → (model.World → Act) → World → List Answer → World → List Answer → Result Next E → Type 0
+abbrev pub Acts : {E : Type 0} → (model.World → Act) → World → List Answer → World → List Answer → Result Continuation E → Type 0
 Acts act old before new left (Ok n) = Acted (act (world_of old before)) old new left n
 Acts act old before new left (Err e) = Refused old new before left

@@ -1,6 +1,6 @@
 -- The words of the return points of calls.
 use Rattle.std.specs.Prelude.{◌≡◌, ℕ, ◌+◌, ◌<◌, Bool, false, List, length, Option, Some, None, slice_index}
-use Rattle.thumb_model.specs.Listing.{Line, Place, is_call}
+use Rattle.thumb_model.specs.Listing.{ListingLine, Place, is_call}
 use Rattle.thumb_model.specs.Naming.{return_address}
 
 abbrev pub is_call_place : Option Place → Bool
@@ -8,6 +8,6 @@ is_call_place None = false
 is_call_place (Some p) = is_call p
 
 -- these are the words of so many first calls
-pub record AreReturns (base : ℕ) (lines : List Line) (calls : ℕ) (list : List ℕ) : Type 0 where
+pub record AreReturns (base : ℕ) (lines : List ListingLine) (calls : ℕ) (list : List ℕ) : Type 0 where
   pub count : length list ≡ calls
   pub words : (k : ℕ) → k < calls → slice_index list k ≡ return_address k base lines + 1

@@ -2,15 +2,15 @@
 use Rattle.std.specs.Prelude.{◌≡◌, ℕ, List, [], ◌∷◌, ◌++◌, take, nat_eq, Option, Some, None, Result, Ok, Err, slice_get}
 use Rattle.std.specs.HashMap.{get}
 use Rattle.thumb_machine.specs.declared.answers.Answer.{Answer}
-use Rattle.thumb_machine.specs.declared.world.Next.{Next}
-use Rattle.thumb_machine.specs.declared.world.Next.TheVariants as next
+use Rattle.thumb_machine.specs.declared.world.Continuation.{Continuation}
+use Rattle.thumb_machine.specs.declared.world.Continuation.TheVariants as next
 use Rattle.thumb_machine.specs.declared.world.End.{End}
 use Rattle.thumb_machine.specs.declared.world.End.TheVariants as end
-use Rattle.thumb_machine.specs.declared.program.Row.{Row}
-use Rattle.thumb_machine.specs.declared.program.Row.TheVariants as row
+use Rattle.thumb_machine.specs.declared.program.PlaceContents.{PlaceContents}
+use Rattle.thumb_machine.specs.declared.program.PlaceContents.TheVariants as contents
 use Rattle.thumb_machine.specs.declared.program.Program.{Program}
-use Rattle.thumb_machine.specs.declared.machine.At.{At}
-use Rattle.thumb_machine.specs.declared.machine.At.TheVariants as at
+use Rattle.thumb_machine.specs.declared.machine.Position.{Position}
+use Rattle.thumb_machine.specs.declared.machine.Position.TheVariants as at
 use Rattle.thumb_machine.specs.declared.machine.Stage.{Stage}
 use Rattle.thumb_machine.specs.declared.machine.Stage.TheVariants as stage
 use Rattle.thumb_machine.specs.declared.machine.Machine.{Machine}
@@ -29,16 +29,16 @@ use Rattle.thumb_model.specs.Steps as model_steps
 -- ---- programs ----
 
 -- a row holds what a listing says at a place
-abbrev pub IsRow : Naming → Code → ℕ → Option Place → Option Row → Type 0
-IsRow names code p None None = Unit {0}
-IsRow names code p (Some (Word v)) (Some row.Data) = Unit {0}
-IsRow names code p (Some (Op i mention)) (Some (row.Runs j around)) =
+abbrev pub IsPlaceContents : Naming → Code → ℕ → Option Place → Option PlaceContents → Type 0
+IsPlaceContents names code p None None = Unit {0}
+IsPlaceContents names code p (Some (Word v)) (Some contents.Data) = Unit {0}
+IsPlaceContents names code p (Some (Op i mention)) (Some (contents.Instruction j around)) =
     (j ≡ i) × (target_of around.target ≡ target_at names mention (aim_of code mention)) × (around.literal ≡ literal_at names code i mention)
     × (around.link ≡ names.return_word (call_count (take p code.places)))
-IsRow names code p None (Some r) = ⊥
-IsRow names code p (Some x) None = ⊥
-IsRow names code p (Some (Word v)) (Some (row.Runs j around)) = ⊥
-IsRow names code p (Some (Op i mention)) (Some row.Data) = ⊥
+IsPlaceContents names code p None (Some r) = ⊥
+IsPlaceContents names code p (Some x) None = ⊥
+IsPlaceContents names code p (Some (Word v)) (Some (contents.Instruction j around)) = ⊥
+IsPlaceContents names code p (Some (Op i mention)) (Some contents.Data) = ⊥
 
 -- the place that a word's code points have
 abbrev pub point_of : Program → ℕ → Option ℕ
@@ -50,14 +50,14 @@ lands_in program word = model_steps.landing (record { word_of = λ name. 0; retu
 
 -- a program holds what a naming and a listing say
 pub record IsProgram (names : Naming) (code : Code) (program : Program) : Type 0 where
-  pub rows : (p : ℕ) → IsRow names code p (slice_get code.places p) (slice_get program.rows.items p)
+  pub rows : (p : ℕ) → IsPlaceContents names code p (slice_get code.places p) (slice_get program.rows.items p)
   pub points : (word : ℕ) → point_of program word ≡ point_among word (points names code)
   pub low : program.low ≡ names.low
   pub high : program.high ≡ names.high
 
 -- ---- states ----
 
-abbrev pub at_of : At → model.At
+abbrev pub at_of : Position → model.Position
 at_of (at.Here p) = Here p
 at_of (at.Ended e) = Ended
 
@@ -75,7 +75,7 @@ pub record Stands (s : State) (m : Machine) (left : List Answer) : Type 0 where
 -- ---- steps ----
 
 -- a step goes on, stays for want of answers, or leaves the run ended so
-abbrev pub IsStage : Stage → model.Next → At → Type 0
+abbrev pub IsStage : Stage → model.Continuation → Position → Type 0
 IsStage s model.On here = s ≡ stage.Going
 IsStage s (model.To p) here = s ≡ stage.Going
 IsStage s model.Stay here = s ≡ stage.Wants
@@ -83,14 +83,14 @@ IsStage s model.Over (at.Here p) = ⊥
 IsStage s model.Over (at.Ended e) = s ≡ stage_of e
 
 -- where a run is after an instruction that goes on so
-abbrev pub LeadsTo : Next → At → Type 0
+abbrev pub LeadsTo : Continuation → Position → Type 0
 LeadsTo next.On here = Unit {0}
 LeadsTo next.Stay here = Unit {0}
 LeadsTo (next.To p) here = Unit {0}
 LeadsTo (next.Over e) here = here ≡ at.Ended e
 
 -- a run that ended just now ended by its last event
-abbrev pub EndedBy : At → At → List model.Event → Type 0
+abbrev pub EndedBy : Position → Position → List model.Event → Type 0
 EndedBy old (at.Here p) es = Unit {0}
 EndedBy (at.Ended d) (at.Ended e) es = d ≡ e
 EndedBy (at.Here p) (at.Ended e) es = (front : List model.Event) × (last : model.Event) × (es ≡ front ++ last ∷ []) × (end_of last ≡ Some e)

@@ -6,17 +6,17 @@ use Rattle.thumb_machine.specs.declared.machine.Stage.{Stage}
 use Rattle.thumb_machine.specs.declared.machine.Stage.TheVariants as stage
 use Rattle.thumb_model.specs.Listing.{Code, Place, Op, Word}
 use Rattle.thumb_model.specs.Naming.{Naming}
-use Rattle.thumb_model.specs.States.{State, At, Here, Ended, Next, Over, Event, Load, Store, Call, Sys, Left, Fault, Astray, Fell}
+use Rattle.thumb_model.specs.States.{State, Position, Here, Ended, Continuation, Over, Event, Load, Store, Call, Sys, Left, Fault, Astray, Fell}
 use Rattle.thumb_model.specs.Acts.{act}
 use Rattle.thumb_model.specs.Steps.{around_of}
 
 -- how the step from a state goes on
-abbrev pub next_on : Naming → Code → ℕ → Option Place → State → Next
+abbrev pub next_on : Naming → Code → ℕ → Option Place → State → Continuation
 next_on names code p None s = Over
 next_on names code p (Some (Word v)) s = Over
 next_on names code p (Some (Op i mention)) s = (act (around_of names code p i mention) i s.world).next
 
-abbrev pub next_at : Naming → Code → At → State → Next
+abbrev pub next_at : Naming → Code → Position → State → Continuation
 next_at names code Ended s = Over
 next_at names code (Here p) s = next_on names code p (slice_get code.places p) s
 

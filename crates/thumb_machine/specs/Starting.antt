@@ -3,7 +3,7 @@ use Rattle.std.specs.Prelude.{◌≡◌, ◌==◌, nat_lt, [], slice_index, if�
 use Rattle.std.specs.Int.{bit_at}
 use Rattle.thumb_machine.specs.declared.machine.State.{State}
 use Rattle.thumb_machine.specs.declared.machine.Machine.{Machine}
-use Rattle.thumb_machine.specs.declared.machine.At.TheVariants as at
+use Rattle.thumb_machine.specs.declared.machine.Position.TheVariants as at
 use Rattle.thumb_machine.specs.Registers.{values_of}
 use Rattle.thumb_machine.specs.Memory.{memory_of}
 use Rattle.thumb_model.specs.Effect.{Values, sp, lr, n_flag, z_flag, c_flag, v_flag}

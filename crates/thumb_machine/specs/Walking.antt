@@ -1,6 +1,6 @@
 -- The code points of a listing in the order of its lines, and tests of them one after another.
 use Rattle.std.specs.Prelude.{ℕ, ◌+◌, ◌&&◌, Bool, true, List, [], ◌∷◌, ◌++◌, length}
-use Rattle.thumb_model.specs.Listing.{Name, Line, Place, call_count, labels_at, places_in}
+use Rattle.thumb_model.specs.Listing.{Name, ListingLine, Place, call_count, labels_at, places_in}
 use Rattle.thumb_model.specs.Naming.{Naming, points_of, returns_from}
 
 -- the words of names, at a place
@@ -9,7 +9,7 @@ name_points names p [] = []
 name_points names p (n ∷ ns) = (names.word_of n, p) ∷ name_points names p ns
 
 -- the code points of lines that begin at a place, the next call being number k: of each line those of its labels, then its return point
-abbrev pub points_from : Naming → List Place → ℕ → ℕ → List Line → List (ℕ × ℕ)
+abbrev pub points_from : Naming → List Place → ℕ → ℕ → List ListingLine → List (ℕ × ℕ)
 points_from names places k p [] = []
 points_from names places k p (l ∷ ls) =
     points_of names places (labels_at p l.names) ++ returns_from names k p (places_in l.statement)

@@ -3,7 +3,7 @@ use Rattle.std.specs.Prelude.{◌≡◌, ℕ, ◌+◌, ◌||◌, List, [], ◌�
 use Rattle.std.specs.Map.{lookup}
 use Rattle.std.specs.declared.alloc.Global.{Global}
 use Rattle.std.specs.declared.vec.Vec.{Vec}
-use Rattle.thumb_model.specs.Listing.{Name, Line, code_of, place_of}
+use Rattle.thumb_model.specs.Listing.{Name, ListingLine, code_of, place_of}
 use Rattle.thumb_model.specs.Layout.{is_among, label_address, lies_in, or_else, set_address}
 use Rattle.thumb_machine.specs.Naming.{is_named}
 use Rattle.thumb_machine.specs.Laid.{own_word}
@@ -14,11 +14,11 @@ fixed_by None code set = set
 fixed_by (Some a) None set = Some a
 fixed_by (Some a) (Some p) set = Some (a + 1)
 
-abbrev pub fixed_word : ℕ → List Line → Name → Option ℕ
+abbrev pub fixed_word : ℕ → List ListingLine → Name → Option ℕ
 fixed_word base lines name = fixed_by (label_address name base lines) (place_of (code_of lines) name) (set_address name lines)
 
 -- one name more, where it lies nowhere and is not among those before
-abbrev pub with_name : ℕ → List Line → List Name → Option Name → List Name
+abbrev pub with_name : ℕ → List ListingLine → List Name → Option Name → List Name
 with_name base lines known None = known
 with_name base lines known (Some n) = if is_some (lies_in base lines n) || is_among n known then known else known ++ n ∷ []
 
@@ -30,9 +30,9 @@ abbrev pub word_in : Entries → Name → Option ℕ
 word_in es name = lookup (is_named name) es
 
 -- these names have their words, and no others
-pub record AreFixed (base : ℕ) (lines : List Line) (known : List Name) (es : Entries) : Type 0 where
+pub record AreFixed (base : ℕ) (lines : List ListingLine) (known : List Name) (es : Entries) : Type 0 where
   pub words : (n : Name) → word_in es n ≡ (if is_among n known then fixed_word base lines n else None)
 
 -- all labels and set names have their words, and these others their own
-pub record AreOwn (base : ℕ) (lines : List Line) (known : List Name) (es : Entries) : Type 0 where
+pub record AreOwn (base : ℕ) (lines : List ListingLine) (known : List Name) (es : Entries) : Type 0 where
   pub words : (n : Name) → word_in es n ≡ or_else (fixed_word base lines n) (own_word 0 n known)

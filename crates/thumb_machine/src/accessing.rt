@@ -10,7 +10,7 @@ ghost use Rattle.thumb_machine.specs.Accesses.{is_store};
 use crate::answers::Answers;
 use crate::event::Event;
 use crate::memory::is_device;
-use crate::world::{End, Next, World, is_aligned};
+use crate::world::{Continuation, End, World, is_aligned};
 use std::alloc::AllocError;
 use thumb_instr::Access;
 use word_bits::sign_extend;
@@ -109,14 +109,19 @@ impl World {
     }
 
     /// Loads from the memory.
-    fn load_memory(&mut self, access: Access, target: u32, address: u32) -> Result<Next, AllocError>
+    fn load_memory(
+        &mut self,
+        access: Access,
+        target: u32,
+        address: u32,
+    ) -> Result<Continuation, AllocError>
         requires target { target < 15 }
         requires memory { address < 2 ^ 30 }
         ensures { (left : List Answer) → Acts (λ w. gets access target address (value_at w.memory address (access_size access)) w w.answers) self.old left self.new left result }
     {
         let value = self.value(address, access_size(access));
         self.receive(access, target, address, value)?;
-        Ok(Next::On)
+        Ok(Continuation::On)
     }
 
     /// Loads from a device, which takes an answer.
@@ -126,17 +131,17 @@ impl World {
         access: Access,
         target: u32,
         address: u32,
-    ) -> Result<Next, AllocError>
+    ) -> Result<Continuation, AllocError>
         requires { target < 15 }
         ensures { Acts (λ w. takes (λ answer rest. gets access target address (answer.values 0) w rest) w w.answers) self.old answers.old self.new answers.new result }
     {
         let Some(answer) = answers.next() else {
-            return Ok(Next::Stay);
+            return Ok(Continuation::Stay);
         };
         let value = answer.words[0];
         self.receive(access, target, address, value)?;
         answers.pass();
-        Ok(Next::On)
+        Ok(Continuation::On)
     }
 
     /// Loads into a register.
@@ -146,7 +151,7 @@ impl World {
         access: Access,
         target: u32,
         address: u32,
-    ) -> Result<Next, AllocError>
+    ) -> Result<Continuation, AllocError>
         requires { target < 15 }
         ensures { Acts (loads access target address) self.old answers.old self.new answers.new result }
     {
@@ -176,14 +181,19 @@ impl World {
     }
 
     /// Stores a value.
-    fn store(&mut self, access: Access, address: u32, value: u32) -> Result<Next, AllocError>
+    fn store(
+        &mut self,
+        access: Access,
+        address: u32,
+        value: u32,
+    ) -> Result<Continuation, AllocError>
         ensures { (left : List Answer) → Acts (stores access address value) self.old left self.new left result }
     {
         if !is_aligned(address, access_size(access)) {
             return self.finish(Event::Fault { address }, End::Fault);
         }
         self.put(access, address, value)?;
-        Ok(Next::On)
+        Ok(Continuation::On)
     }
 
     /// Loads into a register, or stores the value that it has.
@@ -193,7 +203,7 @@ impl World {
         access: Access,
         target: u32,
         address: u32,
-    ) -> Result<Next, AllocError>
+    ) -> Result<Continuation, AllocError>
         requires { target < 15 }
         ensures { Acts (λ w. accesses access target address (w.values target) w) self.old answers.old self.new answers.new result }
     {

@@ -8,7 +8,7 @@ use crate::answers::Answers;
 use crate::computing::{compute, computes};
 use crate::lists::registers_in;
 use crate::system::{barrier_code, interrupts_code, special_code};
-use crate::world::{Around, Lands, Next, World};
+use crate::world::{Around, Continuation, Lands, World};
 use std::alloc::AllocError;
 use thumb_instr::items::SP;
 use thumb_instr::{Instr, offset_access, word_access};
@@ -28,12 +28,12 @@ impl World {
         around: &Around,
         place: &P,
         instr: &Instr,
-    ) -> Result<Next, AllocError>
+    ) -> Result<Continuation, AllocError>
         ensures { Acts (act (around_of around.now (P.lands place.now)) instr.now) self.old answers.old self.new answers.new result }
     {
         if computes(instr) {
             compute(&mut self.registers, instr);
-            return Ok(Next::On);
+            return Ok(Continuation::On);
         }
         match *instr {
             Instr::Bx { source } => {
@@ -46,7 +46,7 @@ impl World {
             }
             Instr::Literal { target, .. } => {
                 self.registers.set(target.number, around.literal);
-                Ok(Next::On)
+                Ok(Continuation::On)
             }
             Instr::Indexed {
                 access,
@@ -77,7 +77,7 @@ impl World {
             }
             Instr::Address { target, .. } => {
                 self.registers.set(target.number, around.literal);
-                Ok(Next::On)
+                Ok(Continuation::On)
             }
             Instr::Push { list } => self.push(list.number),
             Instr::Pop { list } => self.pop(answers, place, list.number),

@@ -6,7 +6,7 @@ ghost use Rattle.thumb_machine.specs.Computes.{computes};
 
 use crate::registers::Registers;
 use thumb_instr::items::SP;
-use thumb_instr::{Instr, Sum};
+use thumb_instr::{Instr, SumOperation};
 use window_exec::{total, written};
 
 /// Whether an instruction looks at registers and flags alone, and goes on.
@@ -29,7 +29,10 @@ pub(crate) fn compute(registers: &mut Registers, instr: &Instr)
     match *instr {
         Instr::StackAddress { target, offset } => {
             let x = registers.get(u32::from(SP));
-            registers.set(target.number, total(Sum::Add, x, 4 * offset.number));
+            registers.set(
+                target.number,
+                total(SumOperation::Add, x, 4 * offset.number),
+            );
         }
         Instr::StackMove { sum, offset } => {
             let x = registers.get(u32::from(SP));

@@ -1,6 +1,6 @@
 //! The naming that a listing is laid out with.
 ghost use Rattle.std.specs.Prelude.{◌≡◌, ◌<◌, ◌≤◌, ◌+◌, ◌^◌, ◌++◌, ◌∷◌, [], ℕ, true, false, List, Some, map, length, take, option_map, slice_get, IfOk, OnOk, MatchOption};
-ghost use Rattle.thumb_model.specs.Listing.{Line as ListingLine, Name, call_count, places_of};
+ghost use Rattle.thumb_model.specs.Listing.{ListingLine, Name, call_count, places_of};
 ghost use Rattle.thumb_model.specs.Naming.{last_is_call, return_address};
 ghost use Rattle.listing_parser.specs.Views.{line_view, place_view, statement_view};
 ghost use Rattle.listing_parser.specs.Targets.{defined_in, set_names};
@@ -13,7 +13,7 @@ ghost use Rattle.thumb_machine.specs.Words.{AreFixed, AreOwn, with_name, fixed_w
 use crate::naming::Naming;
 use indexmap::IndexMap;
 use label_layout::{Layout, instr_size};
-use listing_parser::{Line, Listing, Mention, Place, Statement, Value, is_call};
+use listing_parser::{Listing, ListingLine, Mention, Place, Statement, Value, is_call};
 use std::alloc::{AllocError, Global};
 
 /// The first word of an external name without an address.
@@ -74,7 +74,7 @@ fn set_name(statement: &Statement) -> Option<&Vec<u8>>
 {
     match statement {
         Statement::Nothing => None,
-        Statement::Runs { .. } => None,
+        Statement::Instruction { .. } => None,
         Statement::Words(_) => None,
         Statement::Aligns { .. } => None,
         Statement::Sets { name, .. } => Some(name),
@@ -86,7 +86,7 @@ fn add_line(
     words: &mut IndexMap<Vec<u8>, u32>,
     listing: &Listing,
     layout: &Layout,
-    line: &Line,
+    line: &ListingLine,
 ) -> Result<(), AllocError>
     requires { AreAddresses listing.now layout.now }
     ensures { OnOk result ((known : List Name) → AreFixed layout.now.base listing.now known words.old.entries → AreFixed layout.now.base listing.now (known ++ defined_in (line_view line.now)) words.new.entries) }

@@ -24,9 +24,9 @@ mod world;
 
 pub use answers::{Answer, Answers, Bytes};
 pub use event::Event;
-pub use machine::{At, Machine, Stage, State, registers_of, stage_of};
+pub use machine::{Machine, Position, Stage, State, registers_of, stage_of};
 pub use memory::Memory;
 pub use naming::Naming;
-pub use program::{Program, Row};
+pub use program::{PlaceContents, Program};
 pub use registers::Registers;
-pub use world::{Around, End, Landing, Lands, Next, Target, World};
+pub use world::{Around, Continuation, End, Landing, Lands, Target, World};

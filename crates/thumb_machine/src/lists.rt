@@ -15,7 +15,7 @@ ghost use Rattle.thumb_machine.specs.Lists.{AreRegisters};
 use crate::answers::Answers;
 use crate::event::Event;
 use crate::memory::{Memory, is_device};
-use crate::world::{End, Next, World, is_aligned};
+use crate::world::{Continuation, End, World, is_aligned};
 use arrayvec::ArrayVec;
 use std::alloc::AllocError;
 use thumb_instr::items::{LR, SP};
@@ -211,7 +211,7 @@ impl World {
         back: u32,
         address: u32,
         words: &[u32],
-    ) -> Result<Next, AllocError>
+    ) -> Result<Continuation, AllocError>
         requires base { base < 15 }
         requires few { length words.now ≤ 9 }
         ensures { (left : List Answer) → Acts (stores_many base back address words.now) self.old left self.new left result }
@@ -224,11 +224,11 @@ impl World {
         tell_stores(&mut self.events, address, words);
         self.memory.store_words(address, words);
         self.registers.write(base, back);
-        Ok(Next::On)
+        Ok(Continuation::On)
     }
 
     /// PUSH, of a list of bits: bit 8 is lr.
-    pub(crate) fn push(&mut self, bits: u32) -> Result<Next, AllocError>
+    pub(crate) fn push(&mut self, bits: u32) -> Result<Continuation, AllocError>
         requires { bits < 512 }
         ensures { (left : List Answer) → Acts (λ w. stores_many sp (below (pushed bits) (w.values sp)) (below (pushed bits) (w.values sp)) (map w.values (pushed bits)) w) self.old left self.new left result }
     {
@@ -239,7 +239,7 @@ impl World {
     }
 
     /// STM, of a list of bits.
-    pub(crate) fn store_list(&mut self, base: u32, bits: u32) -> Result<Next, AllocError>
+    pub(crate) fn store_list(&mut self, base: u32, bits: u32) -> Result<Continuation, AllocError>
         requires { base < 15 }
         ensures { (left : List Answer) → Acts (λ w. stores_many base (behind (registers_in bits) (w.values base)) (w.values base) (map w.values (registers_in bits)) w) self.old left self.new left result }
     {

@@ -17,15 +17,15 @@ use crate::event::Event;
 use crate::memory::Memory;
 use crate::naming::Naming;
 use crate::points::points_of;
-use crate::program::{Program, Row};
+use crate::program::{PlaceContents, Program};
 use crate::registers::Registers;
-use crate::world::{End, Next, World};
+use crate::world::{Continuation, End, World};
 use listing_parser::Listing;
 use std::alloc::{AllocError, Global};
 
 /// Where a machine is.
 #[derive(Clone, Copy, Debug, PartialEq, Eq)]
-pub enum At {
+pub enum Position {
     /// At a place.
     Here { place: u32 },
     /// At the end of its run.
@@ -54,7 +54,7 @@ pub enum Stage {
 pub struct Machine {
     pub(crate) program: Program,
     pub(crate) world: World,
-    pub(crate) at: At,
+    pub(crate) at: Position,
 }
 
 /// The stage of a run that ended so.
@@ -132,7 +132,7 @@ impl Machine {
                 memory,
                 events: Vec::new(alloc),
             },
-            at: At::Here { place: state.place },
+            at: Position::Here { place: state.place },
         })
     }
 
@@ -143,8 +143,8 @@ impl Machine {
         ensures step { (names : Names) (code : Code) → IsProgram names code self.old.program → Steps names code self.old answers.old self.new answers.new result }
     {
         let place = match self.at {
-            At::Here { place } => place,
-            At::Ended { end } => return Ok(stage_of(end)),
+            Position::Here { place } => place,
+            Position::Ended { end } => return Ok(stage_of(end)),
         };
         match self.program.rows.get(place as usize).copied() {
             None => self.fall(),
@@ -153,16 +153,21 @@ impl Machine {
     }
 
     /// Takes a step at a row of the program.
-    fn run(&mut self, answers: &mut Answers, place: u32, row: Row) -> Result<Stage, AllocError>
-        requires here { self.old.at ≡ At.Here place }
+    fn run(
+        &mut self,
+        answers: &mut Answers,
+        place: u32,
+        row: PlaceContents,
+    ) -> Result<Stage, AllocError>
+        requires here { self.old.at ≡ Position.Here place }
         requires row { slice_get self.old.program.rows.items place ≡ Some row }
         ensures program { self.new.program ≡ self.old.program }
         ensures kept { OnErr result (self.new.at ≡ self.old.at) }
         ensures step { (names : Names) (code : Code) → IsProgram names code self.old.program → Steps names code self.old answers.old self.new answers.new result }
     {
         match row {
-            Row::Data => self.fall(),
-            Row::Runs { instr, around } => {
+            PlaceContents::Data => self.fall(),
+            PlaceContents::Instruction { instr, around } => {
                 let program = &mut self.program;
                 let next = self.world.act(answers, &around, &*program, &instr)?;
                 Ok(self.arrive(place, next))
@@ -174,17 +179,17 @@ impl Machine {
     fn fall(&mut self) -> Result<Stage, AllocError>
         ensures program { self.new.program ≡ self.old.program }
         ensures told { Changes [] (memory_of self.old.world.memory) (Fell ∷ []) self.old.world self.new.world result }
-        ensures ended { IfOk result (λ s. (s ≡ Stage.Fell) × (self.new.at ≡ At.Ended End.Fell)) }
+        ensures ended { IfOk result (λ s. (s ≡ Stage.Fell) × (self.new.at ≡ Position.Ended End.Fell)) }
         ensures kept { OnErr result (self.new.at ≡ self.old.at) }
     {
         self.world.tell(Event::Fell)?;
-        self.at = At::Ended { end: End::Fell };
+        self.at = Position::Ended { end: End::Fell };
         Ok(Stage::Fell)
     }
 
     /// Goes on after an instruction at a place.
-    fn arrive(&mut self, place: u32, next: Next) -> Stage
-        requires here { self.old.at ≡ At.Here place }
+    fn arrive(&mut self, place: u32, next: Continuation) -> Stage
+        requires here { self.old.at ≡ Position.Here place }
         requires room { place < 2 ^ 32 - 1 }
         ensures program { self.new.program ≡ self.old.program }
         ensures world { self.new.world ≡ self.old.world }
@@ -193,17 +198,17 @@ impl Machine {
         ensures ends { LeadsTo next self.new.at }
     {
         match next {
-            Next::On => {
-                self.at = At::Here { place: place + 1 };
+            Continuation::On => {
+                self.at = Position::Here { place: place + 1 };
                 Stage::Going
             }
-            Next::Stay => Stage::Wants,
-            Next::To { at } => {
-                self.at = At::Here { place: at };
+            Continuation::Stay => Stage::Wants,
+            Continuation::To { at } => {
+                self.at = Position::Here { place: at };
                 Stage::Going
             }
-            Next::Over { end } => {
-                self.at = At::Ended { end };
+            Continuation::Over { end } => {
+                self.at = Position::Ended { end };
                 stage_of(end)
             }
         }

@@ -6,10 +6,10 @@ ghost use Rattle.listing_parser.specs.Views.{mention_view, place_view, value_vie
 ghost use Rattle.thumb_machine.specs.Acting.{target_of};
 ghost use Rattle.thumb_machine.specs.Making.{mention_of};
 ghost use Rattle.thumb_machine.specs.Naming.{naming_of};
-ghost use Rattle.thumb_machine.specs.Running.{IsRow};
+ghost use Rattle.thumb_machine.specs.Running.{IsPlaceContents};
 
 use crate::naming::Naming;
-use crate::program::Row;
+use crate::program::PlaceContents;
 use crate::world::{Around, Target};
 use listing_parser::{Listing, Mention, Place, Value};
 use std::alloc::{AllocError, Global};
@@ -130,12 +130,12 @@ impl Naming {
     }
 
     /// The row of a place behind so many calls.
-    fn row(&self, listing: &Listing, place: Place<'_>, calls: usize) -> Row
-        ensures { (p : ℕ) → calls ≡ call_count (take p (places_of listing.now)) → IsRow (naming_of self.now) (code_of listing.now) p (Some (place_view place.entry)) (Some result) }
+    fn row(&self, listing: &Listing, place: Place<'_>, calls: usize) -> PlaceContents
+        ensures { (p : ℕ) → calls ≡ call_count (take p (places_of listing.now)) → IsPlaceContents (naming_of self.now) (code_of listing.now) p (Some (place_view place.entry)) (Some result) }
     {
         match place {
-            Place::Word(_) => Row::Data,
-            Place::Op { instr, mention } => Row::Runs {
+            Place::Word(_) => PlaceContents::Data,
+            Place::Op { instr, mention } => PlaceContents::Instruction {
                 instr,
                 around: Around {
                     target: self.target(listing, mention),
@@ -147,8 +147,12 @@ impl Naming {
     }
 
     /// The rows of a listing.
-    pub(crate) fn rows(&self, alloc: Global, listing: &Listing) -> Result<Vec<Row>, AllocError>
-        ensures rows { IfOk result (λ rows. (p : ℕ) → IsRow (naming_of self.now) (code_of listing.now) p (slice_get (places_of listing.now) p) (slice_get rows.items p)) }
+    pub(crate) fn rows(
+        &self,
+        alloc: Global,
+        listing: &Listing,
+    ) -> Result<Vec<PlaceContents>, AllocError>
+        ensures rows { IfOk result (λ rows. (p : ℕ) → IsPlaceContents (naming_of self.now) (code_of listing.now) p (slice_get (places_of listing.now) p) (slice_get rows.items p)) }
         ensures few { IfOk result (λ rows. vec_len rows < 2 ^ 32) }
     {
         let mut rows = Vec::new(alloc);

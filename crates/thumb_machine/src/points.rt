@@ -11,7 +11,7 @@ ghost use Rattle.thumb_machine.specs.Walking.{name_points};
 
 use crate::making::calls_in;
 use crate::naming::Naming;
-use listing_parser::{Line, Listing, Place};
+use listing_parser::{Listing, ListingLine, Place};
 use std::alloc::{AllocError, Global};
 use std::collections::HashMap;
 
@@ -63,7 +63,7 @@ fn add_labels(
     points: &mut HashMap<u32, u32>,
     naming: &Naming,
     listing: &Listing,
-    lines: &[Line],
+    lines: &[ListingLine],
 ) -> Result<(), AllocError>
     requires { map line_view lines.now ≡ listing.now }
     ensures { OnOk result ((w : ℕ) (rest : List (ℕ × ℕ)) → merged (get nat_eq points.new w) (point_among w rest) ≡ merged (get nat_eq points.old w) (point_among w (points_of (naming_of naming.now) (places_of listing.now) (labels_from 0 (map line_view lines.now)) ++ rest))) }

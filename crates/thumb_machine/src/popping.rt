@@ -14,7 +14,7 @@ ghost use Rattle.thumb_machine.specs.Landings.{landed_events, landed_next};
 use crate::answers::Answers;
 use crate::event::Event;
 use crate::lists::{behind, contains, device_words, registers_in, tell_loads, with_pc};
-use crate::world::{End, Landing, Lands, Next, World, is_aligned};
+use crate::world::{Continuation, End, Landing, Lands, World, is_aligned};
 use std::alloc::AllocError;
 use thumb_instr::items::SP;
 
@@ -63,7 +63,7 @@ impl World {
         base: u32,
         address: u32,
         list: &[u32],
-    ) -> Result<Next, AllocError>
+    ) -> Result<Continuation, AllocError>
         requires base { base < 15 }
         requires few { length list.now ≤ 9 }
         requires registers { AreRegisters list.now }
@@ -73,16 +73,16 @@ impl World {
             return self.finish(Event::Fault { address }, End::Fault);
         }
         if !is_enough(answers, address, list) {
-            return Ok(Next::Stay);
+            return Ok(Continuation::Stay);
         }
         self.events.reserve(list.len())?;
         tell_loads(&mut self.events, address, list);
         self.fill(answers, base, behind(list, address), address, list);
-        Ok(Next::On)
+        Ok(Continuation::On)
     }
 
     /// Goes where a word lands. An event for which there is room tells where it leaves or strays.
-    fn arrive(&mut self, landing: Landing, word: u32) -> Next
+    fn arrive(&mut self, landing: Landing, word: u32) -> Continuation
         requires { self.old.events.len < self.old.events.cap }
         ensures next { next_of result ≡ landed_next (landing_of landing) }
         ensures ends { EndsBy result (landed_events (landing_of landing) word (values_of self.old.registers)) }
@@ -91,15 +91,15 @@ impl World {
         ensures events { events_of self.new.events.items ≡ events_of self.old.events.items ++ landed_events (landing_of landing) word (values_of self.old.registers) }
     {
         match landing {
-            Landing::Goes { at } => Next::To { at },
+            Landing::Goes { at } => Continuation::To { at },
             Landing::Leaves => {
                 let event = self.left_by(word);
                 self.events.push_reserved(event);
-                Next::Over { end: End::Left }
+                Continuation::Over { end: End::Left }
             }
             Landing::Strays => {
                 self.events.push_reserved(Event::Astray { word });
-                Next::Over { end: End::Astray }
+                Continuation::Over { end: End::Astray }
             }
         }
     }
@@ -112,7 +112,7 @@ impl World {
         address: u32,
         list: &[u32],
         all: &[u32],
-    ) -> Next
+    ) -> Continuation
         requires few { length list.now ≤ 8 }
         requires all { all.now ≡ with_pc list.now }
         requires enough { device_words address (with_pc list.now) ≤ length answers.old }
@@ -133,7 +133,7 @@ impl World {
         place: &P,
         address: u32,
         list: &[u32],
-    ) -> Result<Next, AllocError>
+    ) -> Result<Continuation, AllocError>
         requires few { length list.now ≤ 8 }
         requires registers { AreRegisters list.now }
         ensures { Acts (λ w. pops (P.lands place.now (popped_word address list.now w)) address list.now w) self.old answers.old self.new answers.new result }
@@ -143,7 +143,7 @@ impl World {
         }
         let all = with_pc(list);
         if !is_enough(answers, address, all.as_slice()) {
-            return Ok(Next::Stay);
+            return Ok(Continuation::Stay);
         }
         self.events.reserve(all.len() + 1)?;
         Ok(self.fill_and_branch(answers, place, address, list, all.as_slice()))
@@ -155,7 +155,7 @@ impl World {
         answers: &mut Answers,
         place: &P,
         bits: u32,
-    ) -> Result<Next, AllocError>
+    ) -> Result<Continuation, AllocError>
         requires { bits < 512 }
         ensures { Acts (λ w. if has bits 8 then pops (P.lands place.now (popped_word (w.values sp) (registers_in bits) w)) (w.values sp) (registers_in bits) w else loads_many sp (w.values sp) (registers_in bits) w) self.old answers.old self.new answers.new result }
     {

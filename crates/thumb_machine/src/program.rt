@@ -7,9 +7,9 @@ use thumb_instr::Instr;
 
 /// What stands at a place.
 #[derive(Clone, Copy, Debug, PartialEq, Eq)]
-pub enum Row {
+pub enum PlaceContents {
     /// An instruction, with what is said where it stands.
-    Runs { instr: Instr, around: Around },
+    Instruction { instr: Instr, around: Around },
     /// A data word.
     Data,
 }
@@ -18,7 +18,7 @@ pub enum Row {
 /// below another.
 #[derive(Drop)]
 pub struct Program {
-    pub(crate) rows: Vec<Row>,
+    pub(crate) rows: Vec<PlaceContents>,
     pub(crate) points: HashMap<u32, u32>,
     pub(crate) low: u32,
     pub(crate) high: u32,

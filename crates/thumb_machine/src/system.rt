@@ -10,11 +10,11 @@ ghost use Rattle.thumb_machine.specs.Acting.{Acts, landing_of, target_of};
 
 use crate::answers::Answers;
 use crate::event::Event;
-use crate::world::{End, Landing, Next, Target, World};
+use crate::world::{Continuation, End, Landing, Target, World};
 use arrayvec::ArrayVec;
 use std::alloc::AllocError;
 use thumb_instr::items::LR;
-use thumb_instr::{Barrier, Hint, Interrupts, Special};
+use thumb_instr::{Barrier, HintOperation, Interrupts, Special};
 
 /// The event of a code and up to six values.
 pub(crate) fn sys(code: u32, values: &[u32]) -> Event
@@ -61,7 +61,7 @@ pub(crate) fn special_code(special: Special) -> u32
 
 impl World {
     /// Adds the event of a code and up to six values, and goes on.
-    pub(crate) fn tell_sys(&mut self, code: u32, values: &[u32]) -> Result<Next, AllocError>
+    pub(crate) fn tell_sys(&mut self, code: u32, values: &[u32]) -> Result<Continuation, AllocError>
         requires { length values.now ≤ 6 }
         ensures { (left : List Answer) → Acts (tells (Sys code values.now)) self.old left self.new left result }
     {
@@ -88,11 +88,11 @@ impl World {
     }
 
     /// Takes registers, flags and bytes from the next answer, after an event.
-    fn answered(&mut self, answers: &mut Answers, event: Event) -> Result<Next, AllocError>
+    fn answered(&mut self, answers: &mut Answers, event: Event) -> Result<Continuation, AllocError>
         ensures { Acts (λ w. takes (answers_with answered (event_of event) w) w w.answers) self.old answers.old self.new answers.new result }
     {
         let Some(answer) = answers.next() else {
-            return Ok(Next::Stay);
+            return Ok(Continuation::Stay);
         };
         let bytes = answer.bytes.as_slice();
         self.memory.reserve(bytes.len())?;
@@ -100,15 +100,15 @@ impl World {
         self.memory.put_bytes(bytes);
         self.registers.answer(answer);
         answers.pass();
-        Ok(Next::On)
+        Ok(Continuation::On)
     }
 
     /// Takes the registers of a service and bytes from the next answer, after an event.
-    fn served(&mut self, answers: &mut Answers, event: Event) -> Result<Next, AllocError>
+    fn served(&mut self, answers: &mut Answers, event: Event) -> Result<Continuation, AllocError>
         ensures { Acts (λ w. takes (answers_with served (event_of event) w) w w.answers) self.old answers.old self.new answers.new result }
     {
         let Some(answer) = answers.next() else {
-            return Ok(Next::Stay);
+            return Ok(Continuation::Stay);
         };
         let bytes = answer.bytes.as_slice();
         self.memory.reserve(bytes.len())?;
@@ -116,11 +116,11 @@ impl World {
         self.memory.put_bytes(bytes);
         self.registers.serve(answer);
         answers.pass();
-        Ok(Next::On)
+        Ok(Continuation::On)
     }
 
     /// Calls the outside by a word.
-    fn call_out(&mut self, answers: &mut Answers, word: u32) -> Result<Next, AllocError>
+    fn call_out(&mut self, answers: &mut Answers, word: u32) -> Result<Continuation, AllocError>
         ensures { Acts (calls_out word) self.old answers.old self.new answers.new result }
     {
         let event = self.called_by(word);
@@ -133,13 +133,13 @@ impl World {
         answers: &mut Answers,
         target: Target,
         link: u32,
-    ) -> Result<Next, AllocError>
+    ) -> Result<Continuation, AllocError>
         ensures { Acts (calls (target_of target) link) self.old answers.old self.new answers.new result }
     {
         match target {
             Target::Inside { at } => {
                 self.registers.set(u32::from(LR), link);
-                Ok(Next::To { at })
+                Ok(Continuation::To { at })
             }
             Target::External { word } => self.call_out(answers, word),
         }
@@ -152,13 +152,13 @@ impl World {
         landing: Landing,
         word: u32,
         link: u32,
-    ) -> Result<Next, AllocError>
+    ) -> Result<Continuation, AllocError>
         ensures { Acts (calls_by (landing_of landing) word link) self.old answers.old self.new answers.new result }
     {
         match landing {
             Landing::Goes { at } => {
                 self.registers.set(u32::from(LR), link);
-                Ok(Next::To { at })
+                Ok(Continuation::To { at })
             }
             Landing::Leaves => self.call_out(answers, word),
             Landing::Strays => self.finish(Event::Astray { word }, End::Astray),
@@ -166,7 +166,11 @@ impl World {
     }
 
     /// SVC
-    pub(crate) fn service(&mut self, answers: &mut Answers, number: u32) -> Result<Next, AllocError>
+    pub(crate) fn service(
+        &mut self,
+        answers: &mut Answers,
+        number: u32,
+    ) -> Result<Continuation, AllocError>
         ensures { Acts (λ w. takes (answers_with served (Sys number (map w.values (served ++ (sp ∷ [])))) w) w w.answers) self.old answers.old self.new answers.new result }
     {
         let event = self.served_by(number);
@@ -179,30 +183,30 @@ impl World {
         answers: &mut Answers,
         target: u32,
         code: u32,
-    ) -> Result<Next, AllocError>
+    ) -> Result<Continuation, AllocError>
         requires { target < 15 }
         ensures { Acts (λ w. takes (reads_special target code w) w w.answers) self.old answers.old self.new answers.new result }
     {
         let Some(answer) = answers.next() else {
-            return Ok(Next::Stay);
+            return Ok(Continuation::Stay);
         };
         let word = answer.words[0];
         self.tell(sys(code, &[]))?;
         self.registers.set(target, word);
         answers.pass();
-        Ok(Next::On)
+        Ok(Continuation::On)
     }
 
     /// A hint.
-    pub(crate) fn hint(&mut self, hint: Hint) -> Result<Next, AllocError>
+    pub(crate) fn hint(&mut self, hint: HintOperation) -> Result<Continuation, AllocError>
         ensures { (left : List Answer) → Acts (hints hint) self.old left self.new left result }
     {
         match hint {
-            Hint::Nop => Ok(Next::On),
-            Hint::Yield => self.tell_sys(512, &[]),
-            Hint::Wfe => self.tell_sys(513, &[]),
-            Hint::Wfi => self.tell_sys(514, &[]),
-            Hint::Sev => self.tell_sys(515, &[]),
+            HintOperation::Nop => Ok(Continuation::On),
+            HintOperation::Yield => self.tell_sys(512, &[]),
+            HintOperation::Wfe => self.tell_sys(513, &[]),
+            HintOperation::Wfi => self.tell_sys(514, &[]),
+            HintOperation::Sev => self.tell_sys(515, &[]),
         }
     }
 }

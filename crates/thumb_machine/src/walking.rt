@@ -7,7 +7,7 @@ ghost use Rattle.thumb_machine.specs.Naming.{naming_of};
 ghost use Rattle.thumb_machine.specs.Walking.{all_pass, name_points, points_from};
 
 use crate::naming::Naming;
-use listing_parser::{Line, Listing, Statement, is_call};
+use listing_parser::{Listing, ListingLine, Statement, is_call};
 
 /// A test of code points that come one after another.
 pub(crate) trait PointTest {
@@ -28,13 +28,13 @@ fn ends_in_call(statement: &Statement) -> bool
     ensures { result ≡ ends_in_call (statement_view statement.now) }
 {
     match statement {
-        Statement::Runs { instr, .. } => is_call(instr),
+        Statement::Instruction { instr, .. } => is_call(instr),
         _ => false,
     }
 }
 
 /// The number of the next call behind a line.
-fn next_call(line: &Line, call: usize) -> usize
+fn next_call(line: &ListingLine, call: usize) -> usize
     requires { call < 2 ^ 32 }
     ensures { result ≡ call + call_count (places_in (line_view line.now).statement) }
 {
@@ -78,7 +78,7 @@ impl Naming {
     fn return_passes<T: PointTest>(
         &self,
         test: &mut T,
-        line: &Line,
+        line: &ListingLine,
         call: usize,
         place: u32,
     ) -> bool

@@ -38,7 +38,7 @@ pub enum End {
 
 /// Where a run goes on after an instruction.
 #[derive(Clone, Copy, Debug, PartialEq, Eq)]
-pub enum Next {
+pub enum Continuation {
     /// Behind the instruction.
     On,
     /// At the instruction again, for want of answers.
@@ -139,24 +139,24 @@ impl World {
     }
 
     /// Adds an event and goes on.
-    pub(crate) fn tell_on(&mut self, event: Event) -> Result<Next, AllocError>
+    pub(crate) fn tell_on(&mut self, event: Event) -> Result<Continuation, AllocError>
         ensures { (left : List Answer) → Acts (tells (event_of event)) self.old left self.new left result }
     {
         self.tell(event)?;
-        Ok(Next::On)
+        Ok(Continuation::On)
     }
 
     /// Ends the run by an event.
-    pub(crate) fn finish(&mut self, event: Event, end: End) -> Result<Next, AllocError>
+    pub(crate) fn finish(&mut self, event: Event, end: End) -> Result<Continuation, AllocError>
         requires { end_of (event_of event) ≡ Some end }
         ensures { (left : List Answer) → Acts (ends (event_of event)) self.old left self.new left result }
     {
         self.tell(event)?;
-        Ok(Next::Over { end })
+        Ok(Continuation::Over { end })
     }
 
     /// Ends the run by leaving by a word.
-    fn leave(&mut self, word: u32) -> Result<Next, AllocError>
+    fn leave(&mut self, word: u32) -> Result<Continuation, AllocError>
         ensures { (left : List Answer) → Acts (ends (Left word (map (values_of self.old.registers) registers_left))) self.old left self.new left result }
     {
         let event = self.left_by(word);
@@ -164,22 +164,22 @@ impl World {
     }
 
     /// Branches by a word that lands so.
-    pub(crate) fn branch(&mut self, landing: Landing, word: u32) -> Result<Next, AllocError>
+    pub(crate) fn branch(&mut self, landing: Landing, word: u32) -> Result<Continuation, AllocError>
         ensures { (left : List Answer) → Acts (branches (landing_of landing) word) self.old left self.new left result }
     {
         match landing {
-            Landing::Goes { at } => Ok(Next::To { at }),
+            Landing::Goes { at } => Ok(Continuation::To { at }),
             Landing::Leaves => self.leave(word),
             Landing::Strays => self.finish(Event::Astray { word }, End::Astray),
         }
     }
 
     /// Branches to a target.
-    pub(crate) fn jump(&mut self, target: Target) -> Result<Next, AllocError>
+    pub(crate) fn jump(&mut self, target: Target) -> Result<Continuation, AllocError>
         ensures { (left : List Answer) → Acts (jumps (target_of target)) self.old left self.new left result }
     {
         match target {
-            Target::Inside { at } => Ok(Next::To { at }),
+            Target::Inside { at } => Ok(Continuation::To { at }),
             Target::External { word } => self.leave(word),
         }
     }
@@ -189,11 +189,11 @@ impl World {
         &mut self,
         condition: Condition,
         target: Target,
-    ) -> Result<Next, AllocError>
+    ) -> Result<Continuation, AllocError>
         ensures { (left : List Answer) → Acts (λ w. if holds condition w.values then jumps (target_of target) w else puts [] On w) self.old left self.new left result }
     {
         if !self.holds(condition) {
-            return Ok(Next::On);
+            return Ok(Continuation::On);
         }
         self.jump(target)
     }

@@ -11,8 +11,8 @@ use Rattle.word_bits.specs.declared.Shift.{Shift as WordShift}
 use Rattle.word_bits.specs.declared.Shift.TheVariants as shift
 use Rattle.word_bits.specs.Word.{byte, extended, shifted, last_out, shift_of, sign_extended}
 use Rattle.word_bits.proofs.Successive.{rotated-lt}
-use Rattle.thumb_instr.specs.declared.operation.Sum.{Sum}
-use Rattle.thumb_instr.specs.declared.operation.Sum.TheVariants as sum
+use Rattle.thumb_instr.specs.declared.operation.SumOperation.{SumOperation}
+use Rattle.thumb_instr.specs.declared.operation.SumOperation.TheVariants as sum
 use Rattle.thumb_instr.specs.declared.operation.Extension.{Extension}
 use Rattle.thumb_instr.specs.declared.operation.Extension.TheVariants as extension
 use Rattle.thumb_instr.specs.declared.operation.Reversal.{Reversal}
@@ -20,7 +20,7 @@ use Rattle.thumb_instr.specs.declared.operation.Reversal.TheVariants as reversal
 use Rattle.thumb_model.specs.Effect.{three_sum, extension_of, reversal_of}
 
 -- a row: a sum
-pub sum_small : (s : Sum) (x y : ℕ) → (three_sum s x y).value < 2 ^ 32
+pub sum_small : (s : SumOperation) (x y : ℕ) → (three_sum s x y).value < 2 ^ 32
 sum_small sum.Add x y = omega arith
 sum_small sum.Sub x y = omega arith
 

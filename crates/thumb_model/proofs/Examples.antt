@@ -2,7 +2,7 @@
 use Rattle.std.proofs.Common.{◌≡◌, ℕ, nat_lt, nat_le, true, List, [], ◌∷◌, map, refl, ltb-true, leb-true, ◌-◌, ◌%◌, ◌==◌, ◌≢◌, if◌then◌else◌, lit<}
 use Rattle.std.specs.Prelude.{slice_get, unwrap_or}
 use Rattle.thumb_instr.specs.declared.instr.Instr.TheVariants as instr
-use Rattle.thumb_instr.specs.declared.operation.Sum.TheVariants as sum
+use Rattle.thumb_instr.specs.declared.operation.SumOperation.TheVariants as sum
 use Rattle.thumb_instr.specs.declared.operation.Right.TheVariants as right
 use Rattle.thumb_instr.specs.declared.operation.Operation.TheVariants as operation
 use Rattle.thumb_instr.specs.declared.operation.ByteOperation.TheVariants as byte

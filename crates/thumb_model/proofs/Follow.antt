@@ -7,7 +7,7 @@ use Rattle.thumb_instr.specs.declared.instr.Instr.{Instr}
 use Rattle.thumb_model.specs.Effect.{Values, AreWords, assigned, after_all}
 use Rattle.thumb_model.specs.Listing.{Name, Mention, Place, Op, Word, plain, Code, place_of, label_places, return_places, IsPoint}
 use Rattle.thumb_model.specs.Naming.{Naming, Fits, is_odd, is_in_range, points}
-use Rattle.thumb_model.specs.States.{World, IsWorld, Around, Act, Event, Fell, Leaves, Strays, Next, On, Stay, To, Over, At, Here, Ended, State}
+use Rattle.thumb_model.specs.States.{World, IsWorld, Around, Act, Event, Fell, Leaves, Strays, Continuation, On, Stay, To, Over, Position, Here, Ended, State}
 use Rattle.thumb_model.specs.Acts.{act}
 use Rattle.thumb_model.specs.Steps.{label_place, loads_literal, word_of_mention, word_of_place, word_behind, literal_word, literal_at, arrives, around_of, aim_of, target_at, landing, point_among, step_on, step, times}
 use Rattle.thumb_model.specs.Literals.{HasLiterals}
@@ -41,7 +41,7 @@ pub record IsSound (code : Code) (p : ℕ) (left right : List Instr) : Type 0 wh
   pub agree : (t : Values) → AreWords t → (x : ℕ) → Reads code x (p + length left) → after_all left t x ≡ after_all right t x
 
 -- a state, by its parts
-abbrev pub state : World → At → List Event → State
+abbrev pub state : World → Position → List Event → State
 state w a es = record { world = w; at = a; events = es }
 
 -- the return points' words are words
@@ -60,7 +60,7 @@ module _ (names : Naming) (small : AreSmall names) (code : Code) (literals : Has
   CameTo q r = (r ≡ to q) × IsOutside p (length left) q
 
   -- the two runs are at the same place, and what is live there is the same
-  abbrev pub AtBoth : At → At → Values → Values → Type 0
+  abbrev pub AtBoth : Position → Position → Values → Values → Type 0
   AtBoth Ended Ended u v = Unit {0}
   AtBoth (Here q) (Here r) u v = CameTo q r × ((x : ℕ) → Reads code x q → u x ≡ v x)
   AtBoth Ended (Here r) u v = ⊥
@@ -137,7 +137,7 @@ module _ (names : Naming) (small : AreSmall names) (code : Code) (literals : Has
   next_place q ne (inr h) = let s = sound.fits_in.no_longer in (omega arith, inr (omega arith))
 
   -- where both come to
-  arrive : (q : ℕ) (n n' : Next) (u v : Values) → NextTied CameTo n n' → q ≢ p → IsOutside p (length left) q → ((r x : ℕ) → GoesTo q n r → Reads code x r → u x ≡ v x) → AtBoth (arrives q (q + 1) n) (arrives (to q) (to q + 1) n') u v
+  arrive : (q : ℕ) (n n' : Continuation) (u v : Values) → NextTied CameTo n n' → q ≢ p → IsOutside p (length left) q → ((r x : ℕ) → GoesTo q n r → Reads code x r → u x ≡ v x) → AtBoth (arrives q (q + 1) n) (arrives (to q) (to q + 1) n') u v
   arrive q On On u v t ne out h = let e = next_place q ne out in ((e.0, e.1), λ x r. h (q + 1) x refl r)
   arrive q Stay Stay u v t ne out h = ((refl, out), λ x r. h q x refl r)
   arrive q (To r) (To s) u v t ne out h = (t, λ x rd. h r x refl rd)
@@ -198,7 +198,7 @@ module _ (names : Naming) (small : AreSmall names) (code : Code) (literals : Has
   alike_of : (s t : State) → Related s t → Alike s t
   alike_of s t r = record { events = r.events; memory = r.memory; answers = r.answers; ended = ended_of s.at t.at _ _ r.both }
     where
-      ended_of : (a b : At) (u v : Values) → AtBoth a b u v → has_ended a ≡ has_ended b
+      ended_of : (a b : Position) (u v : Values) → AtBoth a b u v → has_ended a ≡ has_ended b
       ended_of Ended Ended u v h = refl
       ended_of (Here q) (Here y) u v h = refl
       ended_of Ended (Here y) u v h = absurd h
@@ -264,7 +264,7 @@ module _ (names : Naming) (small : AreSmall names) (code : Code) (literals : Has
     on_right = λ k h. let z : 0 ≡ k = omega arith in subst (λ (n : ℕ). Alike (times (step names code) n (state u (Here q) es)) (times (step names new) n (state v (Here (to q)) fs))) z (alike_of _ _ r);
   }
 
-  advance_at : (a b : At) (u v : World) (es fs : List Event) → Related (state u a es) (state v b fs) → ((step names code (state u a es) ≡ state u a es) × (step names new (state v b fs) ≡ state v b fs)) ⊎ Go (state u a es) (state v b fs)
+  advance_at : (a b : Position) (u v : World) (es fs : List Event) → Related (state u a es) (state v b fs) → ((step names code (state u a es) ≡ state u a es) × (step names new (state v b fs) ≡ state v b fs)) ⊎ Go (state u a es) (state v b fs)
   advance_at Ended Ended u v es fs r = inl (refl, refl)
   advance_at Ended (Here q) u v es fs r = absurd (r.both)
   advance_at (Here q) Ended u v es fs r = absurd (r.both)

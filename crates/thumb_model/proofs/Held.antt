@@ -6,20 +6,20 @@ use Rattle.std.proofs.Math.Nat.{mod-lt}
 use Rattle.word_bits.specs.declared.Sum.{Sum as WordSum}
 use Rattle.thumb_instr.specs.declared.instr.Instr.{Instr}
 use Rattle.thumb_instr.specs.declared.instr.Instr.TheVariants as instr
-use Rattle.thumb_instr.specs.declared.operation.Sum.TheVariants as sum
+use Rattle.thumb_instr.specs.declared.operation.SumOperation.TheVariants as sum
 use Rattle.thumb_instr.specs.declared.operation.Operation.{Operation}
 use Rattle.thumb_instr.specs.declared.operation.Operation.TheVariants as operation
 use Rattle.thumb_instr.specs.declared.operation.ByteOperation.{ByteOperation}
 use Rattle.thumb_instr.specs.declared.operation.ByteOperation.TheVariants as byte
 use Rattle.thumb_instr.specs.declared.operation.Access.{Access}
 use Rattle.thumb_instr.specs.declared.operation.Access.TheVariants as access
-use Rattle.thumb_instr.specs.declared.operation.Hint.{Hint}
-use Rattle.thumb_instr.specs.declared.operation.Hint.TheVariants as hint
+use Rattle.thumb_instr.specs.declared.operation.HintOperation.{HintOperation}
+use Rattle.thumb_instr.specs.declared.operation.HintOperation.TheVariants as hint
 use Rattle.thumb_instr.specs.declared.within.Within.{Within}
 use Rattle.thumb_instr.specs.Items.{has}
 use Rattle.thumb_instr.specs.Shape.{registers_in, pushed}
 use Rattle.thumb_model.specs.Effect.{Values, AreWords, assigned, one_of, sp, lr, written_to, n_flag, z_flag, c_flag, v_flag, outputs, complement, result_flags, sum_flags, result_outputs, shift_outputs, sum_outputs, product, two_outputs, byte_outputs}
-use Rattle.thumb_model.specs.States.{with_bytes, World, IsWorld, Answer, AreAnswers, AreBytes, Target, Inside, External, Landing, Goes, Leaves, Strays, Around, Act, Event, Fault, Next, On, Stay, To, Over, puts, ends, tells, takes, aligned, answered, served, all_at, answers_with}
+use Rattle.thumb_model.specs.States.{with_bytes, World, IsWorld, Answer, AreAnswers, AreBytes, Target, Inside, External, Landing, Goes, Leaves, Strays, Around, Act, Event, Fault, Continuation, On, Stay, To, Over, puts, ends, tells, takes, aligned, answered, served, all_at, answers_with}
 use Rattle.thumb_model.specs.Accesses.{is_device, access_size, value_at, with_value, stored, loaded, gets, loads, stores, accesses, next_word, behind, stored_words, stores_many, word_at, left_at, words_from, left_from, device_words, enough, many_outputs, loads_many}
 use Rattle.thumb_model.specs.Acts.{act, branches, jumps, calls_out, calls, calls_by, with_pc, popping, pops_to, pops, hints}
 use Rattle.thumb_instr.specs.Window.{AreBelow}
@@ -152,7 +152,7 @@ pub record AreAroundWords (around : Around) : Type 0 where
 pub held_of : (w : World) → IsWorld w → AreHeld w.values
 held_of w h = record { words = h.values; stack = h.stack }
 
-puts_safe : (os : List (ℕ × ℕ)) (n : Next) (w : World) → AreValues os → IsWorld w → IsSafe (puts os n w)
+puts_safe : (os : List (ℕ × ℕ)) (n : Continuation) (w : World) → AreValues os → IsWorld w → IsSafe (puts os n w)
 puts_safe os n w v h = record { values = v; memory = h.memory; answers = h.answers }
 
 ends_safe : (e : Event) (w : World) → IsWorld w → IsSafe (ends e w)
@@ -282,7 +282,7 @@ many_safe base address xs w l k low h =
 stores_many_safe : (base back address : ℕ) (words : List ℕ) (w : World) → base < 15 → back < 2 ^ 32 → IsWorld w → IsSafe (stores_many base back address words w)
 stores_many_safe base back address words w l k h = aligned_safe address 4 w _ h (record { values = (written_at base back l k, tt); memory = stored_words_small w.memory address words h.memory; answers = h.answers })
 
-popping_safe : (address : ℕ) (xs : List ℕ) (n : Next) (es : List Event) (w : World) → address < 2 ^ 32 → AreBelow 8 xs → IsWorld w → IsSafe (popping address xs n es w)
+popping_safe : (address : ℕ) (xs : List ℕ) (n : Continuation) (es : List Event) (w : World) → address < 2 ^ 32 → AreBelow 8 xs → IsWorld w → IsSafe (popping address xs n es w)
 popping_safe address xs n es w k low h = record { values = many_values sp _ address xs w (omega arith) (behind_small (with_pc xs) address k) low; memory = h.memory; answers = left_from_small w.answers address (with_pc xs) h.answers }
 
 pops_to_safe : (l : Landing) (address : ℕ) (xs : List ℕ) (w : World) → address < 2 ^ 32 → AreBelow 8 xs → IsWorld w → IsSafe (pops_to l address xs w)
@@ -316,7 +316,7 @@ if_safe : (t : Bool) (k : Target) (w : World) → IsWorld w → IsSafe (if t the
 if_safe true k w h = jump_safe k w h
 if_safe false k w h = puts_safe [] On w tt h
 
-hint_safe : (k : Hint) (w : World) → IsWorld w → IsSafe (hints k w)
+hint_safe : (k : HintOperation) (w : World) → IsWorld w → IsSafe (hints k w)
 hint_safe hint.Nop w h = puts_safe [] On w tt h
 hint_safe k w h = tells_safe _ w h
 

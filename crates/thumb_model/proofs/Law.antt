@@ -11,13 +11,13 @@ use Rattle.thumb_instr.specs.declared.operation.Access.{Access}
 use Rattle.thumb_instr.specs.declared.operation.Access.TheVariants as access
 use Rattle.thumb_instr.specs.declared.operation.Condition.{Condition}
 use Rattle.thumb_instr.specs.declared.operation.Condition.TheVariants as condition
-use Rattle.thumb_instr.specs.declared.operation.Hint.{Hint}
-use Rattle.thumb_instr.specs.declared.operation.Hint.TheVariants as hint
+use Rattle.thumb_instr.specs.declared.operation.HintOperation.{HintOperation}
+use Rattle.thumb_instr.specs.declared.operation.HintOperation.TheVariants as hint
 use Rattle.thumb_instr.specs.declared.within.Within.{Within}
 use Rattle.thumb_instr.specs.Items.{has}
 use Rattle.thumb_instr.specs.Shape.{registers_in, pushed, two_uses, two_writes, byte_uses, byte_writes, access_uses, access_writes, offset_access, word_access, condition_uses, uses_of, writes_of}
 use Rattle.thumb_model.specs.Effect.{Values, assigned, one_of, sp, lr, c_flag, outputs, two_outputs, byte_outputs}
-use Rattle.thumb_model.specs.States.{World, Answer, Target, Inside, External, Landing, Goes, Leaves, Strays, Around, Act, Event, Call, Sys, Left, Fault, Astray, Next, On, Stay, To, Over, puts, ends, registers_left, tells, takes, aligned, handed, answered, served, answers_with}
+use Rattle.thumb_model.specs.States.{World, Answer, Target, Inside, External, Landing, Goes, Leaves, Strays, Around, Act, Event, Call, Sys, Left, Fault, Astray, Continuation, On, Stay, To, Over, puts, ends, registers_left, tells, takes, aligned, handed, answered, served, answers_with}
 use Rattle.thumb_model.specs.Accesses.{is_device, access_size, value_at, gets, loads, stores, accesses, behind, below, stores_many, words_from, left_at, next_word, device_words, enough, many_outputs, loads_many}
 use Rattle.thumb_model.specs.Acts.{act, branches, jumps, calls_out, calls, calls_by, with_pc, popped_word, popping, pops_to, pops, holds, hints, interrupts_code, barrier_code, special_code, reads_special, offset}
 use Rattle.thumb_model.specs.Flow.{Way, way, ways_of, jump_way, call_way, left_but, Leads, Onward, ToPlace, AnyPoint, Out}
@@ -56,7 +56,7 @@ inside_of (Inside p) = Some p
 inside_of (External word) = None
 
 -- a step that goes on so goes by a way that leads so, and writes what the way says
-abbrev pub Matches : (ℕ → Landing) → Next → Leads → List ℕ → List ℕ → Type 0
+abbrev pub Matches : (ℕ → Landing) → Continuation → Leads → List ℕ → List ℕ → Type 0
 Matches lands On Onward ks ws = ks ≡ ws
 Matches lands (To p) (ToPlace q) ks ws = (p ≡ q) × (ks ≡ ws)
 Matches lands (To p) AnyPoint ks ws = (word : ℕ) × (lands word ≡ Goes p) × (ks ≡ ws)
@@ -84,7 +84,7 @@ map_agree : (xs : List ℕ) (u v : Values) → AgreeOn xs u v → map u xs ≡ m
 map_agree [] u v h = refl
 map_agree (x ∷ xs) u v h = cc (h.0, map_agree xs u v h.1)
 
-puts_same : (os ps : List (ℕ × ℕ)) (n : Next) (u w : World) → AlikeBut u w → os ≡ ps → puts os n u ≡ puts ps n w
+puts_same : (os ps : List (ℕ × ℕ)) (n : Continuation) (u w : World) → AlikeBut u w → os ≡ ps → puts os n u ≡ puts ps n w
 puts_same os ps n u w h e = cc (h.0, h.1)
 
 ends_same : (e f : Event) (u w : World) → AlikeBut u w → e ≡ f → ends e u ≡ ends f w
@@ -435,11 +435,11 @@ pop_law around l u w a false e =
     (λ h. acts u ∙ many_same sp (u.values sp) (w.values sp) (registers_in l.number) u w a h.0 ∙ sym (acts w))
     (subst (λ (x : Act). Takes around.lands x (way (sp ∷ []) (sp ∷ registers_in l.number) Onward)) (sym (acts u)) (many_takes around.lands sp (u.values sp) (registers_in l.number) u))
 
-hint_same : (k : Hint) (u w : World) → AlikeBut u w → hints k u ≡ hints k w
+hint_same : (k : HintOperation) (u w : World) → AlikeBut u w → hints k u ≡ hints k w
 hint_same hint.Nop u w a = same_world (λ v. hints hint.Nop v) (λ v. refl) u w a
 hint_same k u w a = same_world (λ v. hints k v) (λ v. refl) u w a
 
-hint_takes : (lands : ℕ → Landing) (k : Hint) (w : World) → Follows lands Onward [] (hints k w)
+hint_takes : (lands : ℕ → Landing) (k : HintOperation) (w : World) → Follows lands Onward [] (hints k w)
 hint_takes lands hint.Nop w = refl
 hint_takes lands k w = refl
 

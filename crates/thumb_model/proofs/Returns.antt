@@ -3,7 +3,7 @@ use Rattle.std.proofs.Common.{◌≡◌, ◌∙◌, inl, inr, ℕ, zero, suc, �
 use Rattle.std.specs.Prelude.{Contains}
 use Rattle.std.proofs.lemmas.Bool.{cases_Bool}
 use Rattle.std.proofs.lemmas.List.Elements.{Contains-append_right, Contains-append_cases}
-use Rattle.thumb_model.specs.Listing.{Value, Statement, Nothing, Runs, Words, Aligns, Sets, Line, Place, Word, is_call, call_count, places_in, places_of}
+use Rattle.thumb_model.specs.Listing.{Value, Statement, Nothing, Instruction, Words, Aligns, Sets, ListingLine, Place, Word, is_call, call_count, places_in, places_of}
 use Rattle.thumb_model.specs.Layout.{end_of, size_at}
 use Rattle.thumb_model.specs.Naming.{ends_in_call, return_address, IsCutAtCall, Naming, returns_from}
 use Rattle.thumb_model.specs.Returns.{LaidReturnsLieBehind, IsReturnPoint, ReturnPointsStandBehind, ReturnsAreCuts}
@@ -16,16 +16,16 @@ no_words [] = refl
 no_words (v ∷ vs) = no_words vs
 
 pub statement_calls : (s : Statement) → call_count (places_in s) ≡ (if ends_in_call s then 1 else 0)
-statement_calls (Runs i mention) = refl
+statement_calls (Instruction i mention) = refl
 statement_calls (Words vs) = no_words vs
 statement_calls Nothing = refl
 statement_calls (Aligns size most) = refl
 statement_calls (Sets name address) = refl
 
-line_calls : (l : Line) (ls : List Line) (b : Bool) → ends_in_call l.statement ≡ b → call_count (places_of (l ∷ ls)) ≡ (if b then 1 else 0) + call_count (places_of ls)
+line_calls : (l : ListingLine) (ls : List ListingLine) (b : Bool) → ends_in_call l.statement ≡ b → call_count (places_of (l ∷ ls)) ≡ (if b then 1 else 0) + call_count (places_of ls)
 line_calls l ls b e = count_append (places_in l.statement) (places_of ls) ∙ ap (λ n. n + call_count (places_of ls)) (statement_calls l.statement ∙ ap (λ c. if c then 1 else 0) e)
 
-calls_append : (xs ys : List Line) → call_count (places_of (xs ++ ys)) ≡ call_count (places_of xs) + call_count (places_of ys)
+calls_append : (xs ys : List ListingLine) → call_count (places_of (xs ++ ys)) ≡ call_count (places_of xs) + call_count (places_of ys)
 calls_append [] ys = omega arith
 calls_append (x ∷ xs) ys =
     let all = count_append (places_in x.statement) (places_of (xs ++ ys)) in
@@ -36,23 +36,23 @@ calls_append (x ∷ xs) ys =
 -- ---- cuts of lines ----
 
 -- there are as many calls as stand before it, and more
-pub call_within : (lines : List Line) (k : ℕ) (before : List Line) (call : Line) (after : List Line) → IsCutAtCall lines k before call after → k < call_count (places_of lines)
+pub call_within : (lines : List ListingLine) (k : ℕ) (before : List ListingLine) (call : ListingLine) (after : List ListingLine) → IsCutAtCall lines k before call after → k < call_count (places_of lines)
 call_within lines k before call after is =
-    let all : call_count (places_of lines) ≡ call_count (places_of (before ++ call ∷ after)) = ap (λ (ls : List Line). call_count (places_of ls)) is.cut in
+    let all : call_count (places_of lines) ≡ call_count (places_of (before ++ call ∷ after)) = ap (λ (ls : List ListingLine). call_count (places_of ls)) is.cut in
     let split = calls_append before (call ∷ after) in
     let one = line_calls call after true is.calls in
     omega (arith, is.number)
 
 -- a cut at call k
-abbrev Cut : List Line → ℕ → Type 0
-Cut lines k = (before : List Line) × (call : Line) × (after : List Line) × IsCutAtCall lines k before call after
+abbrev Cut : List ListingLine → ℕ → Type 0
+Cut lines k = (before : List ListingLine) × (call : ListingLine) × (after : List ListingLine) × IsCutAtCall lines k before call after
 
 -- it stays one behind a further line, whose call counts
-further : (l : Line) (ls : List Line) (k m : ℕ) (b : Bool) → ends_in_call l.statement ≡ b → m ≡ (if b then 1 else 0) + k → Cut ls k → Cut (l ∷ ls) m
+further : (l : ListingLine) (ls : List ListingLine) (k m : ℕ) (b : Bool) → ends_in_call l.statement ≡ b → m ≡ (if b then 1 else 0) + k → Cut ls k → Cut (l ∷ ls) m
 further l ls k m b e f (before, call, after, is) =
-    (l ∷ before, call, after, record { cut = ap (λ (xs : List Line). l ∷ xs) is.cut; calls = is.calls; number = f ∙ ap (λ (n : ℕ). (if b then 1 else 0) + n) is.number ∙ sym (line_calls l before b e) })
+    (l ∷ before, call, after, record { cut = ap (λ (xs : List ListingLine). l ∷ xs) is.cut; calls = is.calls; number = f ∙ ap (λ (n : ℕ). (if b then 1 else 0) + n) is.number ∙ sym (line_calls l before b e) })
 
-each_call : (lines : List Line) (k : ℕ) → k < call_count (places_of lines) → Cut lines k
+each_call : (lines : List ListingLine) (k : ℕ) → k < call_count (places_of lines) → Cut lines k
 each_call [] k lt = absurd (omega arith)
 each_call (l ∷ ls) k lt = elim (cases_Bool (ends_in_call l.statement)) [
   | inl h ↦ here k h (λ n less. each_call ls n less) (let c = line_calls l ls true h in omega arith)
@@ -63,10 +63,10 @@ each_call (l ∷ ls) k lt = elim (cases_Bool (ends_in_call l.statement)) [
   here (suc k) h rest lt = further l ls k (suc k) true h (omega arith) (rest k (omega arith))
 
 -- lines are cut at a call, before which others stand, and its return point lies behind it
-abbrev CallBehind : ℕ → List Line → Line → List Line → Type 0
+abbrev CallBehind : ℕ → List ListingLine → ListingLine → List ListingLine → Type 0
 CallBehind at before call after = (k : ℕ) → k ≡ call_count (places_of before) → return_address k at (before ++ call ∷ after) ≡ end_of at (before ++ call ∷ [])
 
-return_behind : (k at : ℕ) (before : List Line) (call : Line) (after : List Line) → ends_in_call call.statement ≡ true → k ≡ call_count (places_of before)
+return_behind : (k at : ℕ) (before : List ListingLine) (call : ListingLine) (after : List ListingLine) → ends_in_call call.statement ≡ true → k ≡ call_count (places_of before)
     → return_address k at (before ++ call ∷ after) ≡ end_of at (before ++ call ∷ [])
 return_behind zero at [] call after h e = rw h refl
 return_behind (suc k) at [] call after h e = absurd (omega arith)

@@ -4,12 +4,12 @@ use Rattle.thumb_instr.specs.declared.instr.Instr.{Instr}
 use Rattle.thumb_instr.specs.declared.instr.Instr.TheVariants as instr
 use Rattle.thumb_instr.specs.declared.operation.Access.{Access}
 use Rattle.thumb_instr.specs.declared.operation.Access.TheVariants as access
-use Rattle.thumb_instr.specs.declared.operation.Hint.{Hint}
-use Rattle.thumb_instr.specs.declared.operation.Hint.TheVariants as hint
+use Rattle.thumb_instr.specs.declared.operation.HintOperation.{HintOperation}
+use Rattle.thumb_instr.specs.declared.operation.HintOperation.TheVariants as hint
 use Rattle.thumb_instr.specs.Items.{has}
 use Rattle.thumb_instr.specs.Shape.{registers_in}
 use Rattle.thumb_model.specs.Effect.{sp}
-use Rattle.thumb_model.specs.States.{World, Answer, Fault, Around, Act, Target, Inside, External, Landing, Goes, Leaves, Strays, Next, On, Stay, To, Over, puts, ends, takes, aligned}
+use Rattle.thumb_model.specs.States.{World, Answer, Fault, Around, Act, Target, Inside, External, Landing, Goes, Leaves, Strays, Continuation, On, Stay, To, Over, puts, ends, takes, aligned}
 use Rattle.thumb_model.specs.Accesses.{is_device, access_size, value_at, gets, loads, stores, accesses, stores_many, device_words, enough, loads_many}
 use Rattle.thumb_model.specs.Acts.{branches, jumps, calls_out, calls, calls_by, popped_word, pops_to, pops, holds, hints, act}
 
@@ -28,7 +28,7 @@ LandingTied R Strays Strays = Unit {0}
 LandingTied R k l = ⊥
 
 -- ways on to tied places
-abbrev pub NextTied : (ℕ → ℕ → Type 0) → Next → Next → Type 0
+abbrev pub NextTied : (ℕ → ℕ → Type 0) → Continuation → Continuation → Type 0
 NextTied R On On = Unit {0}
 NextTied R Stay Stay = Unit {0}
 NextTied R (To p) (To q) = R p q
@@ -168,7 +168,7 @@ module _ (R : ℕ → ℕ → Type 0) where
   if_tied true k l w h = jump_tied k l w h
   if_tied false k l w h = puts_tied [] w
 
-  hint_tied : (k : Hint) (w : World) → ActTied R (hints k w) (hints k w)
+  hint_tied : (k : HintOperation) (w : World) → ActTied R (hints k w) (hints k w)
   hint_tied hint.Nop w = puts_tied [] w
   hint_tied k w = still_tied _ tt
 

@@ -7,8 +7,8 @@ use Rattle.word_bits.specs.declared.Shift.TheVariants as shift
 use Rattle.word_bits.specs.Word.{shift_of}
 use Rattle.thumb_instr.specs.declared.instr.Instr.{Instr}
 use Rattle.thumb_instr.specs.declared.instr.Instr.TheVariants as instr
-use Rattle.thumb_instr.specs.declared.operation.Sum.{Sum}
-use Rattle.thumb_instr.specs.declared.operation.Sum.TheVariants as sum
+use Rattle.thumb_instr.specs.declared.operation.SumOperation.{SumOperation}
+use Rattle.thumb_instr.specs.declared.operation.SumOperation.TheVariants as sum
 use Rattle.thumb_instr.specs.declared.operation.Operation.{Operation}
 use Rattle.thumb_instr.specs.declared.operation.Operation.TheVariants as operation
 use Rattle.thumb_instr.specs.declared.operation.ByteOperation.{ByteOperation}
@@ -19,7 +19,7 @@ use Rattle.thumb_instr.proofs.RenamingLemmas.{low_number, reg_number}
 use Rattle.thumb_model.specs.Effect.{Values, AreWords, assigned, one_of, sp, written_to, n_flag, z_flag, c_flag, v_flag, outputs, result_flags, sum_flags, result_outputs, shift_outputs, sum_outputs, three_sum, right_shift, extension_of, reversal_of, two_outputs, byte_outputs, after, after_all, IsOneToOne, AreOver, Equal, normalised}
 use Rattle.thumb_model.specs.Listing.{Mention, Place, Op, plain, Code, IsPoint}
 use Rattle.thumb_model.specs.Naming.{Naming}
-use Rattle.thumb_model.specs.States.{World, Landing, Goes, Around, Act, Here, State, Next, On, Stay, To, Over, puts}
+use Rattle.thumb_model.specs.States.{World, Landing, Goes, Around, Act, Here, State, Continuation, On, Stay, To, Over, puts}
 use Rattle.thumb_model.specs.Acts.{act}
 use Rattle.thumb_model.specs.Steps.{around_of, aim_of, target_at, step, times}
 use Rattle.thumb_model.specs.Flow.{ways_on, ways_of, ways, Leads, Onward, ToPlace, AnyPoint, Follows, Reads, now, later}
@@ -81,14 +81,14 @@ agree_on (x ∷ xs) u v h =
     (h x (ap (λ b. b || one_of x xs) (eq-eqb x x refl)), agree_on xs u v (λ y e. h y (elim (y == x) as (λ b. (b || one_of y xs) ≡ true) [ true ↦ refl | false ↦ e ])))
 
 -- a step from p that goes on so may come to q
-abbrev pub GoesTo : ℕ → Next → ℕ → Type 0
+abbrev pub GoesTo : ℕ → Continuation → ℕ → Type 0
 GoesTo p On q = q ≡ p + 1
 GoesTo p Stay q = q ≡ p
 GoesTo p (To r) q = q ≡ r
 GoesTo p Over q = ⊥
 
 -- a step follows its way, or writes nothing and stays
-led : (code : Code) (lands : ℕ → Landing) → ((word r : ℕ) → lands word ≡ Goes r → IsPoint code r) → (p q : ℕ) (n : Next) (l : Leads) (ks ws : List ℕ) → Matches lands n l ks ws → GoesTo p n q → ((ks ≡ ws) × Follows code p l q) ⊎ ((ks ≡ []) × (q ≡ p))
+led : (code : Code) (lands : ℕ → Landing) → ((word r : ℕ) → lands word ≡ Goes r → IsPoint code r) → (p q : ℕ) (n : Continuation) (l : Leads) (ks ws : List ℕ) → Matches lands n l ks ws → GoesTo p n q → ((ks ≡ ws) × Follows code p l q) ⊎ ((ks ≡ []) × (q ≡ p))
 led code lands point p q On Onward ks ws m g = inl (m, g)
 led code lands point p q (To r) (ToPlace s) ks ws m g = inl (m.1, g ∙ m.0)
 led code lands point p q (To r) AnyPoint ks ws m g = inl (m.2, subst (IsPoint code) (sym g) (point m.0 r m.1))
@@ -144,7 +144,7 @@ held_after [] v h = h
 held_after (i ∷ is) v h = held_after is (after i v) (are_held (outputs i v) v (values_of i v h) h)
 
 -- ADDS and SUBS of a number to their own register: both encodings
-byte_sums : (k : Sum) (d n : Low) (i : Low) (v : Values) → d.number ≡ n.number → outputs (instr.TwoNumber (byte_sum k) d (byte_of i)) v ≡ outputs (instr.ThreeNumber k d n i) v
+byte_sums : (k : SumOperation) (d n : Low) (i : Low) (v : Values) → d.number ≡ n.number → outputs (instr.TwoNumber (byte_sum k) d (byte_of i)) v ≡ outputs (instr.ThreeNumber k d n i) v
 byte_sums sum.Add d n i v e = ap (λ x. sum_outputs d.number (three_sum sum.Add (v x) i.number)) e
 byte_sums sum.Sub d n i v e = ap (λ x. sum_outputs d.number (three_sum sum.Sub (v x) i.number)) e
 

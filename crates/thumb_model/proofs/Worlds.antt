@@ -4,7 +4,7 @@ use Rattle.std.specs.Prelude.{slice_get}
 use Rattle.thumb_instr.specs.declared.instr.Instr.{Instr}
 use Rattle.thumb_model.specs.Listing.{Mention, Value, Number, OfName, Place, Op, Word, Code, call_count}
 use Rattle.thumb_model.specs.Naming.{Naming}
-use Rattle.thumb_model.specs.States.{IsWorld, Around, At, Here, Ended, State}
+use Rattle.thumb_model.specs.States.{IsWorld, Around, Position, Here, Ended, State}
 use Rattle.thumb_model.specs.Acts.{act}
 use Rattle.thumb_model.specs.Steps.{around_of, word_of_mention, word_of_value, word_of_place, word_behind, literal_word, loads_literal, literal_at, label_place, step_on, step_at, step}
 use Rattle.thumb_model.proofs.Held.{AreAroundWords, held_of, act_safe, world_after}
@@ -44,7 +44,7 @@ step_on_keeps names small code p (Some (Op i mention)) s h =
     let around : Around = around_of names code p i mention in
     world_after (act around i s.world) s.world.values (act_safe around i s.world (around_words names small code p i mention) h) (held_of s.world h)
 
-step_at_keeps : (names : Naming) (small : (k : ℕ) → names.return_word k < 2 ^ 32) (code : Code) (a : At) (s : State) → IsWorld s.world → IsWorld (step_at names code a s).world
+step_at_keeps : (names : Naming) (small : (k : ℕ) → names.return_word k < 2 ^ 32) (code : Code) (a : Position) (s : State) → IsWorld s.world → IsWorld (step_at names code a s).world
 step_at_keeps names small code Ended s h = h
 step_at_keeps names small code (Here p) s h = step_on_keeps names small code p (slice_get code.places p) s h
 

@@ -4,8 +4,8 @@ use Rattle.thumb_instr.specs.declared.instr.Instr.{Instr}
 use Rattle.thumb_instr.specs.declared.instr.Instr.TheVariants as instr
 use Rattle.thumb_instr.specs.declared.operation.Condition.{Condition}
 use Rattle.thumb_instr.specs.declared.operation.Condition.TheVariants as condition
-use Rattle.thumb_instr.specs.declared.operation.Hint.{Hint}
-use Rattle.thumb_instr.specs.declared.operation.Hint.TheVariants as hint
+use Rattle.thumb_instr.specs.declared.operation.HintOperation.{HintOperation}
+use Rattle.thumb_instr.specs.declared.operation.HintOperation.TheVariants as hint
 use Rattle.thumb_instr.specs.declared.operation.Interrupts.{Interrupts}
 use Rattle.thumb_instr.specs.declared.operation.Interrupts.TheVariants as interrupts
 use Rattle.thumb_instr.specs.declared.operation.Barrier.{Barrier}
@@ -15,7 +15,7 @@ use Rattle.thumb_instr.specs.declared.operation.Special.TheVariants as special
 use Rattle.thumb_instr.specs.Items.{has}
 use Rattle.thumb_instr.specs.Shape.{registers_in, pushed, offset_access, word_access}
 use Rattle.thumb_model.specs.Effect.{Values, assigned, sp, lr, n_flag, z_flag, c_flag, v_flag, outputs}
-use Rattle.thumb_model.specs.States.{Event, Call, Sys, Left, Astray, Answer, World, Target, Inside, External, Landing, Goes, Leaves, Strays, Around, Next, On, To, Over, Act, registers_left, puts, ends, tells, takes, aligned, handed, answered, served, answers_with}
+use Rattle.thumb_model.specs.States.{Event, Call, Sys, Left, Astray, Answer, World, Target, Inside, External, Landing, Goes, Leaves, Strays, Around, Continuation, On, To, Over, Act, registers_left, puts, ends, tells, takes, aligned, handed, answered, served, answers_with}
 use Rattle.thumb_model.specs.Accesses.{access_size, accesses, behind, below, stores_many, word_at, left_from, load_events, enough, many_outputs, loads_many}
 
 -- ---- branches ----
@@ -52,7 +52,7 @@ with_pc xs = xs ++ (15 ∷ [])
 abbrev pub popped_word : ℕ → List ℕ → World → ℕ
 popped_word address xs w = word_at w.memory (left_from w.answers address xs) (behind xs address)
 
-abbrev pub popping : ℕ → List ℕ → Next → List Event → World → Act
+abbrev pub popping : ℕ → List ℕ → Continuation → List Event → World → Act
 popping address xs next es w = record {
   outputs = many_outputs sp (behind (with_pc xs) address) address xs w;
   memory = w.memory;
@@ -89,7 +89,7 @@ holds condition.Gt v = not (v z_flag == 1) && (v n_flag == v v_flag)
 holds condition.Le v = not (not (v z_flag == 1) && (v n_flag == v v_flag))
 
 -- the codes of events that a system sees: SVC n is n itself, BKPT n is 256 + n
-abbrev pub hints : Hint → World → Act
+abbrev pub hints : HintOperation → World → Act
 hints hint.Nop w = puts [] On w
 hints hint.Yield w = tells (Sys 512 []) w
 hints hint.Wfe w = tells (Sys 513 []) w

@@ -1,7 +1,7 @@
 -- What a replacement makes of lines that are cut at its window.
 use Rattle.std.specs.Prelude.{◌≡◌, ℕ, zero, suc, ◌+◌, List, [], ◌∷◌, ◌++◌, length, map, true, if◌then◌else◌}
 use Rattle.thumb_instr.specs.declared.instr.Instr.{Instr}
-use Rattle.thumb_model.specs.Listing.{Line, Place, Op, Word, places_of}
+use Rattle.thumb_model.specs.Listing.{ListingLine, Place, Op, Word, places_of}
 use Rattle.thumb_model.specs.Replaced.{is_op, labels_kept, new_line, replaced_lines}
 
 -- the first n places are instructions
@@ -12,15 +12,15 @@ AreOps (suc n) (Op i mention ∷ ps) = AreOps n ps
 AreOps (suc n) (Word w ∷ ps) = ⊥
 
 -- how many of the lines are instructions, and the others
-abbrev pub op_count : List Line → ℕ
+abbrev pub op_count : List ListingLine → ℕ
 op_count [] = 0
 op_count (l ∷ ls) = if is_op l.statement then op_count ls + 1 else op_count ls
 
-abbrev pub others : List Line → List Line
+abbrev pub others : List ListingLine → List ListingLine
 others [] = []
 others (l ∷ ls) = if is_op l.statement then others ls else l ∷ others ls
 
 -- what stands before and behind the window stays, and so do the window's labels and the lines between its instructions, behind the new ones
 abbrev pub ReplacedLinesAreACut : Type 0
-ReplacedLinesAreACut = (write : Instr → List ℕ) (before between after : List Line) (first : Line) (new : List Instr) → is_op first.statement ≡ true
+ReplacedLinesAreACut = (write : Instr → List ℕ) (before between after : List ListingLine) (first : ListingLine) (new : List Instr) → is_op first.statement ≡ true
     → replaced_lines write (length (places_of before)) (op_count between + 1) new (before ++ first ∷ (between ++ after)) ≡ before ++ (labels_kept first first.names ++ (map (new_line write) new ++ (others between ++ after)))

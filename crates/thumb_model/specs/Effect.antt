@@ -8,8 +8,8 @@ use Rattle.word_bits.specs.declared.Shift.TheVariants as shift
 use Rattle.word_bits.specs.Word.{sum_of, shift_of, sign_extended, reversed, reversed_halves, reversed_signed}
 use Rattle.thumb_instr.specs.declared.instr.Instr.{Instr}
 use Rattle.thumb_instr.specs.declared.instr.Instr.TheVariants as instr
-use Rattle.thumb_instr.specs.declared.operation.Sum.{Sum}
-use Rattle.thumb_instr.specs.declared.operation.Sum.TheVariants as sum
+use Rattle.thumb_instr.specs.declared.operation.SumOperation.{SumOperation}
+use Rattle.thumb_instr.specs.declared.operation.SumOperation.TheVariants as sum
 use Rattle.thumb_instr.specs.declared.operation.Right.{Right}
 use Rattle.thumb_instr.specs.declared.operation.Right.TheVariants as right
 use Rattle.thumb_instr.specs.declared.operation.Operation.{Operation}
@@ -67,7 +67,7 @@ abbrev pub complement : ℕ → ℕ
 complement x = 2 ^ 32 - 1 - x
 
 -- ADD and SUB: AddWithCarry(x, y, '0') and AddWithCarry(x, NOT(y), '1')
-abbrev pub three_sum : Sum → ℕ → ℕ → WordSum
+abbrev pub three_sum : SumOperation → ℕ → ℕ → WordSum
 three_sum sum.Add x y = sum_of x y false
 three_sum sum.Sub x y = sum_of x (complement y) true
 

@@ -3,7 +3,7 @@ use Rattle.std.specs.Prelude.{◌≡◌, ℕ, ◌+◌, ◌-◌, ◌*◌, ◌/◌
 use Rattle.std.specs.Str.{bytes_eq}
 use Rattle.thumb_instr.specs.declared.instr.Instr.{Instr}
 use Rattle.thumb_instr.specs.declared.instr.Instr.TheVariants as instr
-use Rattle.thumb_model.specs.Listing.{Name, Mention, Statement, Nothing, Runs, Words, Aligns, Sets, Line}
+use Rattle.thumb_model.specs.Listing.{Name, Mention, Statement, Nothing, Instruction, Words, Aligns, Sets, ListingLine}
 
 -- how many bytes an instruction has
 abbrev pub instr_size : Instr → ℕ
@@ -19,13 +19,13 @@ padding size most at = if nat_le ((size - at % size) % size) most then (size - a
 
 abbrev pub size_at : Statement → ℕ → ℕ
 size_at Nothing at = 0
-size_at (Runs i mention) at = instr_size i
+size_at (Instruction i mention) at = instr_size i
 size_at (Words vs) at = 4 * length vs
 size_at (Aligns size most) at = padding size most at
 size_at (Sets name address) at = 0
 
 -- where lines begun at an address end
-abbrev pub end_of : ℕ → List Line → ℕ
+abbrev pub end_of : ℕ → List ListingLine → ℕ
 end_of at [] = at
 end_of at (l ∷ ls) = end_of (at + size_at l.statement at) ls
 
@@ -42,19 +42,19 @@ is_among name [] = false
 is_among name (n ∷ ns) = bytes_eq name n || is_among name ns
 
 -- a label's address is where it stands: before a padding of its own line
-abbrev pub label_address : Name → ℕ → List Line → Option ℕ
+abbrev pub label_address : Name → ℕ → List ListingLine → Option ℕ
 label_address name at [] = None
 label_address name at (l ∷ ls) = if is_among name l.names then Some at else label_address name (at + size_at l.statement at) ls
 
 -- the address that is set for a name
 abbrev pub set_in : Name → Statement → Option ℕ → Option ℕ
 set_in name Nothing rest = rest
-set_in name (Runs i mention) rest = rest
+set_in name (Instruction i mention) rest = rest
 set_in name (Words vs) rest = rest
 set_in name (Aligns size most) rest = rest
 set_in name (Sets other address) rest = if bytes_eq name other then Some address else rest
 
-abbrev pub set_address : Name → List Line → Option ℕ
+abbrev pub set_address : Name → List ListingLine → Option ℕ
 set_address name [] = None
 set_address name (l ∷ ls) = set_in name l.statement (set_address name ls)
 
@@ -67,7 +67,7 @@ abbrev pub or_else : Option ℕ → Option ℕ → Option ℕ
 or_else None b = b
 or_else (Some a) b = Some a
 
-abbrev pub lies_in : ℕ → List Line → Name → Option ℕ
+abbrev pub lies_in : ℕ → List ListingLine → Name → Option ℕ
 lies_in base all name = or_else (label_address name base all) (cleared (set_address name all))
 
 -- ---- faults ----
@@ -115,7 +115,7 @@ instr_fault lies at i (Some m) = aim_fault at i (lies m.name) m.plus
 
 abbrev pub fault_at : (Name → Option ℕ) → ℕ → Statement → Option Fault
 fault_at lies at Nothing = None
-fault_at lies at (Runs i mention) = instr_fault lies at i mention
+fault_at lies at (Instruction i mention) = instr_fault lies at i mention
 fault_at lies at (Words vs) = None
 fault_at lies at (Aligns size most) = None
 fault_at lies at (Sets name address) = None
@@ -125,10 +125,10 @@ abbrev pub or_first : ℕ → Option Fault → Option (ℕ × Fault) → Option 
 or_first n None rest = rest
 or_first n (Some f) rest = Some (n, f)
 
-abbrev pub faults_from : (Name → Option ℕ) → ℕ → ℕ → List Line → Option (ℕ × Fault)
+abbrev pub faults_from : (Name → Option ℕ) → ℕ → ℕ → List ListingLine → Option (ℕ × Fault)
 faults_from lies n at [] = None
 faults_from lies n at (l ∷ ls) = or_first n (fault_at lies at l.statement) (faults_from lies (n + 1) (at + size_at l.statement at) ls)
 
 -- no line is refused
-abbrev pub Layable : ℕ → List Line → Type 0
+abbrev pub Layable : ℕ → List ListingLine → Type 0
 Layable base ls = faults_from (lies_in base ls) 1 base ls ≡ None

@@ -22,13 +22,13 @@ pub data Value : Type 0 where
 -- what a line says: nothing, an instruction with the name that it mentions, words of data, an alignment that pads at most so many bytes, or the address of a name
 pub data Statement : Type 0 where
   Nothing : Statement
-  Runs : (i : Instr) (mention : Option Mention) → Statement
+  Instruction : (i : Instr) (mention : Option Mention) → Statement
   Words : (vs : List Value) → Statement
   Aligns : (size most : ℕ) → Statement
   Sets : (name : Name) (address : ℕ) → Statement
 
 -- the names that a line labels, its statement, its bytes with its newline, and its bytes up to its last label's colon, with a newline
-pub record Line : Type 0 where
+pub record ListingLine : Type 0 where
   pub names : List Name
   pub statement : Statement
   pub text : List ℕ
@@ -46,12 +46,12 @@ plain i = Op i None
 -- the places of a statement, and of lines
 abbrev pub places_in : Statement → List Place
 places_in Nothing = []
-places_in (Runs i mention) = Op i mention ∷ []
+places_in (Instruction i mention) = Op i mention ∷ []
 places_in (Words vs) = map Word vs
 places_in (Aligns size most) = []
 places_in (Sets name address) = []
 
-abbrev pub places_of : List Line → List Place
+abbrev pub places_of : List ListingLine → List Place
 places_of [] = []
 places_of (l ∷ ls) = places_in l.statement ++ places_of ls
 
@@ -64,7 +64,7 @@ abbrev pub labels_at : ℕ → List Name → List Label
 labels_at p [] = []
 labels_at p (n ∷ ns) = record { name = n; place = p } ∷ labels_at p ns
 
-abbrev pub labels_from : ℕ → List Line → List Label
+abbrev pub labels_from : ℕ → List ListingLine → List Label
 labels_from p [] = []
 labels_from p (l ∷ ls) = labels_at p l.names ++ labels_from (p + length (places_in l.statement)) ls
 
@@ -73,7 +73,7 @@ pub record Code : Type 0 where
   pub places : List Place
   pub labels : List Label
 
-abbrev pub code_of : List Line → Code
+abbrev pub code_of : List ListingLine → Code
 code_of ls = record { places = places_of ls; labels = labels_from 0 ls }
 
 -- ---- labels ----

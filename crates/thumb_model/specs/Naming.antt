@@ -1,6 +1,6 @@
 -- Namings of places and labels by addresses, and that of a layout.
 use Rattle.std.specs.Prelude.{◌≡◌, ◌≢◌, ℕ, ◌+◌, ◌%◌, ◌^◌, ◌<◌, ◌==◌, ◌&&◌, Bool, true, false, nat_lt, nat_le, List, [], ◌∷◌, ◌++◌, Some, slice_get, if◌then◌else◌, zero, suc, Option, None}
-use Rattle.thumb_model.specs.Listing.{Name, Place, Label, Code, is_code, has_label, is_mentioned, is_call, Statement, Nothing, Runs, Words, Aligns, Sets, Line, code_of, place_of, is_call_instr, call_count, places_of}
+use Rattle.thumb_model.specs.Listing.{Name, Place, Label, Code, is_code, has_label, is_mentioned, is_call, Statement, Nothing, Instruction, Words, Aligns, Sets, ListingLine, code_of, place_of, is_call_instr, call_count, places_of}
 use Rattle.thumb_model.specs.Layout.{size_at, end_of, label_address}
 
 -- Namings: the words of names and return points, and which can be a listing's.
@@ -58,18 +58,18 @@ word_by set (Some a) (Some p) = a + 1
 -- the address after the k-th call
 abbrev pub ends_in_call : Statement → Bool
 ends_in_call Nothing = false
-ends_in_call (Runs i mention) = is_call_instr i
+ends_in_call (Instruction i mention) = is_call_instr i
 ends_in_call (Words vs) = false
 ends_in_call (Aligns size most) = false
 ends_in_call (Sets name address) = false
 
-abbrev pub return_address : ℕ → ℕ → List Line → ℕ
+abbrev pub return_address : ℕ → ℕ → List ListingLine → ℕ
 return_address k at [] = 0
 return_address zero at (l ∷ ls) = if ends_in_call l.statement then at + size_at l.statement at else return_address zero (at + size_at l.statement at) ls
 return_address (suc k) at (l ∷ ls) = if ends_in_call l.statement then return_address k (at + size_at l.statement at) ls else return_address (suc k) (at + size_at l.statement at) ls
 
 -- lines cut at call number k, counted from 0: so many calls stand before it
-pub record IsCutAtCall (lines : List Line) (k : ℕ) (before : List Line) (call : Line) (after : List Line) : Type 0 where
+pub record IsCutAtCall (lines : List ListingLine) (k : ℕ) (before : List ListingLine) (call : ListingLine) (after : List ListingLine) : Type 0 where
   pub cut : lines ≡ before ++ call ∷ after
   pub calls : ends_in_call call.statement ≡ true
   pub number : k ≡ call_count (places_of before)
@@ -80,7 +80,7 @@ last_is_call (p ∷ []) = is_call p
 last_is_call (p ∷ (q ∷ ps)) = last_is_call (q ∷ ps)
 
 -- the laid naming: words are addresses, and the range goes from the base to the end, two bytes further behind a call
-abbrev pub laid : ℕ → (Name → ℕ) → List Line → Naming
+abbrev pub laid : ℕ → (Name → ℕ) → List ListingLine → Naming
 laid base set all = record {
   word_of = λ name. word_by (set name) (label_address name base all) (place_of (code_of all) name);
   return_word = λ k. return_address k base all + 1;

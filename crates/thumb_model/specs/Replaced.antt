@@ -1,7 +1,7 @@
 -- Instructions, and lines, after a replacement.
 use Rattle.std.specs.Prelude.{ℕ, ◌+◌, ◌-◌, min, max, List, ◌++◌, length, take, drop, map, zero, suc, ◌==◌, ◌&&◌, Bool, true, false, [], ◌∷◌, None, if◌then◌else◌}
 use Rattle.thumb_instr.specs.declared.instr.Instr.{Instr}
-use Rattle.thumb_model.specs.Listing.{plain, Label, Code, Name, Statement, Nothing, Runs, Words, Aligns, Sets, Line, places_in}
+use Rattle.thumb_model.specs.Listing.{plain, Label, Code, Name, Statement, Nothing, Instruction, Words, Aligns, Sets, ListingLine, places_in}
 
 -- The places and labels of a code in which instructions give way to others.
 
@@ -23,48 +23,48 @@ replaced code p count is = record {
 
 abbrev pub is_op : Statement → Bool
 is_op Nothing = false
-is_op (Runs i mention) = true
+is_op (Instruction i mention) = true
 is_op (Words vs) = false
 is_op (Aligns size most) = false
 is_op (Sets name address) = false
 
 abbrev pub is_align : Statement → Bool
 is_align Nothing = false
-is_align (Runs i mention) = false
+is_align (Instruction i mention) = false
 is_align (Words vs) = false
 is_align (Aligns size most) = true
 is_align (Sets name address) = false
 
 -- the lines without their first n instructions
-abbrev pub without : ℕ → List Line → List Line
+abbrev pub without : ℕ → List ListingLine → List ListingLine
 without n [] = []
 without zero (l ∷ ls) = l ∷ ls
 without (suc n) (l ∷ ls) = if is_op l.statement then without n ls else l ∷ without (suc n) ls
 
 -- what stays of a line whose instruction goes: its labels
-abbrev pub labels_kept : Line → List Name → List Line
+abbrev pub labels_kept : ListingLine → List Name → List ListingLine
 labels_kept l [] = []
 labels_kept l (n ∷ ns) = record { names = n ∷ ns; statement = Nothing; text = l.front; front = l.front } ∷ []
 
 -- the line of a new instruction
-abbrev pub new_line : (Instr → List ℕ) → Instr → Line
-new_line write i = record { names = []; statement = Runs i None; text = write i; front = [] }
+abbrev pub new_line : (Instr → List ℕ) → Instr → ListingLine
+new_line write i = record { names = []; statement = Instruction i None; text = write i; front = [] }
 
 -- the lines with these instructions in place of `count` from place p on: all other lines stay byte for byte
-abbrev pub replaced_lines : (Instr → List ℕ) → ℕ → ℕ → List Instr → List Line → List Line
+abbrev pub replaced_lines : (Instr → List ℕ) → ℕ → ℕ → List Instr → List ListingLine → List ListingLine
 replaced_lines write p count is [] = []
 replaced_lines write p count is (l ∷ ls) =
     if is_op l.statement && (p == 0) then labels_kept l l.names ++ (map (new_line write) is ++ without (count - 1) ls)
     else l ∷ replaced_lines write (p - length (places_in l.statement)) count is ls
 
 -- no alignment line stands between the next n instructions
-abbrev pub are_joined : ℕ → List Line → Bool
+abbrev pub are_joined : ℕ → List ListingLine → Bool
 are_joined zero ls = true
 are_joined (suc n) [] = true
 are_joined (suc n) (l ∷ ls) = if is_op l.statement then are_joined n ls else (if is_align l.statement then false else are_joined (suc n) ls)
 
 -- no alignment line stands between the `count` instructions from place p on
-abbrev pub are_joined_from : ℕ → ℕ → List Line → Bool
+abbrev pub are_joined_from : ℕ → ℕ → List ListingLine → Bool
 are_joined_from p count [] = true
 are_joined_from p count (l ∷ ls) =
     if is_op l.statement && (p == 0) then are_joined (count - 1) ls

@@ -1,16 +1,16 @@
 -- Where the return points of calls lie: behind a cut at the call, whose number is how many calls stand before it.
 use Rattle.std.specs.Prelude.{◌≡◌, ◌↔◌, ℕ, ◌+◌, ◌<◌, true, List, [], ◌∷◌, ◌++◌, length, Contains}
-use Rattle.thumb_model.specs.Listing.{Name, Line, Place, places_of, is_call, call_count}
+use Rattle.thumb_model.specs.Listing.{Name, ListingLine, Place, places_of, is_call, call_count}
 use Rattle.thumb_model.specs.Layout.{end_of}
 use Rattle.thumb_model.specs.Naming.{IsCutAtCall, laid, Naming, returns_from}
 
 -- each call's number has a cut
 abbrev pub EachCallIsACut : Type 0
-EachCallIsACut = (lines : List Line) (k : ℕ) → k < call_count (places_of lines) → (before : List Line) × (call : Line) × (after : List Line) × IsCutAtCall lines k before call after
+EachCallIsACut = (lines : List ListingLine) (k : ℕ) → k < call_count (places_of lines) → (before : List ListingLine) × (call : ListingLine) × (after : List ListingLine) × IsCutAtCall lines k before call after
 
 -- where lines are laid out, the word of a call's return point is 1 more than the address behind the call
 abbrev pub LaidReturnsLieBehind : Type 0
-LaidReturnsLieBehind = (base : ℕ) (set : Name → ℕ) (lines : List Line) (k : ℕ) (before : List Line) (call : Line) (after : List Line)
+LaidReturnsLieBehind = (base : ℕ) (set : Name → ℕ) (lines : List ListingLine) (k : ℕ) (before : List ListingLine) (call : ListingLine) (after : List ListingLine)
     → IsCutAtCall lines k before call after → (laid base set lines).return_word k ≡ end_of base (before ++ call ∷ []) + 1
 
 -- a place right behind a call, with the word of the call's number

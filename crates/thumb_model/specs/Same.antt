@@ -2,10 +2,10 @@
 use Rattle.std.specs.Prelude.{◌≡◌, ℕ, ◌≤◌, Bool, true, false, List, Option, Some, None, IsSome}
 use Rattle.thumb_model.specs.Listing.{Name, Code, place_of}
 use Rattle.thumb_model.specs.Naming.{Naming, Fits}
-use Rattle.thumb_model.specs.States.{World, IsWorld, State, At, Here, Ended, Event}
+use Rattle.thumb_model.specs.States.{World, IsWorld, State, Position, Here, Ended, Event}
 use Rattle.thumb_model.specs.Steps.{step, times}
 
-abbrev pub has_ended : At → Bool
+abbrev pub has_ended : Position → Bool
 has_ended (Here p) = false
 has_ended Ended = true
 
@@ -16,7 +16,7 @@ pub record Alike (s t : State) : Type 0 where
   pub answers : s.world.answers ≡ t.world.answers
   pub ended : has_ended s.at ≡ has_ended t.at
 
-abbrev pub here_or_ended : Option ℕ → At
+abbrev pub here_or_ended : Option ℕ → Position
 here_or_ended None = Ended
 here_or_ended (Some p) = Here p
 

@@ -42,13 +42,13 @@ pub record IsWorld (w : World) : Type 0 where
   pub answers : AreAnswers w.answers
 
 -- where the machine is: at a place, or ended
-pub data At : Type 0 where
-  Here : (at : ℕ) → At
-  Ended : At
+pub data Position : Type 0 where
+  Here : (at : ℕ) → Position
+  Ended : Position
 
 pub record State : Type 0 where
   pub world : World
-  pub at : At
+  pub at : Position
   pub events : List Event
 
 -- ---- what an instruction does ----
@@ -72,11 +72,11 @@ pub record Around : Type 0 where
   pub lands : ℕ → Landing
 
 -- where a step goes on: behind the instruction, nowhere for want of answers, to a place, or not at all
-pub data Next : Type 0 where
-  On : Next
-  Stay : Next
-  To : (at : ℕ) → Next
-  Over : Next
+pub data Continuation : Type 0 where
+  On : Continuation
+  Stay : Continuation
+  To : (at : ℕ) → Continuation
+  Over : Continuation
 
 -- what an instruction does
 pub record Act : Type 0 where
@@ -84,14 +84,14 @@ pub record Act : Type 0 where
   pub memory : ℕ → ℕ
   pub answers : List Answer
   pub events : List Event
-  pub next : Next
+  pub next : Continuation
 
 -- r0 to r11, sp and lr
 abbrev pub registers_left : List ℕ
 registers_left = 0 ∷ 1 ∷ 2 ∷ 3 ∷ 4 ∷ 5 ∷ 6 ∷ 7 ∷ 8 ∷ 9 ∷ 10 ∷ 11 ∷ 13 ∷ 14 ∷ []
 
 -- puts values into items, and goes on there
-abbrev pub puts : List (ℕ × ℕ) → Next → World → Act
+abbrev pub puts : List (ℕ × ℕ) → Continuation → World → Act
 puts os next w = record { outputs = os; memory = w.memory; answers = w.answers; events = []; next = next }
 
 -- ends the run with an event

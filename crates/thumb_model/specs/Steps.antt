@@ -6,7 +6,7 @@ use Rattle.thumb_instr.specs.declared.instr.Instr.TheVariants as instr
 use Rattle.thumb_model.specs.Effect.{assigned}
 use Rattle.thumb_model.specs.Listing.{Name, Mention, Value, Number, OfName, Place, Op, Word, Label, Code, place_of, call_count}
 use Rattle.thumb_model.specs.Naming.{Naming, is_odd, is_in_range, points}
-use Rattle.thumb_model.specs.States.{Fell, At, Here, Ended, State, Target, Inside, External, Landing, Goes, Leaves, Strays, Around, Next, On, Stay, To, Over, Act}
+use Rattle.thumb_model.specs.States.{Fell, Position, Here, Ended, State, Target, Inside, External, Landing, Goes, Leaves, Strays, Around, Continuation, On, Stay, To, Over, Act}
 use Rattle.thumb_model.specs.Acts.{act}
 
 -- ---- what a listing says at a place ----
@@ -86,7 +86,7 @@ around_of names code place i mention = record {
 -- ---- steps ----
 
 -- where it is after a step at `here`, behind which `following` stands
-abbrev pub arrives : ℕ → ℕ → Next → At
+abbrev pub arrives : ℕ → ℕ → Continuation → Position
 arrives here following On = Here following
 arrives here following Stay = Here here
 arrives here following (To p) = Here p
@@ -108,7 +108,7 @@ step_on names code place None s = falls s
 step_on names code place (Some (Word v)) s = falls s
 step_on names code place (Some (Op i mention)) s = does place (place + 1) (act (around_of names code place i mention) i s.world) s
 
-abbrev pub step_at : Naming → Code → At → State → State
+abbrev pub step_at : Naming → Code → Position → State → State
 step_at names code Ended s = s
 step_at names code (Here place) s = step_on names code place (slice_get code.places place) s
 

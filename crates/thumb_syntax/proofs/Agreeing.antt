@@ -5,11 +5,11 @@ use Rattle.thumb_syntax.specs.declared.form.Slot.{Slot}
 use Rattle.thumb_syntax.specs.declared.form.Slot.TheVariants as slot
 use Rattle.thumb_syntax.specs.Operands.{Operand, register, base, number, sign}
 use Rattle.thumb_syntax.specs.Agreeing.{agree, agrees, takes_one}
-use Rattle.thumb_syntax.specs.Slots.{Fields, held_by, filled}
+use Rattle.thumb_syntax.specs.Slots.{Fields, filled_by, filled}
 use Rattle.thumb_syntax.proofs.Steps.{taken_next}
 use Rattle.thumb_syntax.proofs.RowRelation.{some_or_none}
 
-disagree : (s : Slot) (f : Fields) (o : Operand) → agrees s o ≡ false → held_by s f o ≡ None
+disagree : (s : Slot) (f : Fields) (o : Operand) → agrees s o ≡ false → filled_by s f o ≡ None
 disagree (slot.Register p) f (register r) e = absurd (true≢false e)
 disagree (slot.Register p) f o e = refl
 disagree (slot.Twice p q) f (register r) e = absurd (true≢false e)
@@ -34,7 +34,7 @@ none_filled [] (o ∷ os) more f e = refl
 none_filled (s ∷ ss) [] more f e = absurd (true≢false e)
 none_filled (s ∷ ss) (o ∷ os) more f e = elim (cases_Bool (takes_one s)) [
   | inl one ↦ elim (cases_Bool (agrees s o)) [
-    | inl may ↦ elim (some_or_none (held_by s f o)) [
+    | inl may ↦ elim (some_or_none (filled_by s f o)) [
       | inl none ↦ rw (taken_next s f (o ∷ (os ++ more)) one, none) refl
       | inr some ↦ rw (taken_next s f (o ∷ (os ++ more)) one, some.1) (none_filled ss os more some.0 (rw (one, may) at e))
     ]

@@ -8,8 +8,8 @@ use Rattle.std.proofs.lemmas.Bool.{cases_Bool, cases_order, and_parts, or_cases,
 use Rattle.std.proofs.lemmas.Slice.Eq.{bytes_eq-Decides}
 use Rattle.thumb_instr.specs.declared.operation.Operation.TheVariants as operation
 use Rattle.ascii_scan.specs.Names.{is_spelled}
-use Rattle.thumb_syntax.specs.declared.form.Place.{Place}
-use Rattle.thumb_syntax.specs.declared.form.Place.TheVariants as place
+use Rattle.thumb_syntax.specs.declared.form.OperandPosition.{OperandPosition}
+use Rattle.thumb_syntax.specs.declared.form.OperandPosition.TheVariants as position
 use Rattle.thumb_syntax.specs.declared.form.Slot.{Slot}
 use Rattle.thumb_syntax.specs.declared.form.Slot.TheVariants as slot
 use Rattle.thumb_instr.specs.declared.kind.Kind.{Kind}
@@ -18,59 +18,59 @@ use Rattle.thumb_syntax.specs.Operands.{Operand, register, name}
 use Rattle.thumb_instr.specs.declared.kind.Parts.{Parts}
 use Rattle.thumb_instr.specs.Parts.{made, is_low, are_low, are_registers}
 use Rattle.thumb_instr.proofs.PartLemmas.{when_some}
-use Rattle.thumb_syntax.specs.Slots.{Fields, empty, at, put, held_by, filled}
-use Rattle.thumb_syntax.specs.Shapes.{first, second, same}
+use Rattle.thumb_syntax.specs.Slots.{Fields, empty, at, put, filled_by, filled}
+use Rattle.thumb_syntax.specs.OperandForms.{first, second, same}
 use Rattle.thumb_syntax.specs.Rows.{Row, Shown, with_label, shown_by, read_as, data_rows, memory_rows, control_rows}
 use Rattle.thumb_syntax.specs.RowLaws.{rows}
 use Rattle.thumb_syntax.specs.Agreeing.{takes_one}
-use Rattle.thumb_syntax.proofs.Steps.{and_then_some, map_some, kept_some, took, none_left, shape, same_shape, register_held, same_held, sp_held, mark_held, least_of, most_of, number_between, is_number, number_put}
+use Rattle.thumb_syntax.proofs.Steps.{and_then_some, map_some, kept_some, took, none_left, class, same_class, register_filled, same_filled, sp_filled, mark_filled, least_of, most_of, number_between, is_number, number_put}
 
 -- ---- a place that a slot leaves as it is
 
-abbrev differs : Place → Place → Bool
-differs place.First place.First = false
-differs place.Second place.Second = false
-differs place.Third place.Third = false
+abbrev differs : OperandPosition → OperandPosition → Bool
+differs position.First position.First = false
+differs position.Second position.Second = false
+differs position.Third position.Third = false
 differs p q = true
 
-put_elsewhere : (p q : Place) (f : Fields) (n : ℕ) → differs p q ≡ true → at (put f q n) p ≡ at f p
-put_elsewhere place.First place.First f n e = absurd (true≢false (sym e))
-put_elsewhere place.Second place.Second f n e = absurd (true≢false (sym e))
-put_elsewhere place.Third place.Third f n e = absurd (true≢false (sym e))
+put_elsewhere : (p q : OperandPosition) (f : Fields) (n : ℕ) → differs p q ≡ true → at (put f q n) p ≡ at f p
+put_elsewhere position.First position.First f n e = absurd (true≢false (sym e))
+put_elsewhere position.Second position.Second f n e = absurd (true≢false (sym e))
+put_elsewhere position.Third position.Third f n e = absurd (true≢false (sym e))
 put_elsewhere p q f n e = refl
 
-put_there : (p : Place) (f : Fields) (n : ℕ) → at (put f p n) p ≡ n
-put_there place.First f n = refl
-put_there place.Second f n = refl
-put_there place.Third f n = refl
+put_there : (p : OperandPosition) (f : Fields) (n : ℕ) → at (put f p n) p ≡ n
+put_there position.First f n = refl
+put_there position.Second f n = refl
+put_there position.Third f n = refl
 
-abbrev leaves : Place → Slot → Bool
+abbrev leaves : OperandPosition → Slot → Bool
 leaves p slot.Sp = true
 leaves p (slot.Mark m) = true
 leaves p (slot.Number q least most step) = differs p q
 leaves p s = false
 
-leaves_takes : (p : Place) (s : Slot) → leaves p s ≡ true → takes_one s ≡ true
+leaves_takes : (p : OperandPosition) (s : Slot) → leaves p s ≡ true → takes_one s ≡ true
 leaves_takes p (slot.LowList q) e = absurd (true≢false (sym e))
 leaves_takes p (slot.StackList q extra) e = absurd (true≢false (sym e))
 leaves_takes p (slot.InList q r) e = absurd (true≢false (sym e))
 leaves_takes p (slot.NotInList q r) e = absurd (true≢false (sym e))
 leaves_takes p s e = refl
 
-left_as_is : (p : Place) (s : Slot) (f : Fields) (o : Operand) (g : Fields) → leaves p s ≡ true → held_by s f o ≡ Some g → at g p ≡ at f p
-left_as_is p slot.Sp f o g e h = ap (λ (x : Fields). at x p) (sym (sp_held f o g h).1)
-left_as_is p (slot.Mark m) f o g e h = ap (λ (x : Fields). at x p) (sym (mark_held m f o g h).1)
+left_as_is : (p : OperandPosition) (s : Slot) (f : Fields) (o : Operand) (g : Fields) → leaves p s ≡ true → filled_by s f o ≡ Some g → at g p ≡ at f p
+left_as_is p slot.Sp f o g e h = ap (λ (x : Fields). at x p) (sym (sp_filled f o g h).1)
+left_as_is p (slot.Mark m) f o g e h = ap (λ (x : Fields). at x p) (sym (mark_filled m f o g h).1)
 left_as_is p (slot.Number q least most step) f o g e h =
     let n = number_put q least most step f o g h in
     ap (λ (x : Fields). at x p) (sym n.1) ∙ put_elsewhere p q f n.0 e
 left_as_is p s f o g e h = absurd (true≢false (sym e))
 
-all_leave : (p : Place) (ss : List Slot) (f : Fields) (os : List Operand) (x : Fields) → list_all (leaves p) ss ≡ true → filled ss f os ≡ Some x → at x p ≡ at f p
+all_leave : (p : OperandPosition) (ss : List Slot) (f : Fields) (os : List Operand) (x : Fields) → list_all (leaves p) ss ≡ true → filled ss f os ≡ Some x → at x p ≡ at f p
 all_leave p [] f os x e h = ap (λ (y : Fields). at y p) (sym (none_left f os x h).1)
 all_leave p (s ∷ ss) f os x e h =
     let parts = and_parts (leaves p s) (list_all (leaves p) ss) e in
     let t = took s ss f os x (leaves_takes p s parts.0) h in
-    all_leave p ss t.fields t.after x parts.1 t.filled ∙ left_as_is p s f t.operand t.fields parts.0 t.held
+    all_leave p ss t.fields t.after x parts.1 t.filled ∙ left_as_is p s f t.operand t.fields parts.0 t.fields_view
 
 -- ---- slots that can't both be filled
 
@@ -78,7 +78,7 @@ all_leave p (s ∷ ss) f os x e h =
 abbrev slots_clash : Slot → Slot → Bool
 slots_clash slot.Primask slot.Ipsr = true
 slots_clash slot.Ipsr slot.Primask = true
-slots_clash s t = not (shape s == shape t) || ((shape s == 2) && (nat_lt (most_of s) (least_of t) || nat_lt (most_of t) (least_of s)))
+slots_clash s t = not (class s == class t) || ((class s == 2) && (nat_lt (most_of s) (least_of t) || nat_lt (most_of t) (least_of s)))
 
 same_case : (x a b : List ℕ) → is_spelled x a ≡ true → is_spelled x b ≡ true → map to_ascii_lowercase a ≡ map to_ascii_lowercase b
 same_case x a b e h = sym ((bytes_eq-Decides (map to_ascii_lowercase x) (map to_ascii_lowercase a)).0 e) ∙ (bytes_eq-Decides (map to_ascii_lowercase x) (map to_ascii_lowercase b)).0 h
@@ -86,35 +86,35 @@ same_case x a b e h = sym ((bytes_eq-Decides (map to_ascii_lowercase x) (map to_
 other_words : (x : List ℕ) → is_spelled x (codes "primask") ≡ true → is_spelled x (codes "ipsr") ≡ true → ⊥
 other_words x e h = let same' = same_case x (codes "primask") (codes "ipsr") e h in cc
 
-by_shape : (s t : Slot) (f g : Fields) (o : Operand) (x y : Fields)
-    → (not (shape s == shape t) || ((shape s == 2) && (nat_lt (most_of s) (least_of t) || nat_lt (most_of t) (least_of s)))) ≡ true → held_by s f o ≡ Some x → held_by t g o ≡ Some y → ⊥
-by_shape s t f g o x y c a b =
-    let one = same_shape s f o x a in
-    let two = same_shape t g o y b in
-    let same' : (shape s == shape t) ≡ true = eq-eqb (shape s) (shape t) (one ∙ sym two) in
-    let rest : ((shape s == 2) && (nat_lt (most_of s) (least_of t) || nat_lt (most_of t) (least_of s))) ≡ true = rw same' at c in
-    let parts = and_parts (shape s == 2) (nat_lt (most_of s) (least_of t) || nat_lt (most_of t) (least_of s)) rest in
-    let n = is_number o (sym one ∙ eqb-true (shape s) 2 parts.0) in
-    let p = number_between s f n.0 x (ap (held_by s f) (sym n.1) ∙ a) in
-    let q = number_between t g n.0 y (ap (held_by t g) (sym n.1) ∙ b) in
+by_class : (s t : Slot) (f g : Fields) (o : Operand) (x y : Fields)
+    → (not (class s == class t) || ((class s == 2) && (nat_lt (most_of s) (least_of t) || nat_lt (most_of t) (least_of s)))) ≡ true → filled_by s f o ≡ Some x → filled_by t g o ≡ Some y → ⊥
+by_class s t f g o x y c a b =
+    let one = same_class s f o x a in
+    let two = same_class t g o y b in
+    let same' : (class s == class t) ≡ true = eq-eqb (class s) (class t) (one ∙ sym two) in
+    let rest : ((class s == 2) && (nat_lt (most_of s) (least_of t) || nat_lt (most_of t) (least_of s))) ≡ true = rw same' at c in
+    let parts = and_parts (class s == 2) (nat_lt (most_of s) (least_of t) || nat_lt (most_of t) (least_of s)) rest in
+    let n = is_number o (sym one ∙ eqb-true (class s) 2 parts.0) in
+    let p = number_between s f n.0 x (ap (filled_by s f) (sym n.1) ∙ a) in
+    let q = number_between t g n.0 y (ap (filled_by t g) (sym n.1) ∙ b) in
     elim (or_cases (nat_lt (most_of s) (least_of t)) (nat_lt (most_of t) (least_of s)) parts.1) [
       | inl h ↦ (let k = ltb-true (most_of s) (least_of t) h in omega arith)
       | inr h ↦ (let k = ltb-true (most_of t) (least_of s) h in omega arith)
     ]
 
-masks_clash : (f g : Fields) (o : Operand) (x y : Fields) → held_by slot.Primask f o ≡ Some x → held_by slot.Ipsr g o ≡ Some y → ⊥
+masks_clash : (f g : Fields) (o : Operand) (x y : Fields) → filled_by slot.Primask f o ≡ Some x → filled_by slot.Ipsr g o ≡ Some y → ⊥
 masks_clash f g (name w) x y a b = other_words w (kept_some (is_spelled w (codes "primask")) f x a).0 (kept_some (is_spelled w (codes "ipsr")) g y b).0
 masks_clash f g o x y a b = absurd (cc)
 
-not_both : (s t : Slot) (f g : Fields) (o : Operand) (x y : Fields) → slots_clash s t ≡ true → held_by s f o ≡ Some x → held_by t g o ≡ Some y → ⊥
+not_both : (s t : Slot) (f g : Fields) (o : Operand) (x y : Fields) → slots_clash s t ≡ true → filled_by s f o ≡ Some x → filled_by t g o ≡ Some y → ⊥
 not_both slot.Primask slot.Ipsr f g o x y c a b = masks_clash f g o x y a b
 not_both slot.Ipsr slot.Primask f g o x y c a b = masks_clash g f o y x b a
-not_both s t f g o x y c a b = by_shape s t f g o x y c a b
+not_both s t f g o x y c a b = by_class s t f g o x y c a b
 
 -- an instruction of the kind has a low register there
-abbrev is_low_at : Kind → Place → Bool
-is_low_at kind.StackAddress place.First = true
-is_low_at (kind.Offset x) place.Second = true
+abbrev is_low_at : Kind → OperandPosition → Bool
+is_low_at kind.StackAddress position.First = true
+is_low_at (kind.Offset x) position.Second = true
 is_low_at k p = false
 
 abbrev pub made_by : Kind → Fields → Option Parts
@@ -123,9 +123,9 @@ made_by k f = made k f.first f.second f.third
 below_eight : (n : ℕ) → is_low n ≡ true → n < 8
 below_eight n e = ltb-true n 8 (and_parts (nat_le 0 n) (nat_lt n 8) e).1
 
-low_there : (k : Kind) (p : Place) (f : Fields) (m : Parts) → is_low_at k p ≡ true → made_by k f ≡ Some m → at f p < 8
-low_there kind.StackAddress place.First f m e h = below_eight f.first (and_parts _ _ (when_some _ _ m h).0).0
-low_there (kind.Offset x) place.Second f m e h = below_eight f.second (and_parts _ _ (and_parts _ _ (when_some _ _ m h).0).1).0
+low_there : (k : Kind) (p : OperandPosition) (f : Fields) (m : Parts) → is_low_at k p ≡ true → made_by k f ≡ Some m → at f p < 8
+low_there kind.StackAddress position.First f m e h = below_eight f.first (and_parts _ _ (when_some _ _ m h).0).0
+low_there (kind.Offset x) position.Second f m e h = below_eight f.second (and_parts _ _ (and_parts _ _ (when_some _ _ m h).0).1).0
 low_there k p f m e h = absurd (true≢false (sym e))
 
 -- a low register on one side, sp on the other
@@ -134,14 +134,14 @@ low_and_sp k (slot.Register p) ss slot.Sp = is_low_at k p && list_all (leaves p)
 low_and_sp k s ss t = false
 
 never_sp : (k : Kind) (s t : Slot) (ss : List Slot) (f g : Fields) (o : Operand) (os : List Operand) (h y x : Fields) (m : Parts)
-    → low_and_sp k s ss t ≡ true → held_by s f o ≡ Some h → held_by t g o ≡ Some y → filled ss h os ≡ Some x → made_by k x ≡ Some m → ⊥
+    → low_and_sp k s ss t ≡ true → filled_by s f o ≡ Some h → filled_by t g o ≡ Some y → filled ss h os ≡ Some x → made_by k x ≡ Some m → ⊥
 never_sp k (slot.Register p) slot.Sp ss f g o os h y x m c a b fill is =
     let parts = and_parts (is_low_at k p) (list_all (leaves p) ss) c in
-    let r = register_held p f o h a in
+    let r = register_filled p f o h a in
     let low = low_there k p x m parts.0 is in
     let kept = all_leave p ss h os x parts.1 fill in
     let there : at h p ≡ r.0 = ap (λ (z : Fields). at z p) (sym r.2) ∙ put_there p f r.0 in
-    let sp : register r.0 ≡ register 13 = sym r.1 ∙ (sp_held g o y b).0 in
+    let sp : register r.0 ≡ register 13 = sym r.1 ∙ (sp_filled g o y b).0 in
     let thirteen : r.0 ≡ 13 = cc in
     omega arith
 never_sp k s t ss f g o os h y x m c a b fill is = absurd (true≢false (sym c))
@@ -167,14 +167,14 @@ clash_apart k l (s ∷ ss) (t ∷ ts) f g os x y m n c a b p q =
     let vi = v.is in
     let o : v.operand ≡ u.operand = cc in
     let r : v.after ≡ u.after = cc in
-    let vh : held_by t g u.operand ≡ Some v.fields = subst (λ (z : Operand). held_by t g z ≡ Some v.fields) o v.held in
+    let vh : filled_by t g u.operand ≡ Some v.fields = subst (λ (z : Operand). filled_by t g z ≡ Some v.fields) o v.fields_view in
     let vf : filled ts v.fields u.after ≡ Some y = subst (λ (z : List Operand). filled ts v.fields z ≡ Some y) r v.filled in
     elim (or_cases (slots_clash s t) (low_and_sp k s ss t || (low_and_sp l t ts s || clash k l ss ts)) two.1) [
-      | inl h ↦ not_both s t f g u.operand u.fields v.fields h u.held vh
+      | inl h ↦ not_both s t f g u.operand u.fields v.fields h u.fields_view vh
       | inr h ↦ elim (or_cases (low_and_sp k s ss t) (low_and_sp l t ts s || clash k l ss ts) h) [
-        | inl i ↦ never_sp k s t ss f g u.operand u.after u.fields v.fields x m i u.held vh u.filled p
+        | inl i ↦ never_sp k s t ss f g u.operand u.after u.fields v.fields x m i u.fields_view vh u.filled p
         | inr i ↦ elim (or_cases (low_and_sp l t ts s) (clash k l ss ts) i) [
-          | inl j ↦ never_sp l t s ts g f u.operand u.after v.fields u.fields y n j vh u.held vf q
+          | inl j ↦ never_sp l t s ts g f u.operand u.after v.fields u.fields y n j vh u.fields_view vf q
           | inr j ↦ clash_apart k l ss ts u.fields v.fields u.after x y m n j u.filled vf p q
         ]
       ]
@@ -184,11 +184,11 @@ clash_apart k l (s ∷ ss) (t ∷ ts) f g os x y m n c a b p q =
 
 -- `d, d, m` and `d, m, d`
 abbrev is_same_first : List Slot → Bool
-is_same_first (slot.Register place.First ∷ slot.Mark m ∷ slot.Same place.First ∷ slot.Mark n ∷ slot.Register place.Second ∷ []) = true
+is_same_first (slot.Register position.First ∷ slot.Mark m ∷ slot.Same position.First ∷ slot.Mark n ∷ slot.Register position.Second ∷ []) = true
 is_same_first ss = false
 
 abbrev is_same_last : List Slot → Bool
-is_same_last (slot.Register place.First ∷ slot.Mark m ∷ slot.Register place.Second ∷ slot.Mark n ∷ slot.Same place.First ∷ []) = true
+is_same_last (slot.Register position.First ∷ slot.Mark m ∷ slot.Register position.Second ∷ slot.Mark n ∷ slot.Same position.First ∷ []) = true
 is_same_last ss = false
 
 abbrev two_fields : ℕ → ℕ → Fields
@@ -209,49 +209,49 @@ record SameLast (os : List Operand) (x : Fields) : Type 0 where
   fields : two_fields d m ≡ x
 
 -- one more register, mark or end
-register_took : (p : Place) (ss : List Slot) (f : Fields) (os : List Operand) (x : Fields) → filled (slot.Register p ∷ ss) f os ≡ Some x → (r : ℕ) × (ps : List Operand) × (os ≡ register r ∷ ps) × (filled ss (put f p r) ps ≡ Some x)
+register_took : (p : OperandPosition) (ss : List Slot) (f : Fields) (os : List Operand) (x : Fields) → filled (slot.Register p ∷ ss) f os ≡ Some x → (r : ℕ) × (ps : List Operand) × (os ≡ register r ∷ ps) × (filled ss (put f p r) ps ≡ Some x)
 register_took p ss f os x e =
     let t = took (slot.Register p) ss f os x refl e in
-    let h = register_held p f t.operand t.fields t.held in
+    let h = register_filled p f t.operand t.fields t.fields_view in
     (h.0, t.after, t.is ∙ ap (λ (o : Operand). o ∷ t.after) h.1, subst (λ (g : Fields). filled ss g t.after ≡ Some x) (sym h.2) t.filled)
 
 mark_took : (m : ℕ) (ss : List Slot) (f : Fields) (os : List Operand) (x : Fields) → filled (slot.Mark m ∷ ss) f os ≡ Some x → (o : Operand) × (ps : List Operand) × (os ≡ o ∷ ps) × (filled ss f ps ≡ Some x)
 mark_took m ss f os x e =
     let t = took (slot.Mark m) ss f os x refl e in
-    (t.operand, t.after, t.is, subst (λ (g : Fields). filled ss g t.after ≡ Some x) (sym (mark_held m f t.operand t.fields t.held).1) t.filled)
+    (t.operand, t.after, t.is, subst (λ (g : Fields). filled ss g t.after ≡ Some x) (sym (mark_filled m f t.operand t.fields t.fields_view).1) t.filled)
 
-same_took : (p : Place) (ss : List Slot) (f : Fields) (os : List Operand) (x : Fields) → filled (slot.Same p ∷ ss) f os ≡ Some x → (ps : List Operand) × (os ≡ register (at f p) ∷ ps) × (filled ss f ps ≡ Some x)
+same_took : (p : OperandPosition) (ss : List Slot) (f : Fields) (os : List Operand) (x : Fields) → filled (slot.Same p ∷ ss) f os ≡ Some x → (ps : List Operand) × (os ≡ register (at f p) ∷ ps) × (filled ss f ps ≡ Some x)
 same_took p ss f os x e =
     let t = took (slot.Same p) ss f os x refl e in
-    let h = same_held p f t.operand t.fields t.held in
+    let h = same_filled p f t.operand t.fields t.fields_view in
     (t.after, t.is ∙ ap (λ (o : Operand). o ∷ t.after) h.0, subst (λ (g : Fields). filled ss g t.after ≡ Some x) (sym h.1) t.filled)
 
 same_first_of : (m n : ℕ) (os : List Operand) (x : Fields) → filled (first ∷ slot.Mark m ∷ same ∷ slot.Mark n ∷ second ∷ []) empty os ≡ Some x → SameFirst os x
 same_first_of m n os x e =
-    let a = register_took place.First (slot.Mark m ∷ same ∷ slot.Mark n ∷ second ∷ []) empty os x e in
-    let b = mark_took m (same ∷ slot.Mark n ∷ second ∷ []) (put empty place.First a.0) a.1 x a.3 in
-    let c = same_took place.First (slot.Mark n ∷ second ∷ []) (put empty place.First a.0) b.1 x b.3 in
-    let d = mark_took n (second ∷ []) (put empty place.First a.0) c.0 x c.2 in
-    let f = register_took place.Second [] (put empty place.First a.0) d.1 x d.3 in
+    let a = register_took position.First (slot.Mark m ∷ same ∷ slot.Mark n ∷ second ∷ []) empty os x e in
+    let b = mark_took m (same ∷ slot.Mark n ∷ second ∷ []) (put empty position.First a.0) a.1 x a.3 in
+    let c = same_took position.First (slot.Mark n ∷ second ∷ []) (put empty position.First a.0) b.1 x b.3 in
+    let d = mark_took n (second ∷ []) (put empty position.First a.0) c.0 x c.2 in
+    let f = register_took position.Second [] (put empty position.First a.0) d.1 x d.3 in
     let g = none_left (two_fields a.0 f.0) f.1 x f.3 in
     record { d = a.0; m = f.0; commas = (b.0, d.0); is = cc (a.2, b.2, c.1, d.2, f.2, g.0); fields = g.1 }
 
 same_last_of : (m n : ℕ) (os : List Operand) (x : Fields) → filled (first ∷ slot.Mark m ∷ second ∷ slot.Mark n ∷ same ∷ []) empty os ≡ Some x → SameLast os x
 same_last_of m n os x e =
-    let a = register_took place.First (slot.Mark m ∷ second ∷ slot.Mark n ∷ same ∷ []) empty os x e in
-    let b = mark_took m (second ∷ slot.Mark n ∷ same ∷ []) (put empty place.First a.0) a.1 x a.3 in
-    let c = register_took place.Second (slot.Mark n ∷ same ∷ []) (put empty place.First a.0) b.1 x b.3 in
+    let a = register_took position.First (slot.Mark m ∷ second ∷ slot.Mark n ∷ same ∷ []) empty os x e in
+    let b = mark_took m (second ∷ slot.Mark n ∷ same ∷ []) (put empty position.First a.0) a.1 x a.3 in
+    let c = register_took position.Second (slot.Mark n ∷ same ∷ []) (put empty position.First a.0) b.1 x b.3 in
     let d = mark_took n (same ∷ []) (two_fields a.0 c.0) c.1 x c.3 in
-    let f = same_took place.First [] (two_fields a.0 c.0) d.1 x d.3 in
+    let f = same_took position.First [] (two_fields a.0 c.0) d.1 x d.3 in
     let g = none_left (two_fields a.0 c.0) f.0 x f.2 in
     record { d = a.0; m = c.0; commas = (b.0, d.0); is = cc (a.2, b.2, c.2, d.2, f.1, g.0); fields = g.1 }
 
 same_first_from : (ss : List Slot) (os : List Operand) (x : Fields) → is_same_first ss ≡ true → filled ss empty os ≡ Some x → SameFirst os x
-same_first_from (slot.Register place.First ∷ slot.Mark m ∷ slot.Same place.First ∷ slot.Mark n ∷ slot.Register place.Second ∷ []) os x c e = same_first_of m n os x e
+same_first_from (slot.Register position.First ∷ slot.Mark m ∷ slot.Same position.First ∷ slot.Mark n ∷ slot.Register position.Second ∷ []) os x c e = same_first_of m n os x e
 same_first_from ss os x c e = absurd (true≢false (sym c))
 
 same_last_from : (ss : List Slot) (os : List Operand) (x : Fields) → is_same_last ss ≡ true → filled ss empty os ≡ Some x → SameLast os x
-same_last_from (slot.Register place.First ∷ slot.Mark m ∷ slot.Register place.Second ∷ slot.Mark n ∷ slot.Same place.First ∷ []) os x c e = same_last_of m n os x e
+same_last_from (slot.Register position.First ∷ slot.Mark m ∷ slot.Register position.Second ∷ slot.Mark n ∷ slot.Same position.First ∷ []) os x c e = same_last_of m n os x e
 same_last_from ss os x c e = absurd (true≢false (sym c))
 
 filled_alike : (ss ts : List Slot) (os : List Operand) (x y : Fields) → is_same_first ss ≡ true → is_same_last ts ≡ true → filled ss empty os ≡ Some x → filled ts empty os ≡ Some y → x ≡ y
@@ -311,11 +311,11 @@ is_high_compare kind.Compare = true
 is_high_compare k = false
 
 abbrev is_two : List Slot → Bool
-is_two (slot.Register place.First ∷ slot.Mark m ∷ slot.Register place.Second ∷ []) = m == 44
+is_two (slot.Register position.First ∷ slot.Mark m ∷ slot.Register position.Second ∷ []) = m == 44
 is_two ss = false
 
 two_is : (ss : List Slot) → is_two ss ≡ true → ss ≡ first ∷ slot.Mark 44 ∷ second ∷ []
-two_is (slot.Register place.First ∷ slot.Mark m ∷ slot.Register place.Second ∷ []) e = ap (λ (n : ℕ). first ∷ slot.Mark n ∷ second ∷ []) (eqb-true m 44 e)
+two_is (slot.Register position.First ∷ slot.Mark m ∷ slot.Register position.Second ∷ []) e = ap (λ (n : ℕ). first ∷ slot.Mark n ∷ second ∷ []) (eqb-true m 44 e)
 two_is ss e = absurd (true≢false (sym e))
 
 abbrev are_comparisons : Row → Row → Bool

@@ -9,14 +9,14 @@ use Rattle.thumb_instr.specs.declared.instr.Instr.{Instr}
 use Rattle.thumb_instr.specs.declared.instr.Instr.TheVariants as instr
 use Rattle.ascii_scan.specs.Numeral.{numeral, numeral_by, in_base, hexadecimal, decimal, has_leading_zero}
 use Rattle.ascii_scan.specs.Tokens.{Token, word, mark, tokens, front, rest}
-use Rattle.thumb_syntax.specs.declared.form.Place.{Place}
-use Rattle.thumb_syntax.specs.declared.form.Place.TheVariants as place
+use Rattle.thumb_syntax.specs.declared.form.OperandPosition.{OperandPosition}
+use Rattle.thumb_syntax.specs.declared.form.OperandPosition.TheVariants as position
 use Rattle.thumb_syntax.specs.declared.form.Slot.{Slot}
 use Rattle.thumb_syntax.specs.declared.form.Slot.TheVariants as slot
 use Rattle.thumb_instr.specs.declared.kind.Kind.{Kind}
 use Rattle.thumb_instr.specs.declared.kind.Kind.TheVariants as kind
 use Rattle.thumb_syntax.specs.Operands.{register_named, Operand, register, base, number, sign, name, sum, operand, of_word, plain, numbered, or_stray, sum_of, range_to, after_register, after_name, is_plain, is_name}
-use Rattle.thumb_syntax.specs.Slots.{listed, Fields, empty, at, put, named, is_in_list, held_by, list_held, taken, filled}
+use Rattle.thumb_syntax.specs.Slots.{listed, Fields, empty, at, put, named, is_in_list, filled_by, list_filled, taken, filled}
 use Rattle.thumb_instr.specs.declared.kind.Parts.{Parts}
 use Rattle.thumb_instr.specs.declared.role.Role.{Role}
 use Rattle.thumb_instr.specs.declared.role.Role.TheVariants as role
@@ -26,7 +26,7 @@ use Rattle.thumb_instr.proofs.PartLemmas.{made_kind, when_some}
 use Rattle.thumb_syntax.specs.Rows.{Row, Shown, data_rows, memory_rows, control_rows, shown_with}
 use Rattle.thumb_syntax.specs.RowLaws.{rows, by_row}
 use Rattle.thumb_syntax.specs.Whole.{is_label, is_label_sum, is_unlabelled, is_whole, ReadingIsWhole}
-use Rattle.thumb_syntax.proofs.Steps.{and_then_some, map_some, kept_some, took, none_left, number_put, register_held, mark_held}
+use Rattle.thumb_syntax.proofs.Steps.{and_then_some, map_some, kept_some, took, none_left, number_put, register_filled, mark_filled}
 use Rattle.thumb_syntax.proofs.Overlap.{Read, read_by}
 use Rattle.thumb_syntax.proofs.RowRelation.{reads_some_row}
 
@@ -111,34 +111,34 @@ keeps_label slot.Label = false
 keeps_label slot.LabelSum = false
 keeps_label s = true
 
-put_label : (g : Fields) (p : Place) (n : ℕ) → (put g p n).label ≡ g.label
-put_label g place.First n = refl
-put_label g place.Second n = refl
-put_label g place.Third n = refl
+put_label : (g : Fields) (p : OperandPosition) (n : ℕ) → (put g p n).label ≡ g.label
+put_label g position.First n = refl
+put_label g position.Second n = refl
+put_label g position.Third n = refl
 
 since : (g h : Fields) → g ≡ h → h.label ≡ g.label
 since g h e = ap (λ (x : Fields). x.label) (sym e)
 
-label_held : (s : Slot) (g : Fields) (o : Operand) (h : Fields) → keeps_label s ≡ true → held_by s g o ≡ Some h → h.label ≡ g.label
-label_held (slot.Register p) g (register r) h k e = since (put g p r) h (cc) ∙ put_label g p r
-label_held (slot.Twice p q) g (register r) h k e = since (put (put g p r) q r) h (cc) ∙ put_label (put g p r) q r ∙ put_label g p r
-label_held (slot.Same p) g (register r) h k e = since g h (kept_some (at g p == r) g h e).1
-label_held slot.Sp g (register r) h k e = since g h (kept_some (r == 13) g h e).1
-label_held (slot.Base p) g (base r) h k e = since (put g p r) h (cc) ∙ put_label g p r
-label_held (slot.Number p least most step) g (number n) h k e =
+label_filled : (s : Slot) (g : Fields) (o : Operand) (h : Fields) → keeps_label s ≡ true → filled_by s g o ≡ Some h → h.label ≡ g.label
+label_filled (slot.Register p) g (register r) h k e = since (put g p r) h (cc) ∙ put_label g p r
+label_filled (slot.Twice p q) g (register r) h k e = since (put (put g p r) q r) h (cc) ∙ put_label (put g p r) q r ∙ put_label g p r
+label_filled (slot.Same p) g (register r) h k e = since g h (kept_some (at g p == r) g h e).1
+label_filled slot.Sp g (register r) h k e = since g h (kept_some (r == 13) g h e).1
+label_filled (slot.Base p) g (base r) h k e = since (put g p r) h (cc) ∙ put_label g p r
+label_filled (slot.Number p least most step) g (number n) h k e =
     let m = number_put p least most step g (number n) h e in
     since (put g p m.0) h m.1 ∙ put_label g p m.0
-label_held (slot.Exactly m) g (number n) h k e = since g h (kept_some (n == m) g h e).1
-label_held (slot.Mark m) g (sign s) h k e = since g h (kept_some (m == s) g h e).1
-label_held slot.Sy g (name x) h k e = since g h (kept_some _ g h e).1
-label_held slot.I g (name x) h k e = since g h (kept_some _ g h e).1
-label_held slot.Primask g (name x) h k e = since g h (kept_some _ g h e).1
-label_held slot.Ipsr g (name x) h k e = since g h (kept_some _ g h e).1
-label_held slot.Label g o h k e = absurd (true≢false (sym k))
-label_held slot.LabelSum g o h k e = absurd (true≢false (sym k))
-label_held s g o h k e = absurd (cc)
+label_filled (slot.Exactly m) g (number n) h k e = since g h (kept_some (n == m) g h e).1
+label_filled (slot.Mark m) g (sign s) h k e = since g h (kept_some (m == s) g h e).1
+label_filled slot.Sy g (name x) h k e = since g h (kept_some _ g h e).1
+label_filled slot.I g (name x) h k e = since g h (kept_some _ g h e).1
+label_filled slot.Primask g (name x) h k e = since g h (kept_some _ g h e).1
+label_filled slot.Ipsr g (name x) h k e = since g h (kept_some _ g h e).1
+label_filled slot.Label g o h k e = absurd (true≢false (sym k))
+label_filled slot.LabelSum g o h k e = absurd (true≢false (sym k))
+label_filled s g o h k e = absurd (cc)
 
-list_label : (g : Fields) (p : Place) (found : Option (ℕ × List Operand)) (r : Fields × List Operand) → list_held g p found ≡ Some r → r.0.label ≡ g.label
+list_label : (g : Fields) (p : OperandPosition) (found : Option (ℕ × List Operand)) (r : Fields × List Operand) → list_filled g p found ≡ Some r → r.0.label ≡ g.label
 list_label g p found r e =
     let m = map_some found (λ (x : ℕ × List Operand). (put g p x.0, x.1)) r e in
     ap (λ (x : Fields × List Operand). x.0.label) (sym m.2) ∙ put_label g p m.0.0
@@ -162,15 +162,15 @@ label_kept (slot.NotInList p q ∷ ss) g os x k e = elim (cases_Bool (is_in_list
 label_kept (s ∷ ss) g os x k e =
     let parts = and_parts (keeps_label s) (list_all keeps_label ss) k in
     let t = took s ss g os x refl e in
-    label_kept ss t.fields t.after x parts.1 t.filled ∙ label_held s g t.operand t.fields parts.0 t.held
+    label_kept ss t.fields t.after x parts.1 t.filled ∙ label_filled s g t.operand t.fields parts.0 t.fields_view
 
-label_put : (g : Fields) (o : Operand) (h : Fields) → is_proper o ≡ true → held_by slot.Label g o ≡ Some h → is_label h.label ≡ true
+label_put : (g : Fields) (o : Operand) (h : Fields) → is_proper o ≡ true → filled_by slot.Label g o ≡ Some h → is_label h.label ≡ true
 label_put g (name w) h p e =
     let same : named g w 0 ≡ h = cc in
     subst (λ (x : Fields). is_label x.label ≡ true) same (and_from (is_name w) true p refl)
 label_put g o h p e = absurd (cc)
 
-label_sum_put : (g : Fields) (o : Operand) (h : Fields) → is_proper o ≡ true → held_by slot.LabelSum g o ≡ Some h → is_label_sum h.label ≡ true
+label_sum_put : (g : Fields) (o : Operand) (h : Fields) → is_proper o ≡ true → filled_by slot.LabelSum g o ≡ Some h → is_label_sum h.label ≡ true
 label_sum_put g (name w) h p e =
     let same : named g w 0 ≡ h = cc in
     subst (λ (x : Fields). is_label_sum x.label ≡ true) same (and_from (is_name w) true p refl)
@@ -186,9 +186,9 @@ label_from : (g : Fields) (os : List Operand) (x : Fields) → list_all is_prope
 label_from g os x all e =
     let t = took slot.Label [] g os x refl e in
     let p = first_proper os t.operand t.after t.is all in
-    subst (λ (y : Fields). is_label y.label ≡ true) (none_left t.fields t.after x t.filled).1 (label_put g t.operand t.fields p.0 t.held)
+    subst (λ (y : Fields). is_label y.label ≡ true) (none_left t.fields t.after x t.filled).1 (label_put g t.operand t.fields p.0 t.fields_view)
 
-label_sum_from : (p : Place) (m : ℕ) (g : Fields) (os : List Operand) (x : Fields) → list_all is_proper os ≡ true → filled (slot.Register p ∷ slot.Mark m ∷ slot.LabelSum ∷ []) g os ≡ Some x → is_label_sum x.label ≡ true
+label_sum_from : (p : OperandPosition) (m : ℕ) (g : Fields) (os : List Operand) (x : Fields) → list_all is_proper os ≡ true → filled (slot.Register p ∷ slot.Mark m ∷ slot.LabelSum ∷ []) g os ≡ Some x → is_label_sum x.label ≡ true
 label_sum_from p m g os x all e =
     let a = took (slot.Register p) (slot.Mark m ∷ slot.LabelSum ∷ []) g os x refl e in
     let b = took (slot.Mark m) (slot.LabelSum ∷ []) a.fields a.after x refl a.filled in
@@ -196,7 +196,7 @@ label_sum_from p m g os x all e =
     let u = first_proper os a.operand a.after a.is all in
     let v = first_proper a.after b.operand b.after b.is u.1 in
     let w = first_proper b.after c.operand c.after c.is v.1 in
-    subst (λ (y : Fields). is_label_sum y.label ≡ true) (none_left c.fields c.after x c.filled).1 (label_sum_put b.fields c.operand c.fields w.0 c.held)
+    subst (λ (y : Fields). is_label_sum y.label ≡ true) (none_left c.fields c.after x c.filled).1 (label_sum_put b.fields c.operand c.fields w.0 c.fields_view)
 
 -- ---- a form names a label exactly where its kind does
 
@@ -211,7 +211,7 @@ label_of k = 0
 
 abbrev slots_label : List Slot → ℕ
 slots_label (slot.Label ∷ []) = 1
-slots_label (slot.Register place.First ∷ slot.Mark m ∷ slot.LabelSum ∷ []) = 2
+slots_label (slot.Register position.First ∷ slot.Mark m ∷ slot.LabelSum ∷ []) = 2
 slots_label ss = if list_all keeps_label ss then 0 else 3
 
 abbrev is_fitting : ℕ → Option (List ℕ × ℕ) → Bool
@@ -232,7 +232,7 @@ other_slots ss os x n less e h = elim (cases_Bool (list_all keeps_label ss)) [
 
 fitting_from : (ss : List Slot) (os : List Operand) (x : Fields) (n : ℕ) → n < 3 → list_all is_proper os ≡ true → slots_label ss ≡ n → filled ss empty os ≡ Some x → is_fitting n x.label ≡ true
 fitting_from (slot.Label ∷ []) os x n less all e h = subst (λ (k : ℕ). is_fitting k x.label ≡ true) e (label_from empty os x all h)
-fitting_from (slot.Register place.First ∷ slot.Mark m ∷ slot.LabelSum ∷ []) os x n less all e h = subst (λ (k : ℕ). is_fitting k x.label ≡ true) e (label_sum_from place.First m empty os x all h)
+fitting_from (slot.Register position.First ∷ slot.Mark m ∷ slot.LabelSum ∷ []) os x n less all e h = subst (λ (k : ℕ). is_fitting k x.label ≡ true) e (label_sum_from position.First m empty os x all h)
 fitting_from ss os x n less all e h = other_slots ss os x n less e h
 
 abbrev is_alike : Row → Bool
@@ -259,11 +259,11 @@ distance zero a b = 0
 distance (suc zero) a b = a
 distance (suc (suc n)) a b = b
 
-label_first : (o : Operand) (h : Fields) → held_by slot.Label empty o ≡ Some h → h.first ≡ 0
+label_first : (o : Operand) (h : Fields) → filled_by slot.Label empty o ≡ Some h → h.first ≡ 0
 label_first (name w) h e = let same : named empty w 0 ≡ h = cc in ap (λ (x : Fields). x.first) (sym same)
 label_first o h e = absurd (cc)
 
-sum_second : (g : Fields) (o : Operand) (h : Fields) → held_by slot.LabelSum g o ≡ Some h → h.second ≡ g.second
+sum_second : (g : Fields) (o : Operand) (h : Fields) → filled_by slot.LabelSum g o ≡ Some h → h.second ≡ g.second
 sum_second g (name w) h e = let same : named g w 0 ≡ h = cc in ap (λ (x : Fields). x.second) (sym same)
 sum_second g (sum w i) h e = let same : named g w i ≡ h = cc in ap (λ (x : Fields). x.second) (sym same)
 sum_second g o h e = absurd (cc)
@@ -280,14 +280,14 @@ no_distance : (ss : List Slot) (os : List Operand) (x : Fields) (n : ℕ) → n 
 no_distance (slot.Label ∷ []) os x n less e h =
     let t = took slot.Label [] empty os x refl h in
     subst (λ (k : ℕ). distance k x.first x.second ≡ 0) e
-    (subst (λ (y : Fields). y.first ≡ 0) (none_left t.fields t.after x t.filled).1 (label_first t.operand t.fields t.held))
-no_distance (slot.Register place.First ∷ slot.Mark m ∷ slot.LabelSum ∷ []) os x n less e h =
-    let a = took (slot.Register place.First) (slot.Mark m ∷ slot.LabelSum ∷ []) empty os x refl h in
+    (subst (λ (y : Fields). y.first ≡ 0) (none_left t.fields t.after x t.filled).1 (label_first t.operand t.fields t.fields_view))
+no_distance (slot.Register position.First ∷ slot.Mark m ∷ slot.LabelSum ∷ []) os x n less e h =
+    let a = took (slot.Register position.First) (slot.Mark m ∷ slot.LabelSum ∷ []) empty os x refl h in
     let b = took (slot.Mark m) (slot.LabelSum ∷ []) a.fields a.after x refl a.filled in
     let c = took slot.LabelSum [] b.fields b.after x refl b.filled in
-    let put_first = (register_held place.First empty a.operand a.fields a.held).2 in
-    let same = (mark_held m a.fields b.operand b.fields b.held).1 in
-    let none : c.fields.second ≡ 0 = sum_second b.fields c.operand c.fields c.held ∙ sym (ap (λ (y : Fields). y.second) same) ∙ sym (ap (λ (y : Fields). y.second) put_first) in
+    let put_first = (register_filled position.First empty a.operand a.fields a.fields_view).2 in
+    let same = (mark_filled m a.fields b.operand b.fields b.fields_view).1 in
+    let none : c.fields.second ≡ 0 = sum_second b.fields c.operand c.fields c.fields_view ∙ sym (ap (λ (y : Fields). y.second) same) ∙ sym (ap (λ (y : Fields). y.second) put_first) in
     subst (λ (k : ℕ). distance k x.first x.second ≡ 0) e
     (subst (λ (y : Fields). y.second ≡ 0) (none_left c.fields c.after x c.filled).1 none)
 no_distance ss os x n less e h = other_distance ss x n less e

@@ -7,11 +7,11 @@ use Rattle.std.proofs.lemmas.Bool.{cases_Bool, and_parts, or_cases, ltb-true, le
 use Rattle.ascii_scan.specs.Names.{registers}
 use Rattle.ascii_scan.specs.Tokens.{Token, mark, tokens, begins_inner, is_mark, is_blank, is_inner}
 use Rattle.ascii_scan.proofs.TokenLemmas.{tokens_mark, tokens_blank, tokens_nil}
-use Rattle.thumb_syntax.specs.declared.form.Place.{Place}
+use Rattle.thumb_syntax.specs.declared.form.OperandPosition.{OperandPosition}
 use Rattle.thumb_syntax.specs.declared.form.Slot.{Slot}
 use Rattle.thumb_syntax.specs.declared.form.Slot.TheVariants as slot
 use Rattle.thumb_syntax.specs.Operands.{Operand, register, base, number, name, operand, is_name}
-use Rattle.thumb_syntax.specs.Slots.{listed, Fields, at, put, is_in_list, number_held, list_held, taken, filled}
+use Rattle.thumb_syntax.specs.Slots.{listed, Fields, at, put, is_in_list, number_filled, list_filled, taken, filled}
 use Rattle.thumb_syntax.specs.Spelling.{register_text, number_text, mark_text, list_text, low_bits, stack_bits, sum_text, label_text, label_sum_text, slot_text, slots_text}
 use Rattle.thumb_syntax.specs.Whole.{is_label, is_label_sum}
 use Rattle.thumb_syntax.proofs.Words.{word_read, register_read, base_read, number_read, name_read, label_sum_read, sum_operand}
@@ -102,10 +102,10 @@ from_text s g bs = taken s g (map operand (tokens bs))
 abbrev and_rest : Fields → List ℕ → Option (Fields × List Operand)
 and_rest g bs = Some (g, map operand (tokens bs))
 
-register_from : (p : Place) (g : Fields) (r : ℕ) (bs : List ℕ) → nat_lt r 16 ≡ true → begins_inner bs ≡ false → from_text (slot.Register p) g (register_text r ++ bs) ≡ and_rest (put g p r) bs
+register_from : (p : OperandPosition) (g : Fields) (r : ℕ) (bs : List ℕ) → nat_lt r 16 ≡ true → begins_inner bs ≡ false → from_text (slot.Register p) g (register_text r ++ bs) ≡ and_rest (put g p r) bs
 register_from p g r bs e ends = ap (taken (slot.Register p) g) (word_read (register_text r) bs (register r) (register_read r (ltb-true r 16 e)) ends)
 
-same_from : (p : Place) (g : Fields) (r : ℕ) (bs : List ℕ) → (nat_lt r 16 && (at g p == r)) ≡ true → begins_inner bs ≡ false → from_text (slot.Same p) g (register_text r ++ bs) ≡ and_rest g bs
+same_from : (p : OperandPosition) (g : Fields) (r : ℕ) (bs : List ℕ) → (nat_lt r 16 && (at g p == r)) ≡ true → begins_inner bs ≡ false → from_text (slot.Same p) g (register_text r ++ bs) ≡ and_rest g bs
 same_from p g r bs e ends =
     let parts = and_parts (nat_lt r 16) (at g p == r) e in
     ap (taken (slot.Same p) g) (word_read (register_text r) bs (register r) (register_read r (ltb-true r 16 parts.0)) ends) ∙ rw parts.1 refl
@@ -113,13 +113,13 @@ same_from p g r bs e ends =
 sp_from : (g : Fields) (bs : List ℕ) → begins_inner bs ≡ false → from_text slot.Sp g (codes "sp" ++ bs) ≡ and_rest g bs
 sp_from g bs ends = ap (taken slot.Sp g) (word_read (codes "sp") bs (register 13) (register_read 13 (omega arith)) ends)
 
-base_from : (p : Place) (g : Fields) (r : ℕ) (bs : List ℕ) → nat_lt r 8 ≡ true → begins_inner bs ≡ false → from_text (slot.Base p) g ((register_text r ++ codes "!") ++ bs) ≡ and_rest (put g p r) bs
+base_from : (p : OperandPosition) (g : Fields) (r : ℕ) (bs : List ℕ) → nat_lt r 8 ≡ true → begins_inner bs ≡ false → from_text (slot.Base p) g ((register_text r ++ codes "!") ++ bs) ≡ and_rest (put g p r) bs
 base_from p g r bs e ends = ap (taken (slot.Base p) g) (word_read (register_text r ++ codes "!") bs (base r) (base_read r (ltb-true r 8 e)) ends)
 
 div-back : (v step : ℕ) → 0 < step → v * step / step ≡ v
 div-back v step more = grind arith
 
-number_back : (p : Place) (g : Fields) (least most step v : ℕ) → number_fits least most step v ≡ true → number_held g p least most step (v * step) ≡ Some (put g p v)
+number_back : (p : OperandPosition) (g : Fields) (least most step v : ℕ) → number_fits least most step v ≡ true → number_filled g p least most step (v * step) ≡ Some (put g p v)
 number_back p g least most step v e =
     let a = and_parts (nat_lt 0 step) (nat_le least (v * step) && (nat_le (v * step) most && nat_lt (v * step) (2 ^ 32))) e in
     let b = and_parts (nat_le least (v * step)) (nat_le (v * step) most && nat_lt (v * step) (2 ^ 32)) a.1 in
@@ -131,7 +131,7 @@ number_back p g least most step v e =
     let whole = eq-eqb (v * step % step) 0 (mul-mod_left v step) in
     rw (some, low, high, whole) (ap (λ (n : ℕ). Some (put g p n)) (div-back v step more))
 
-number_from : (p : Place) (g : Fields) (least most step v : ℕ) (bs : List ℕ) → number_fits least most step v ≡ true → begins_inner bs ≡ false
+number_from : (p : OperandPosition) (g : Fields) (least most step v : ℕ) (bs : List ℕ) → number_fits least most step v ≡ true → begins_inner bs ≡ false
     → from_text (slot.Number p least most step) g (number_text (v * step) ++ bs) ≡ and_rest (put g p v) bs
 number_from p g least most step v bs e ends =
     let a = and_parts (nat_lt 0 step) (nat_le least (v * step) && (nat_le (v * step) most && nat_lt (v * step) (2 ^ 32))) e in
@@ -211,11 +211,11 @@ at_end w bs e = ap (λ (x : List ℕ). w ++ x) e ∙ append-nil w
 no_rest : (g : Fields) (bs : List ℕ) → bs ≡ [] → Some (g, []) ≡ and_rest g bs
 no_rest g bs e = ap (λ (ts : List Token). Some (g, map operand ts)) (sym tokens_nil) ∙ ap (and_rest g) (sym e)
 
-low_list_from : (p : Place) (g : Fields) (n : ℕ) (bs : List ℕ) → (nat_lt 0 n && nat_lt n 256) ≡ true → bs ≡ [] → from_text (slot.LowList p) g (list_text 14 n low_bits ++ bs) ≡ and_rest (put g p n) bs
+low_list_from : (p : OperandPosition) (g : Fields) (n : ℕ) (bs : List ℕ) → (nat_lt 0 n && nat_lt n 256) ≡ true → bs ≡ [] → from_text (slot.LowList p) g (list_text 14 n low_bits ++ bs) ≡ and_rest (put g p n) bs
 low_list_from p g n bs e ends =
     let parts = and_parts (nat_lt 0 n) (nat_lt n 256) e in
     ap (from_text (slot.LowList p) g) (at_end (list_text 14 n low_bits) bs ends)
-    ∙ ap (list_held g p) (low_list_read n (ltb-true 0 n parts.0) (ltb-true n 256 parts.1))
+    ∙ ap (list_filled g p) (low_list_read n (ltb-true 0 n parts.0) (ltb-true n 256 parts.1))
     ∙ no_rest (put g p n) bs ends
 
 stack_list_read : (extra n : ℕ) → (extra == 14 || extra == 15) ≡ true → 0 < n → n < 512 → listed (Some extra) (map operand (tokens (list_text extra n stack_bits))) ≡ Some (n, [])
@@ -224,13 +224,13 @@ stack_list_read extra n e more small = elim (or_cases (extra == 14) (extra == 15
   | inr pc ↦ rw (eqb-true extra 15 pc) (pc_list_read n more small)
 ]
 
-stack_list_from : (p : Place) (extra : ℕ) (g : Fields) (n : ℕ) (bs : List ℕ) → ((extra == 14 || extra == 15) && (nat_lt 0 n && nat_lt n 512)) ≡ true → bs ≡ []
+stack_list_from : (p : OperandPosition) (extra : ℕ) (g : Fields) (n : ℕ) (bs : List ℕ) → ((extra == 14 || extra == 15) && (nat_lt 0 n && nat_lt n 512)) ≡ true → bs ≡ []
     → from_text (slot.StackList p extra) g (list_text extra n stack_bits ++ bs) ≡ and_rest (put g p n) bs
 stack_list_from p extra g n bs e ends =
     let which = and_parts (extra == 14 || extra == 15) (nat_lt 0 n && nat_lt n 512) e in
     let parts = and_parts (nat_lt 0 n) (nat_lt n 512) which.1 in
     ap (from_text (slot.StackList p extra) g) (at_end (list_text extra n stack_bits) bs ends)
-    ∙ ap (list_held g p) (stack_list_read extra n which.0 (ltb-true 0 n parts.0) (ltb-true n 512 parts.1))
+    ∙ ap (list_filled g p) (stack_list_read extra n which.0 (ltb-true 0 n parts.0) (ltb-true n 512 parts.1))
     ∙ no_rest (put g p n) bs ends
 
 slot_from : (s : Slot) (ss : List Slot) (g f : Fields) → slot_fits s g f ≡ true → follows s ss ≡ true → from_text s g (slot_text s f ++ slots_text ss f) ≡ and_rest (stored_by s g f) (slots_text ss f)

@@ -2,14 +2,14 @@
 use Rattle.std.proofs.Common.{◌≡◌, ◌∙◌, inl, inr, ℕ, ◌*◌, ◌<◌, ◌≤◌, ◌^◌, ◌&&◌, ◌||◌, ◌==◌, true, List, [], ◌∷◌, Option, Some, None, refl, sym, ap, subst, arith, true≢false, eqb-true, eq-eqb, lt-ltb}
 use Rattle.std.specs.Prelude.{nat_lt, nat_le, slice_get, if◌then◌else◌}
 use Rattle.std.proofs.lemmas.Bool.{cases_Bool, and_parts, and_from, le-leb, le-ltb, agree_below, agree_below_at}
-use Rattle.thumb_syntax.specs.declared.form.Place.TheVariants as place
+use Rattle.thumb_syntax.specs.declared.form.OperandPosition.TheVariants as position
 use Rattle.thumb_syntax.specs.declared.form.Slot.{Slot}
 use Rattle.thumb_syntax.specs.declared.form.Slot.TheVariants as slot
 use Rattle.thumb_instr.specs.declared.kind.Kind.{Kind}
 use Rattle.thumb_instr.specs.declared.kind.Parts.{Parts}
 use Rattle.thumb_instr.specs.Parts.{of}
 use Rattle.thumb_syntax.specs.Slots.{Fields, empty, is_in_list}
-use Rattle.thumb_syntax.specs.Shapes.{first, second, comma, two, three, amount, byte_number, byte_alone, one, label, labelled, same_last, indexed, with_offset, without_offset, from_sp, at_sp, sp_again, written_back, load_apart, load_within}
+use Rattle.thumb_syntax.specs.OperandForms.{first, second, comma, two, three, amount, byte_number, byte_alone, one, label, labelled, same_last, indexed, with_offset, without_offset, from_sp, at_sp, sp_again, written_back, load_apart, load_within}
 use Rattle.thumb_syntax.specs.Rows.{Row}
 use Rattle.thumb_syntax.specs.RowLaws.{rows}
 use Rattle.thumb_syntax.specs.Forms.{mnemonic}
@@ -162,7 +162,7 @@ stack_row k n z a b l some none slots' p q free =
     ]
 
 abbrev sp_sum : List Slot
-sp_sum = first ∷ comma ∷ slot.Sp ∷ comma ∷ slot.Number place.Second 0 1020 4 ∷ []
+sp_sum = first ∷ comma ∷ slot.Sp ∷ comma ∷ slot.Number position.Second 0 1020 4 ∷ []
 
 pub sp_sum_row : (k : Kind) (n a b : ℕ) (l : Option (List ℕ × ℕ)) → Stands n k sp_sum → canonical k a b 0 ≡ sp_sum → a < 8 → b < 256 → is_unlabelled l ≡ true → Written (of k a b 0) l
 sp_sum_row k n a b l there slots' p q none = plain_row (of k a b 0) l n sp_sum there slots' (rw (low16 a p, fits_words b q) refl) refl none
@@ -170,7 +170,7 @@ sp_sum_row k n a b l there slots' p q none = plain_row (of k a b 0) l n sp_sum t
 pub sp_move_row : (k : Kind) (n a : ℕ) (l : Option (List ℕ × ℕ)) → Stands n k sp_again → canonical k a 0 0 ≡ sp_again → a < 128 → is_unlabelled l ≡ true → Written (of k a 0 0) l
 sp_move_row k n a l there slots' p none = plain_row (of k a 0 0) l n sp_again there slots' (rw (fits_number 0 508 4 a (omega arith) (omega arith) (omega arith) (omega arith)) refl) refl none
 
-pub list_row : (k : Kind) (n extra a : ℕ) (l : Option (List ℕ × ℕ)) → Stands n k (slot.StackList place.First extra ∷ []) → canonical k a 0 0 ≡ slot.StackList place.First extra ∷ [] → (extra == 14 || extra == 15) ≡ true → 0 < a → a < 512 → is_unlabelled l ≡ true → Written (of k a 0 0) l
+pub list_row : (k : Kind) (n extra a : ℕ) (l : Option (List ℕ × ℕ)) → Stands n k (slot.StackList position.First extra ∷ []) → canonical k a 0 0 ≡ slot.StackList position.First extra ∷ [] → (extra == 14 || extra == 15) ≡ true → 0 < a → a < 512 → is_unlabelled l ≡ true → Written (of k a 0 0) l
 list_row k n extra a l there slots' which p q none = plain_row (of k a 0 0) l n _ there slots' (rw (which, lt-ltb 0 a p, lt-ltb a 512 q) refl) refl none
 
 pub store_row : (k : Kind) (n a b : ℕ) (l : Option (List ℕ × ℕ)) → Stands n k written_back → canonical k a b 0 ≡ written_back → a < 8 → 0 < b → b < 256 → is_unlabelled l ≡ true → Written (of k a b 0) l

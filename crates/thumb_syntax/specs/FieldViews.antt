@@ -9,8 +9,8 @@ use Rattle.thumb_syntax.specs.declared.form.Slot.{Slot}
 abbrev pub label_of : Label → List ℕ × ℕ
 label_of l = (l.name.now, l.added)
 
-abbrev pub held : Slices → Fields
-held f = record { first = f.first; second = f.second; third = f.third; label = option_map label_of f.label }
+abbrev pub fields_view : Slices → Fields
+fields_view f = record { first = f.first; second = f.second; third = f.third; label = option_map label_of f.label }
 
 -- the forms without where they lie
 abbrev pub forms_at : List (Bor (List Slot)) → List (List Slot)

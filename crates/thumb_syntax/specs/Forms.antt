@@ -1,6 +1,6 @@
 -- The one table of texts: each kind of instruction with its mnemonic, and what may follow it.
 use Rattle.std.specs.Prelude.{ℕ, List, [], ◌∷◌, codes}
-use Rattle.thumb_instr.specs.declared.operation.Sum.TheVariants as sum
+use Rattle.thumb_instr.specs.declared.operation.SumOperation.TheVariants as sum
 use Rattle.thumb_instr.specs.declared.operation.Right.TheVariants as right
 use Rattle.thumb_instr.specs.declared.operation.ByteOperation.TheVariants as byte
 use Rattle.thumb_instr.specs.declared.operation.Operation.TheVariants as operation
@@ -10,16 +10,16 @@ use Rattle.thumb_instr.specs.declared.operation.Access.TheVariants as access
 use Rattle.thumb_instr.specs.declared.operation.OffsetAccess.TheVariants as offset
 use Rattle.thumb_instr.specs.declared.operation.WordAccess.TheVariants as word
 use Rattle.thumb_instr.specs.declared.operation.Condition.TheVariants as condition
-use Rattle.thumb_instr.specs.declared.operation.Hint.TheVariants as hint
+use Rattle.thumb_instr.specs.declared.operation.HintOperation.TheVariants as hint
 use Rattle.thumb_instr.specs.declared.operation.Interrupts.TheVariants as interrupts
 use Rattle.thumb_instr.specs.declared.operation.Barrier.TheVariants as barrier
 use Rattle.thumb_instr.specs.declared.operation.Special.TheVariants as special
-use Rattle.thumb_syntax.specs.declared.form.Place.TheVariants as place
+use Rattle.thumb_syntax.specs.declared.form.OperandPosition.TheVariants as position
 use Rattle.thumb_syntax.specs.declared.form.Slot.{Slot}
 use Rattle.thumb_syntax.specs.declared.form.Slot.TheVariants as slot
 use Rattle.thumb_instr.specs.declared.kind.Kind.{Kind}
 use Rattle.thumb_instr.specs.declared.kind.Kind.TheVariants as kind
-use Rattle.thumb_syntax.specs.Shapes.{first, second, comma, one, two, same_first, same_last, three, twice_and_third, amount, twice_amount, byte_number, same_and_byte, byte_alone, label, labelled, indexed, with_offset, without_offset, from_sp, at_sp, sp_again, sp_alone, written_back, load_apart, load_within}
+use Rattle.thumb_syntax.specs.OperandForms.{first, second, comma, one, two, same_first, same_last, three, twice_and_third, amount, twice_amount, byte_number, same_and_byte, byte_alone, label, labelled, indexed, with_offset, without_offset, from_sp, at_sp, sp_again, sp_alone, written_back, load_apart, load_within}
 
 pub record Spelling : Type 0 where
   pub mnemonic : List ℕ
@@ -86,11 +86,11 @@ spelling (kind.Offset offset.Strh) = spelled (codes "strh") (with_offset 62 2 �
 spelling (kind.Offset offset.Ldrh) = spelled (codes "ldrh") (with_offset 62 2 ∷ without_offset ∷ [])
 spelling (kind.Stack word.Str) = spelled (codes "str") (from_sp ∷ at_sp ∷ [])
 spelling (kind.Stack word.Ldr) = spelled (codes "ldr") (from_sp ∷ at_sp ∷ [])
-spelling kind.StackAddress = spelled (codes "add") ((first ∷ comma ∷ slot.Sp ∷ comma ∷ slot.Number place.Second 0 1020 4 ∷ []) ∷ [])
+spelling kind.StackAddress = spelled (codes "add") ((first ∷ comma ∷ slot.Sp ∷ comma ∷ slot.Number position.Second 0 1020 4 ∷ []) ∷ [])
 spelling (kind.StackMove sum.Add) = spelled (codes "add") (sp_again ∷ sp_alone ∷ [])
 spelling (kind.StackMove sum.Sub) = spelled (codes "sub") (sp_again ∷ sp_alone ∷ [])
-spelling kind.Push = spelled (codes "push") ((slot.StackList place.First 14 ∷ []) ∷ [])
-spelling kind.Pop = spelled (codes "pop") ((slot.StackList place.First 15 ∷ []) ∷ [])
+spelling kind.Push = spelled (codes "push") ((slot.StackList position.First 14 ∷ []) ∷ [])
+spelling kind.Pop = spelled (codes "pop") ((slot.StackList position.First 15 ∷ []) ∷ [])
 spelling kind.StoreMany = spelled (codes "stm") (written_back ∷ [])
 spelling kind.LoadMany = spelled (codes "ldm") (load_apart ∷ load_within ∷ [])
 spelling kind.Bx = spelled (codes "bx") (one ∷ [])

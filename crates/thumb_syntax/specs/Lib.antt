@@ -5,7 +5,7 @@ pub mod Views
 pub mod Slots
 pub mod Agreeing
 pub mod FieldViews
-pub mod Shapes
+pub mod OperandForms
 pub mod Forms
 pub mod Rows
 pub mod ParsedView

@@ -1,6 +1,6 @@
 -- The forms of instructions' texts, and what a text is by them. Their order doesn't matter for which texts are read.
 use Rattle.std.specs.Prelude.{ℕ, List, [], ◌∷◌, ◌++◌, Option, None, codes, map, flat_map, if◌then◌else◌, option_map, option_and_then}
-use Rattle.thumb_instr.specs.declared.operation.Sum.TheVariants as sum
+use Rattle.thumb_instr.specs.declared.operation.SumOperation.TheVariants as sum
 use Rattle.thumb_instr.specs.declared.operation.Right.TheVariants as right
 use Rattle.thumb_instr.specs.declared.operation.ByteOperation.TheVariants as byte
 use Rattle.thumb_instr.specs.declared.operation.Operation.TheVariants as operation
@@ -10,7 +10,7 @@ use Rattle.thumb_instr.specs.declared.operation.Access.TheVariants as access
 use Rattle.thumb_instr.specs.declared.operation.OffsetAccess.TheVariants as offset
 use Rattle.thumb_instr.specs.declared.operation.WordAccess.TheVariants as word
 use Rattle.thumb_instr.specs.declared.operation.Condition.TheVariants as condition
-use Rattle.thumb_instr.specs.declared.operation.Hint.TheVariants as hint
+use Rattle.thumb_instr.specs.declared.operation.HintOperation.TheVariants as hint
 use Rattle.thumb_instr.specs.declared.operation.Interrupts.TheVariants as interrupts
 use Rattle.thumb_instr.specs.declared.operation.Barrier.TheVariants as barrier
 use Rattle.thumb_instr.specs.declared.operation.Special.TheVariants as special
@@ -21,7 +21,7 @@ use Rattle.thumb_syntax.specs.declared.form.Slot.TheVariants as slot
 use Rattle.thumb_instr.specs.declared.kind.Kind.{Kind}
 use Rattle.thumb_instr.specs.declared.kind.Kind.TheVariants as kind
 use Rattle.thumb_syntax.specs.Forms.{mnemonic, forms}
-use Rattle.thumb_syntax.specs.Shapes.{first, second, twice, comma, two}
+use Rattle.thumb_syntax.specs.OperandForms.{first, second, twice, comma, two}
 use Rattle.thumb_syntax.specs.Operands.{first_some, or_else, Operand, operand}
 use Rattle.thumb_instr.specs.declared.kind.Parts.{Parts}
 use Rattle.thumb_instr.specs.Parts.{made, parts_of}

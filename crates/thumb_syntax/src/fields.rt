@@ -1,12 +1,12 @@
 //! What the operands of a form hold.
 ghost use Rattle.std.specs.Prelude.{◌≡◌, map, option_map};
 ghost use Rattle.thumb_syntax.specs.Views.{view};
-ghost use Rattle.thumb_syntax.specs.FieldViews.{held};
+ghost use Rattle.thumb_syntax.specs.FieldViews.{fields_view};
 ghost use Rattle.thumb_syntax.specs.LeftView.{left};
 ghost use Rattle.thumb_syntax.specs.Agreeing.{agree, agrees, takes_one};
-ghost use Rattle.thumb_syntax.specs.Slots.{empty, at, put, named, is_in_list, kept_if, number_held, held_by, taken, filled};
+ghost use Rattle.thumb_syntax.specs.Slots.{empty, at, put, named, is_in_list, kept_if, number_filled, filled_by, taken, filled};
 
-use crate::form::{Place, Slot};
+use crate::form::{OperandPosition, Slot};
 use crate::left::Left;
 use crate::lists::listed;
 use crate::operands::Operand;
@@ -29,7 +29,7 @@ pub struct Fields<'a> {
 }
 
 fn empty<'a>() -> Fields<'a>
-    ensures { held result ≡ empty }
+    ensures { fields_view result ≡ empty }
 {
     Fields {
         first: 0,
@@ -39,33 +39,33 @@ fn empty<'a>() -> Fields<'a>
     }
 }
 
-pub fn at(fields: &Fields<'_>, place: Place) -> u32
-    ensures { result ≡ at (held fields.now) place }
+pub fn at(fields: &Fields<'_>, place: OperandPosition) -> u32
+    ensures { result ≡ at (fields_view fields.now) place }
 {
     match place {
-        Place::First => fields.first,
-        Place::Second => fields.second,
-        Place::Third => fields.third,
+        OperandPosition::First => fields.first,
+        OperandPosition::Second => fields.second,
+        OperandPosition::Third => fields.third,
     }
 }
 
-fn put<'a>(fields: Fields<'a>, place: Place, number: u32) -> Fields<'a>
-    ensures { held result ≡ put (held fields.entry) place number }
+fn put<'a>(fields: Fields<'a>, place: OperandPosition, number: u32) -> Fields<'a>
+    ensures { fields_view result ≡ put (fields_view fields.entry) place number }
 {
     match place {
-        Place::First => Fields {
+        OperandPosition::First => Fields {
             first: number,
             second: fields.second,
             third: fields.third,
             label: fields.label,
         },
-        Place::Second => Fields {
+        OperandPosition::Second => Fields {
             first: fields.first,
             second: number,
             third: fields.third,
             label: fields.label,
         },
-        Place::Third => Fields {
+        OperandPosition::Third => Fields {
             first: fields.first,
             second: fields.second,
             third: number,
@@ -75,7 +75,7 @@ fn put<'a>(fields: Fields<'a>, place: Place, number: u32) -> Fields<'a>
 }
 
 fn named<'a>(fields: Fields<'a>, name: &'a [u8], added: u32) -> Fields<'a>
-    ensures { held result ≡ named (held fields.entry) name.now added }
+    ensures { fields_view result ≡ named (fields_view fields.entry) name.now added }
 {
     Fields {
         first: fields.first,
@@ -93,21 +93,21 @@ pub fn is_in_list(register: u32, list: u32) -> bool
 }
 
 fn kept_if<'a>(holds: bool, fields: Fields<'a>) -> Option<Fields<'a>>
-    ensures { option_map held result ≡ kept_if holds (held fields.entry) }
+    ensures { option_map fields_view result ≡ kept_if holds (fields_view fields.entry) }
 {
     if holds { Some(fields) } else { None }
 }
 
 /// The fields with a number in units of `step`, where it is in the range and a multiple.
-fn number_held<'a>(
+fn number_filled<'a>(
     fields: Fields<'a>,
-    place: Place,
+    place: OperandPosition,
     least: u32,
     most: u32,
     step: u32,
     number: u32,
 ) -> Option<Fields<'a>>
-    ensures { option_map held result ≡ number_held (held fields.entry) place least most step number }
+    ensures { option_map fields_view result ≡ number_filled (fields_view fields.entry) place least most step number }
 {
     if step == 0 || number < least || most < number || number % step != 0 {
         None
@@ -117,8 +117,8 @@ fn number_held<'a>(
 }
 
 /// The fields after an operand that the slot takes.
-fn held_by<'a>(slot: &Slot, fields: Fields<'a>, operand: Operand<'a>) -> Option<Fields<'a>>
-    ensures { option_map held result ≡ held_by slot.now (held fields.entry) (view operand.entry) }
+fn filled_by<'a>(slot: &Slot, fields: Fields<'a>, operand: Operand<'a>) -> Option<Fields<'a>>
+    ensures { option_map fields_view result ≡ filled_by slot.now (fields_view fields.entry) (view operand.entry) }
 {
     match *slot {
         Slot::Register(place) => match operand {
@@ -142,7 +142,7 @@ fn held_by<'a>(slot: &Slot, fields: Fields<'a>, operand: Operand<'a>) -> Option<
             _ => None,
         },
         Slot::Number(place, least, most, step) => match operand {
-            Operand::Number(number) => number_held(fields, place, least, most, step, number),
+            Operand::Number(number) => number_filled(fields, place, least, most, step, number),
             _ => None,
         },
         Slot::Exactly(wanted) => match operand {
@@ -188,7 +188,7 @@ fn taken<'a, 'r>(
     fields: Fields<'a>,
     operands: Left<'a, 'r>,
 ) -> Option<(Fields<'a>, Left<'a, 'r>)>
-    ensures { option_map (λ r. (held r.0, left r.1)) result ≡ taken slot.now (held fields.entry) (left operands.entry) }
+    ensures { option_map (λ r. (fields_view r.0, left r.1)) result ≡ taken slot.now (fields_view fields.entry) (left operands.entry) }
 {
     match *slot {
         Slot::LowList(place) => match listed(None, operands) {
@@ -214,7 +214,7 @@ fn taken<'a, 'r>(
             }
         }
         _ => match operands.next() {
-            Some((operand, after)) => match held_by(slot, fields, operand) {
+            Some((operand, after)) => match filled_by(slot, fields, operand) {
                 Some(more) => Some((more, after)),
                 None => None,
             },
@@ -225,7 +225,7 @@ fn taken<'a, 'r>(
 
 /// The fields after operands that fill the slots, with none left.
 fn filled_from<'a>(slots: &[Slot], fields: Fields<'a>, operands: Left<'a, '_>) -> Option<Fields<'a>>
-    ensures { option_map held result ≡ filled slots.now (held fields.entry) (left operands.entry) }
+    ensures { option_map fields_view result ≡ filled slots.now (fields_view fields.entry) (left operands.entry) }
 {
     match slots.split_first() {
         None => match operands.next() {
@@ -285,7 +285,7 @@ fn agree(slots: &[Slot], operands: &[Operand<'_>]) -> bool
 /// The fields of operands that fill the slots, with none left.
 #[tactic(auto, using(crate::proofs::Agreeing::none_filled))]
 pub fn filled<'a>(slots: &[Slot], operands: Left<'a, '_>) -> Option<Fields<'a>>
-    ensures { option_map held result ≡ filled slots.now empty (left operands.entry) }
+    ensures { option_map fields_view result ≡ filled slots.now empty (left operands.entry) }
 {
     if agree(slots, operands.ahead) {
         filled_from(slots, empty(), operands)

@@ -3,7 +3,7 @@ use thumb_instr::Kind;
 
 /// A register or number of an instruction, in the order of its canonical text.
 #[derive(Clone, Copy)]
-pub enum Place {
+pub enum OperandPosition {
     First,
     Second,
     Third,
@@ -13,17 +13,17 @@ pub enum Place {
 #[derive(Clone, Copy)]
 pub enum Slot {
     /// a register
-    Register(Place),
+    Register(OperandPosition),
     /// a register that stands for two
-    Twice(Place, Place),
+    Twice(OperandPosition, OperandPosition),
     /// the register of an earlier place once more
-    Same(Place),
+    Same(OperandPosition),
     /// sp
     Sp,
     /// a register and `!`
-    Base(Place),
+    Base(OperandPosition),
     /// a number from the second to the third and a multiple of the fourth, in units of which it is kept
-    Number(Place, u32, u32, u32),
+    Number(OperandPosition, u32, u32, u32),
     /// one number
     Exactly(u32),
     /// a comma or a bracket
@@ -41,13 +41,13 @@ pub enum Slot {
     /// a label, also with a number added
     LabelSum,
     /// a list of low registers
-    LowList(Place),
+    LowList(OperandPosition),
     /// a list of low registers and one more
-    StackList(Place, u32),
+    StackList(OperandPosition, u32),
     /// nothing, where the register of the first place is in the list of the second
-    InList(Place, Place),
+    InList(OperandPosition, OperandPosition),
     /// nothing, where it isn't
-    NotInList(Place, Place),
+    NotInList(OperandPosition, OperandPosition),
 }
 
 /// A form: a mnemonic, what follows it, and what instruction it is.

@@ -2,7 +2,7 @@
 ghost use Rattle.std.specs.Prelude.{◌≡◌, ◌<◌, map, option_map};
 ghost use Rattle.ascii_scan.specs.Tokens.{tokens};
 ghost use Rattle.thumb_syntax.specs.Operands.{operand, first_some};
-ghost use Rattle.thumb_syntax.specs.FieldViews.{held};
+ghost use Rattle.thumb_syntax.specs.FieldViews.{fields_view};
 ghost use Rattle.thumb_syntax.specs.LeftView.{left};
 ghost use Rattle.thumb_syntax.specs.ParsedView.{shown};
 ghost use Rattle.thumb_syntax.specs.Rows.{shown_by, read_all, reading};
@@ -24,7 +24,7 @@ pub struct Parsed<'a> {
 }
 
 fn with_fields<'a>(kind: Kind, fields: Fields<'a>) -> Option<Parsed<'a>>
-    ensures { option_map shown result ≡ shown_by kind (held fields.entry) }
+    ensures { option_map shown result ≡ shown_by kind (fields_view fields.entry) }
 {
     match made(kind, fields.first, fields.second, fields.third) {
         Some(instr) => Some(Parsed {

@@ -4,23 +4,23 @@ ghost use Rattle.thumb_syntax.specs.Mnemonics.{are_there, are_there_at, forms_of
 ghost use Rattle.thumb_syntax.specs.Forms.{mnemonic, forms};
 ghost use Rattle.thumb_syntax.specs.FieldViews.{forms_at};
 
-use crate::form::{Form, Mnemonic, Place, Slot};
+use crate::form::{Form, Mnemonic, OperandPosition, Slot};
 use thumb_instr::{
-    Access, Barrier, ByteOperation, Condition, Extension, Hint, Interrupts, Kind, OffsetAccess,
-    Operation, Reversal, Right, Special, Sum, WordAccess,
+    Access, Barrier, ByteOperation, Condition, Extension, HintOperation, Interrupts, Kind,
+    OffsetAccess, Operation, Reversal, Right, Special, SumOperation, WordAccess,
 };
 
-const FIRST: Slot = Slot::Register(Place::First);
+const FIRST: Slot = Slot::Register(OperandPosition::First);
 
-const SECOND: Slot = Slot::Register(Place::Second);
+const SECOND: Slot = Slot::Register(OperandPosition::Second);
 
-const THIRD: Slot = Slot::Register(Place::Third);
+const THIRD: Slot = Slot::Register(OperandPosition::Third);
 
 /// One register for the first two.
-const TWICE: Slot = Slot::Twice(Place::First, Place::Second);
+const TWICE: Slot = Slot::Twice(OperandPosition::First, OperandPosition::Second);
 
 /// The first register once more.
-const SAME: Slot = Slot::Same(Place::First);
+const SAME: Slot = Slot::Same(OperandPosition::First);
 
 const COMMA: Slot = Slot::Mark(b',');
 
@@ -49,19 +49,23 @@ const TWICE_AND_THIRD: &[Slot] = &[TWICE, COMMA, THIRD];
 /// Two registers and a number.
 macro_rules! amount {
     ($least:literal, $most:literal) => {
-        &[FIRST, COMMA, SECOND, COMMA, Slot::Number(Place::Third, $least, $most, 1)]
+        &[FIRST, COMMA, SECOND, COMMA, Slot::Number(OperandPosition::Third, $least, $most, 1)]
     };
 }
 
 /// The same, where the two are one.
 macro_rules! twice_amount {
     ($least:literal, $most:literal) => {
-        &[TWICE, COMMA, Slot::Number(Place::Third, $least, $most, 1)]
+        &[TWICE, COMMA, Slot::Number(OperandPosition::Third, $least, $most, 1)]
     };
 }
 
 /// A register and a byte.
-const BYTE_NUMBER: &[Slot] = &[FIRST, COMMA, Slot::Number(Place::Second, 0, 255, 1)];
+const BYTE_NUMBER: &[Slot] = &[
+    FIRST,
+    COMMA,
+    Slot::Number(OperandPosition::Second, 0, 255, 1),
+];
 
 /// A register twice and a byte that doesn't fit the form with two registers and a number.
 const SAME_AND_BYTE: &[Slot] = &[
@@ -69,11 +73,11 @@ const SAME_AND_BYTE: &[Slot] = &[
     COMMA,
     SAME,
     COMMA,
-    Slot::Number(Place::Second, 8, 255, 1),
+    Slot::Number(OperandPosition::Second, 8, 255, 1),
 ];
 
 /// A byte.
-const BYTE_ALONE: &[Slot] = &[Slot::Number(Place::First, 0, 255, 1)];
+const BYTE_ALONE: &[Slot] = &[Slot::Number(OperandPosition::First, 0, 255, 1)];
 
 /// A label.
 const LABEL: &[Slot] = &[Slot::Label];
@@ -87,7 +91,7 @@ const INDEXED: &[Slot] = &[FIRST, COMMA, OPEN, SECOND, COMMA, THIRD, CLOSE];
 /// A register, and an address of one with an offset.
 macro_rules! with_offset {
     ($most:literal, $step:literal) => {
-        &[FIRST, COMMA, OPEN, SECOND, COMMA, Slot::Number(Place::Third, 0, $most, $step), CLOSE]
+        &[FIRST, COMMA, OPEN, SECOND, COMMA, Slot::Number(OperandPosition::Third, 0, $most, $step), CLOSE]
     };
 }
 
@@ -101,7 +105,7 @@ const FROM_SP: &[Slot] = &[
     OPEN,
     Slot::Sp,
     COMMA,
-    Slot::Number(Place::Second, 0, 1020, 4),
+    Slot::Number(OperandPosition::Second, 0, 1020, 4),
     CLOSE,
 ];
 
@@ -114,33 +118,37 @@ const SP_AGAIN: &[Slot] = &[
     COMMA,
     Slot::Sp,
     COMMA,
-    Slot::Number(Place::First, 0, 508, 4),
+    Slot::Number(OperandPosition::First, 0, 508, 4),
 ];
 
 /// sp once and a number.
-const SP_ALONE: &[Slot] = &[Slot::Sp, COMMA, Slot::Number(Place::First, 0, 508, 4)];
+const SP_ALONE: &[Slot] = &[
+    Slot::Sp,
+    COMMA,
+    Slot::Number(OperandPosition::First, 0, 508, 4),
+];
 
 /// A base that is written back, and a list.
 const WRITTEN_BACK: &[Slot] = &[
-    Slot::Base(Place::First),
+    Slot::Base(OperandPosition::First),
     COMMA,
-    Slot::LowList(Place::Second),
+    Slot::LowList(OperandPosition::Second),
 ];
 
 /// The same, where the base isn't in the list.
 const LOAD_APART: &[Slot] = &[
-    Slot::Base(Place::First),
+    Slot::Base(OperandPosition::First),
     COMMA,
-    Slot::LowList(Place::Second),
-    Slot::NotInList(Place::First, Place::Second),
+    Slot::LowList(OperandPosition::Second),
+    Slot::NotInList(OperandPosition::First, OperandPosition::Second),
 ];
 
 /// A base and a list that it is in.
 const LOAD_WITHIN: &[Slot] = &[
     FIRST,
     COMMA,
-    Slot::LowList(Place::Second),
-    Slot::InList(Place::First, Place::Second),
+    Slot::LowList(OperandPosition::Second),
+    Slot::InList(OperandPosition::First, OperandPosition::Second),
 ];
 
 /// The table, handed to another macro: in four parts the first letters of mnemonics, at each letter its mnemonics, those that compilers write most first.
@@ -154,14 +162,14 @@ macro_rules! spellings {
                 [],
                 [
                     b"adds" {
-                        Kind::Three(Sum::Add) => THREE, TWICE_AND_THIRD;
-                        Kind::ThreeNumber(Sum::Add) => amount!(0, 7);
+                        Kind::Three(SumOperation::Add) => THREE, TWICE_AND_THIRD;
+                        Kind::ThreeNumber(SumOperation::Add) => amount!(0, 7);
                         Kind::TwoNumber(ByteOperation::Add) => BYTE_NUMBER, SAME_AND_BYTE;
                     },
                     b"add" {
                         Kind::Add => TWO, SAME_FIRST, SAME_LAST;
-                        Kind::StackAddress => &[FIRST, COMMA, Slot::Sp, COMMA, Slot::Number(Place::Second, 0, 1020, 4)];
-                        Kind::StackMove(Sum::Add) => SP_AGAIN, SP_ALONE;
+                        Kind::StackAddress => &[FIRST, COMMA, Slot::Sp, COMMA, Slot::Number(OperandPosition::Second, 0, 1020, 4)];
+                        Kind::StackMove(SumOperation::Add) => SP_AGAIN, SP_ALONE;
                     },
                     b"ands" { Kind::Two(Operation::And) => TWO, SAME_FIRST, SAME_LAST; },
                     b"asrs" {
@@ -266,12 +274,12 @@ macro_rules! spellings {
                 ],
                 [
                     b"negs" {} also { Kind::Two(Operation::Rsb) => TWO; },
-                    b"nop" { Kind::Hint(Hint::Nop) => &[]; },
+                    b"nop" { Kind::Hint(HintOperation::Nop) => &[]; },
                 ],
                 [b"orrs" { Kind::Two(Operation::Orr) => TWO, SAME_FIRST, SAME_LAST; }],
                 [
-                    b"push" { Kind::Push => &[Slot::StackList(Place::First, 14)]; },
-                    b"pop" { Kind::Pop => &[Slot::StackList(Place::First, 15)]; },
+                    b"push" { Kind::Push => &[Slot::StackList(OperandPosition::First, 14)]; },
+                    b"pop" { Kind::Pop => &[Slot::StackList(OperandPosition::First, 15)]; },
                 ],
                 [],
                 [
@@ -290,8 +298,8 @@ macro_rules! spellings {
                         Kind::Stack(WordAccess::Str) => FROM_SP, AT_SP;
                     },
                     b"subs" {
-                        Kind::Three(Sum::Sub) => THREE, TWICE_AND_THIRD;
-                        Kind::ThreeNumber(Sum::Sub) => amount!(0, 7);
+                        Kind::Three(SumOperation::Sub) => THREE, TWICE_AND_THIRD;
+                        Kind::ThreeNumber(SumOperation::Sub) => amount!(0, 7);
                         Kind::TwoNumber(ByteOperation::Sub) => BYTE_NUMBER, SAME_AND_BYTE;
                     },
                     b"strh" {
@@ -302,14 +310,14 @@ macro_rules! spellings {
                         Kind::Indexed(Access::Strb) => INDEXED;
                         Kind::Offset(OffsetAccess::Strb) => with_offset!(31, 1), WITHOUT_OFFSET;
                     },
-                    b"sub" { Kind::StackMove(Sum::Sub) => SP_AGAIN, SP_ALONE; },
+                    b"sub" { Kind::StackMove(SumOperation::Sub) => SP_AGAIN, SP_ALONE; },
                     b"sxth" { Kind::Extend(Extension::Sxth) => TWO; },
                     b"stmia" {} also { Kind::StoreMany => WRITTEN_BACK; },
                     b"sbcs" { Kind::Two(Operation::Sbc) => TWO, SAME_FIRST; },
                     b"sxtb" { Kind::Extend(Extension::Sxtb) => TWO; },
                     b"stm" { Kind::StoreMany => WRITTEN_BACK; },
                     b"svc" { Kind::Service => BYTE_ALONE; },
-                    b"sev" { Kind::Hint(Hint::Sev) => &[]; },
+                    b"sev" { Kind::Hint(HintOperation::Sev) => &[]; },
                 ],
                 [b"tst" { Kind::Two(Operation::Tst) => TWO; }],
                 [
@@ -318,11 +326,11 @@ macro_rules! spellings {
                 ],
                 [],
                 [
-                    b"wfe" { Kind::Hint(Hint::Wfe) => &[]; },
-                    b"wfi" { Kind::Hint(Hint::Wfi) => &[]; },
+                    b"wfe" { Kind::Hint(HintOperation::Wfe) => &[]; },
+                    b"wfi" { Kind::Hint(HintOperation::Wfi) => &[]; },
                 ],
                 [],
-                [b"yield" { Kind::Hint(Hint::Yield) => &[]; }],
+                [b"yield" { Kind::Hint(HintOperation::Yield) => &[]; }],
                 [],
                 [],
                 [],

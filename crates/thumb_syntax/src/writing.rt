@@ -1,7 +1,7 @@
 //! The canonical text of an instruction.
 ghost use Rattle.std.specs.Prelude.{◌≡◌, ◌++◌, ◌∷◌, [], OnOk, IfOk};
 ghost use Rattle.std.specs.Fmt.{decimal};
-ghost use Rattle.thumb_syntax.specs.FieldViews.{held, label_of};
+ghost use Rattle.thumb_syntax.specs.FieldViews.{fields_view, label_of};
 ghost use Rattle.thumb_syntax.specs.ParsedView.{shown};
 ghost use Rattle.std.specs.Prelude.{option_map};
 ghost use Rattle.thumb_syntax.specs.Spelling.{register_text, number_text, mark_text, has_bit, member_text, separator, members, list_text, sum_text, label_text, label_sum_text, slot_text, slots_text, operands_text, text_of};
@@ -145,7 +145,7 @@ fn write_base(register: u32, out: &mut Vec<u8>) -> Result<(), AllocError>
 }
 
 fn write_slot(slot: &Slot, fields: &Fields<'_>, out: &mut Vec<u8>) -> Result<(), AllocError>
-    ensures { OnOk result (out.new.items ≡ out.old.items ++ slot_text slot.now (held fields.now)) }
+    ensures { OnOk result (out.new.items ≡ out.old.items ++ slot_text slot.now (fields_view fields.now)) }
 {
     match *slot {
         Slot::Register(place) => write_register(at(fields, place), out),
@@ -177,7 +177,7 @@ fn write_slot(slot: &Slot, fields: &Fields<'_>, out: &mut Vec<u8>) -> Result<(),
 }
 
 fn write_slots(slots: &[Slot], fields: &Fields<'_>, out: &mut Vec<u8>) -> Result<(), AllocError>
-    ensures { OnOk result (out.new.items ≡ out.old.items ++ slots_text slots.now (held fields.now)) }
+    ensures { OnOk result (out.new.items ≡ out.old.items ++ slots_text slots.now (fields_view fields.now)) }
 {
     match slots.split_first() {
         None => Ok(()),
@@ -189,7 +189,7 @@ fn write_slots(slots: &[Slot], fields: &Fields<'_>, out: &mut Vec<u8>) -> Result
 }
 
 fn write_operands(slots: &[Slot], fields: &Fields<'_>, out: &mut Vec<u8>) -> Result<(), AllocError>
-    ensures { OnOk result (out.new.items ≡ out.old.items ++ operands_text slots.now (held fields.now)) }
+    ensures { OnOk result (out.new.items ≡ out.old.items ++ operands_text slots.now (fields_view fields.now)) }
 {
     match slots.split_first() {
         None => Ok(()),

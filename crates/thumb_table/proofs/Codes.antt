@@ -8,8 +8,8 @@ use Rattle.thumb_instr.specs.Parts.{parts_of}
 use Rattle.thumb_instr.proofs.PartLemmas.{same_fields, same_parts}
 use Rattle.thumb_table.specs.declared.row.Code.{Code}
 use Rattle.thumb_table.specs.declared.row.Code.TheVariants as code
-use Rattle.thumb_table.specs.declared.row.Operand.{Operand}
-use Rattle.thumb_table.specs.declared.row.Operand.TheVariants as operand
+use Rattle.thumb_table.specs.declared.row.OperandPosition.{OperandPosition}
+use Rattle.thumb_table.specs.declared.row.OperandPosition.TheVariants as position
 use Rattle.thumb_table.specs.Table.{width, number, packed, pieces, row_of, whole, Encodes}
 use Rattle.thumb_table.specs.ReadBits.{agrees, read_on}
 use Rattle.thumb_table.specs.Kinds.{kinds_at}
@@ -21,14 +21,14 @@ use Rattle.thumb_table.proofs.Reading.{fit, read_is}
 encoded_agrees : (i : Instr) (a b : ℕ) → Encodes i a b → agrees (row_of i) (whole (row_of i) a b) ≡ true
 encoded_agrees i a b e = subst (λ (n : ℕ). agrees (row_of i) n ≡ true) e.is (packed_agrees (row_of i) (parts_of i) (narrow (parts_of i).kind) (fit i))
 
-encoded_number : (i : Instr) (a b : ℕ) (k : Kind) (o : Operand) → (parts_of i).kind ≡ k → Encodes i a b → number o (parts_of i) ≡ read_on o (pieces k) (whole (pieces k) a b) 0
+encoded_number : (i : Instr) (a b : ℕ) (k : Kind) (o : OperandPosition) → (parts_of i).kind ≡ k → Encodes i a b → number o (parts_of i) ≡ read_on o (pieces k) (whole (pieces k) a b) 0
 encoded_number i a b k o e d =
     sym (read_is i o) ∙ (ap (λ (n : ℕ). read_on o (row_of i) n 0) d.is ∙ ap (λ (x : Kind). read_on o (pieces x) (whole (pieces x) a b) 0) e)
 
 -- an instruction of the row that has the halfwords has what they tell
 encoded_parts : (i : Instr) (a b : ℕ) (k : Kind) → (parts_of i).kind ≡ k → Encodes i a b → parts_of i ≡ read_parts k (whole (pieces k) a b)
 encoded_parts i a b k e d =
-    same_fields (parts_of i) (read_parts k (whole (pieces k) a b)) e (encoded_number i a b k operand.First e d) (encoded_number i a b k operand.Second e d) (encoded_number i a b k operand.Third e d)
+    same_fields (parts_of i) (read_parts k (whole (pieces k) a b)) e (encoded_number i a b k position.First e d) (encoded_number i a b k position.Second e d) (encoded_number i a b k position.Third e d)
 
 -- halfwords are of one instruction at most
 pub one_instr : (i j : Instr) (a b : ℕ) → a < 65536 → b < 65536 → Encodes i a b → Encodes j a b → i ≡ j

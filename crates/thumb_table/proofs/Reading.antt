@@ -18,8 +18,8 @@ use Rattle.thumb_instr.specs.declared.within.Within.{Within}
 use Rattle.thumb_instr.specs.declared.within.General.{General}
 use Rattle.thumb_instr.specs.Parts.{parts_of}
 use Rattle.thumb_instr.specs.Roles.{roles}
-use Rattle.thumb_table.specs.declared.row.Operand.{Operand}
-use Rattle.thumb_table.specs.declared.row.Operand.TheVariants as operand
+use Rattle.thumb_table.specs.declared.row.OperandPosition.{OperandPosition}
+use Rattle.thumb_table.specs.declared.row.OperandPosition.TheVariants as position
 use Rattle.thumb_table.specs.declared.row.Piece.{Piece}
 use Rattle.thumb_table.specs.Table.{width_of, number, same, pieces, row_of, code_of}
 use Rattle.thumb_table.specs.ReadBits.{is_about, read_on}
@@ -60,12 +60,12 @@ end_of (role.List end) = end
 end_of (role.Distance end) = end
 end_of role.Nothing = 1
 
-abbrev role_of : Operand → Operands → Role
-role_of operand.First r = r.first
-role_of operand.Second r = r.second
-role_of operand.Third r = r.third
+abbrev role_of : OperandPosition → Operands → Role
+role_of position.First r = r.first
+role_of position.Second r = r.second
+role_of position.Third r = r.third
 
-abbrev end_at : Operand → Kind → ℕ
+abbrev end_at : OperandPosition → Kind → ℕ
 end_at o k = end_of (role_of o (roles k))
 
 within : {least end : ℕ} (x : Within least end) → x.number < end
@@ -77,38 +77,38 @@ general x = x.below
 nothing : 0 < 1
 nothing = lit< tt
 
-below : (i : Instr) (o : Operand) → number o (parts_of i) < end_at o (parts_of i).kind
-below (instr.BranchIf c d) operand.First = d.below
-below (instr.Branch d) operand.First = d.below
-below (instr.Call d) operand.First = d.below
-below i operand.First = search (within, general, nothing)
-below (instr.Three s d n m) operand.Second = within n
-below (instr.Three s d n m) operand.Third = within m
-below i operand.Second = search (within, general, nothing)
-below i operand.Third = search (within, general, nothing)
+below : (i : Instr) (o : OperandPosition) → number o (parts_of i) < end_at o (parts_of i).kind
+below (instr.BranchIf c d) position.First = d.below
+below (instr.Branch d) position.First = d.below
+below (instr.Call d) position.First = d.below
+below i position.First = search (within, general, nothing)
+below (instr.Three s d n m) position.Second = within n
+below (instr.Three s d n m) position.Third = within m
+below i position.Second = search (within, general, nothing)
+below i position.Third = search (within, general, nothing)
 
 -- ---- its row tells it ----
 
 -- the numbers that a row has otherwise than by its bits in order
-abbrev is_odd : Kind → Operand → Bool
-is_odd (kind.ShiftRight s) operand.Third = true
-is_odd kind.Call operand.First = true
+abbrev is_odd : Kind → OperandPosition → Bool
+is_odd (kind.ShiftRight s) position.Third = true
+is_odd kind.Call position.First = true
 is_odd k o = false
 
-abbrev breadth : Operand → List Piece → ℕ
+abbrev breadth : OperandPosition → List Piece → ℕ
 breadth o [] = 0
 breadth o (p ∷ ps) = if is_about o p then width_of p + breadth o ps else breadth o ps
 
-abbrev is_told : Operand → Kind → Bool
+abbrev is_told : OperandPosition → Kind → Bool
 is_told o k = is_odd k o || (spans o (pieces k) (breadth o (pieces k)) && nat_le (end_at o k) (2 ^ breadth o (pieces k)))
 
-all_told : (o : Operand) → are_all (is_told o) kinds ≡ true
+all_told : (o : OperandPosition) → are_all (is_told o) kinds ≡ true
 unfolding kinds pieces spans
-all_told operand.First = refl
-all_told operand.Second = refl
-all_told operand.Third = refl
+all_told position.First = refl
+all_told position.Second = refl
+all_told position.Third = refl
 
-plain : (k : Kind) (o : Operand) (m : Parts) → is_odd k o ≡ false → number o m < end_at o k → gathered o (pieces k) m 0 ≡ number o m
+plain : (k : Kind) (o : OperandPosition) (m : Parts) → is_odd k o ≡ false → number o m < end_at o k → gathered o (pieces k) m 0 ≡ number o m
 plain k o m h l =
     let b = breadth o (pieces k) in
     elim (or_cases (is_odd k o) (spans o (pieces k) b && nat_le (end_at o k) (2 ^ b)) (every (is_told o) (all_told o) k)) [
@@ -146,12 +146,12 @@ call_again : (v : ℕ) → v < 2 ^ 24 → half_of (v / 8388608 % 2) (v / 2048 % 
 call_again v l =
     half_is (v / 8388608 % 2) (v / 2048 % 1024) (v / 4194304 % 2) (v / 2097152 % 2) (v / 1 % 2048) (omega arith) (omega arith) (omega arith) (omega arith) (omega arith) ∙ omega arith
 
-gathers : (i : Instr) (o : Operand) → gathered o (row_of i) (parts_of i) 0 ≡ number o (parts_of i)
+gathers : (i : Instr) (o : OperandPosition) → gathered o (row_of i) (parts_of i) 0 ≡ number o (parts_of i)
 unfolding pieces gathered
-gathers (instr.ShiftRight right.Lsr d m i) operand.Third = amount_is i.number i.least i.below
-gathers (instr.ShiftRight right.Asr d m i) operand.Third = amount_is i.number i.least i.below
-gathers (instr.Call d) operand.First = call_again d.field (let l : d.field < 2 * 8388608 = d.below in omega arith)
+gathers (instr.ShiftRight right.Lsr d m i) position.Third = amount_is i.number i.least i.below
+gathers (instr.ShiftRight right.Asr d m i) position.Third = amount_is i.number i.least i.below
+gathers (instr.Call d) position.First = call_again d.field (let l : d.field < 2 * 8388608 = d.below in omega arith)
 gathers i o = plain (parts_of i).kind o (parts_of i) refl (below i o)
 
-pub read_is : (i : Instr) (o : Operand) → read_on o (row_of i) (code_of i) 0 ≡ number o (parts_of i)
+pub read_is : (i : Instr) (o : OperandPosition) → read_on o (row_of i) (code_of i) 0 ≡ number o (parts_of i)
 read_is i o = read_packed o (row_of i) (parts_of i) 0 (narrow (parts_of i).kind) ∙ gathers i o

@@ -6,8 +6,8 @@ use Rattle.std.proofs.Math.Nat.{mod-lt, pow-le-pow_right, div-lt_iff_lt-mul}
 use Rattle.std.proofs.lemmas.Nat.{pow_pos, pow-add, shr-shr, mod-pow-add}
 use Rattle.std.proofs.lemmas.Bool.{and_parts, and_from, or_cases, leb-true, le-leb, ltb-true, cases_Bool}
 use Rattle.thumb_instr.specs.declared.kind.Parts.{Parts}
-use Rattle.thumb_table.specs.declared.row.Operand.{Operand}
-use Rattle.thumb_table.specs.declared.row.Operand.TheVariants as operand
+use Rattle.thumb_table.specs.declared.row.OperandPosition.{OperandPosition}
+use Rattle.thumb_table.specs.declared.row.OperandPosition.TheVariants as position
 use Rattle.thumb_table.specs.declared.row.Piece.{Piece}
 use Rattle.thumb_table.specs.declared.row.Piece.TheVariants.{Fixed, Bits, Amount, Same}
 use Rattle.thumb_table.specs.Table.{width_of, width, number, same, value_of, packed}
@@ -78,11 +78,11 @@ free_fits (Same o a b ∷ ps) m f = free_fits ps m f
 -- ---- what is read of a row ----
 
 -- what a row's pieces tell of an instruction that they hold
-unfoldable pub gathered : Operand → List Piece → Parts → ℕ → ℕ
+unfoldable pub gathered : OperandPosition → List Piece → Parts → ℕ → ℕ
 gathered o [] m n = n
 gathered o (p ∷ ps) m n = gathered o ps m (if is_about o p then told p (value_of p m) n else n)
 
-pub read_packed : (o : Operand) (ps : List Piece) (m : Parts) (n : ℕ) → are_narrow ps ≡ true → read_on o ps (packed ps m) n ≡ gathered o ps m n
+pub read_packed : (o : OperandPosition) (ps : List Piece) (m : Parts) (n : ℕ) → are_narrow ps ≡ true → read_on o ps (packed ps m) n ≡ gathered o ps m n
 unfolding are_narrow packed read_on gathered
 read_packed o [] m n k = refl
 read_packed o (p ∷ ps) m n k =
@@ -97,7 +97,7 @@ pub record Cut (ps : List Piece) (i : ℕ) (p : Piece) : Type 0 where
   pub wide : width (drop i ps) ≡ width_of p + width (drop (i + 1) ps)
   pub most : most (drop i ps) ≡ most_of p + most (drop (i + 1) ps)
   pub narrow : are_narrow (drop i ps) ≡ true → (is_narrow p ≡ true) × (are_narrow (drop (i + 1) ps) ≡ true)
-  pub read : (o : Operand) (c n : ℕ) → read_on o (drop i ps) c n ≡ read_on o (drop (i + 1) ps) (c % 2 ^ width (drop (i + 1) ps)) (if is_about o p then told p (c / 2 ^ width (drop (i + 1) ps)) n else n)
+  pub read : (o : OperandPosition) (c n : ℕ) → read_on o (drop i ps) c n ≡ read_on o (drop (i + 1) ps) (c % 2 ^ width (drop (i + 1) ps)) (if is_about o p then told p (c / 2 ^ width (drop (i + 1) ps)) n else n)
 
 pub cut_at : (ps : List Piece) (i : ℕ) → i < length ps → Cut ps i (get_or ps i (Fixed 0 0))
 unfolding are_narrow read_on
@@ -112,20 +112,20 @@ cut_at ps i h =
     }
 
 -- the bits that pieces tell of a register or number are the last ones, each once and from the highest
-unfoldable pub spans : Operand → List Piece → ℕ → Bool
+unfoldable pub spans : OperandPosition → List Piece → ℕ → Bool
 spans o [] n = n == 0
 spans o (Fixed w x ∷ ps) n = spans o ps n
 spans o (Bits w p from least ∷ ps) n = if is_operand o p then (n == from + w) && spans o ps from else spans o ps n
 spans o (Amount w p ∷ ps) n = not (is_operand o p) && spans o ps n
 spans o (Same p a b ∷ ps) n = not (is_operand o p) && spans o ps n
 
-same_operand : (o p : Operand) → is_operand o p ≡ true → o ≡ p
-same_operand operand.First operand.First e = refl
-same_operand operand.Second operand.Second e = refl
-same_operand operand.Third operand.Third e = refl
+same_operand : (o p : OperandPosition) → is_operand o p ≡ true → o ≡ p
+same_operand position.First position.First e = refl
+same_operand position.Second position.Second e = refl
+same_operand position.Third position.Third e = refl
 same_operand o p e = absurd (true≢false (sym e))
 
-pub spanned : (o : Operand) (ps : List Piece) (m : Parts) (k n : ℕ) → spans o ps k ≡ true → gathered o ps m n ≡ n + number o m % 2 ^ k
+pub spanned : (o : OperandPosition) (ps : List Piece) (m : Parts) (k n : ℕ) → spans o ps k ≡ true → gathered o ps m n ≡ n + number o m % 2 ^ k
 unfolding spans gathered
 spanned o [] m k n s = let e : k ≡ 0 = eqb-true k 0 s in rw e (omega arith)
 spanned o (Fixed w x ∷ ps) m k n s = spanned o ps m k n s
@@ -135,7 +135,7 @@ spanned o (Bits w p from least ∷ ps) m k n s = elim (cases_Bool (is_operand o 
       let parts = and_parts (k == from + w) (spans o ps from) both in
       let long : k ≡ w + from = (let h = eqb-true k (from + w) parts.0 in omega arith) in
       let is : o ≡ p = same_operand o p e in
-      let here : number p m ≡ number o m = ap (λ (x : Operand). number x m) (sym is) in
+      let here : number p m ≡ number o m = ap (λ (x : OperandPosition). number x m) (sym is) in
       let more = spanned o ps m from (n + number o m / 2 ^ from % 2 ^ w * 2 ^ from) parts.1 in
       let cut : number o m % 2 ^ (w + from) ≡ (number o m / 2 ^ from % 2 ^ w) * 2 ^ from + number o m % 2 ^ from = mod-pow-add (number o m) w from in
       rw (e, here, more, long) (omega (arith, cut)))
@@ -164,7 +164,7 @@ disjoint p q = false
 
 -- so many bits that are free
 abbrev free : ℕ → Piece
-free w = Bits w operand.First 0 0
+free w = Bits w position.First 0 0
 
 -- a row that has the same numbers or more, with its first w bits as a piece of their own
 abbrev cut : ℕ → Piece → List Piece → List Piece

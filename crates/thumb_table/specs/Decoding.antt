@@ -1,7 +1,7 @@
 -- What is read from halfwords: the codes of instructions, and those of a row.
 use Rattle.std.specs.Prelude.{ℕ, ◌+◌, ◌*◌, ◌/◌, ◌^◌, ◌==◌, Bool, true, nat_lt, List, ◌∷◌, ◌≡◌, ◌-◌, ◌<◌, ◌||◌}
 use Rattle.thumb_instr.specs.declared.kind.Parts.{Parts}
-use Rattle.thumb_table.specs.declared.row.Operand.TheVariants as operand
+use Rattle.thumb_table.specs.declared.row.OperandPosition.TheVariants as position
 use Rattle.thumb_table.specs.declared.row.Piece.{Piece}
 use Rattle.thumb_table.specs.declared.row.Piece.TheVariants.{Fixed}
 use Rattle.thumb_instr.specs.declared.instr.Instr.{Instr}
@@ -42,7 +42,7 @@ begins_with ps a = true
 
 -- what a code tells of a kind's registers and numbers
 abbrev pub read_parts : Kind → ℕ → Parts
-read_parts k c = of k (read_on operand.First (pieces k) c 0) (read_on operand.Second (pieces k) c 0) (read_on operand.Third (pieces k) c 0)
+read_parts k c = of k (read_on position.First (pieces k) c 0) (read_on position.Second (pieces k) c 0) (read_on position.Third (pieces k) c 0)
 
 -- no instruction of the row has the halfwords
 abbrev pub IsNotOf : Kind → ℕ → ℕ → Type 0

@@ -3,7 +3,7 @@ use Rattle.std.specs.Prelude.{ℕ, List, [], ◌∷◌, slice_index_or}
 use Rattle.thumb_instr.specs.declared.kind.Kind.{Kind}
 use Rattle.thumb_instr.specs.declared.kind.Kind.TheVariants as kind
 use Rattle.thumb_instr.specs.declared.operation.Right.TheVariants as right
-use Rattle.thumb_instr.specs.declared.operation.Sum.TheVariants as sum
+use Rattle.thumb_instr.specs.declared.operation.SumOperation.TheVariants as sum
 use Rattle.thumb_instr.specs.declared.operation.ByteOperation.TheVariants as byte
 use Rattle.thumb_instr.specs.declared.operation.Operation.TheVariants as operation
 use Rattle.thumb_instr.specs.declared.operation.Access.TheVariants as access
@@ -12,7 +12,7 @@ use Rattle.thumb_instr.specs.declared.operation.WordAccess.TheVariants as word
 use Rattle.thumb_instr.specs.declared.operation.Extension.TheVariants as extension
 use Rattle.thumb_instr.specs.declared.operation.Interrupts.TheVariants as interrupts
 use Rattle.thumb_instr.specs.declared.operation.Reversal.TheVariants as reversal
-use Rattle.thumb_instr.specs.declared.operation.Hint.TheVariants as hint
+use Rattle.thumb_instr.specs.declared.operation.HintOperation.TheVariants as hint
 use Rattle.thumb_instr.specs.declared.operation.Condition.TheVariants as condition
 use Rattle.thumb_instr.specs.declared.operation.Barrier.TheVariants as barrier
 use Rattle.thumb_instr.specs.declared.operation.Special.TheVariants as special

@@ -1,8 +1,8 @@
 -- The numbers that have a row's bits, and what they tell of an instruction's registers and numbers.
 use Rattle.thumb_table.specs.Table.{width, same}
 use Rattle.std.specs.Prelude.{ℕ, ◌+◌, ◌*◌, ◌/◌, ◌%◌, ◌^◌, ◌==◌, ◌&&◌, Bool, true, false, nat_le, nat_lt, List, [], ◌∷◌, if◌then◌else◌}
-use Rattle.thumb_table.specs.declared.row.Operand.{Operand}
-use Rattle.thumb_table.specs.declared.row.Operand.TheVariants as operand
+use Rattle.thumb_table.specs.declared.row.OperandPosition.{OperandPosition}
+use Rattle.thumb_table.specs.declared.row.OperandPosition.TheVariants as position
 use Rattle.thumb_table.specs.declared.row.Piece.{Piece}
 use Rattle.thumb_table.specs.declared.row.Piece.TheVariants.{Fixed, Bits, Amount, Same}
 
@@ -19,10 +19,10 @@ agrees (p ∷ ps) c = holds p (c / 2 ^ width ps) && agrees ps (c % 2 ^ width ps)
 
 -- ---- reading ----
 
-abbrev pub is_operand : Operand → Operand → Bool
-is_operand operand.First operand.First = true
-is_operand operand.Second operand.Second = true
-is_operand operand.Third operand.Third = true
+abbrev pub is_operand : OperandPosition → OperandPosition → Bool
+is_operand position.First position.First = true
+is_operand position.Second position.Second = true
+is_operand position.Third position.Third = true
 is_operand o p = false
 
 -- what a piece that holds v tells of a register or number, of which n is known
@@ -33,14 +33,14 @@ told (Amount w o) v n = n + (if v == 0 then 2 ^ w else v)
 told (Same o a b) v n = n + same v (n / 2 ^ b % 2) * 2 ^ a
 
 -- whether a piece tells of a register or number
-abbrev pub is_about : Operand → Piece → Bool
+abbrev pub is_about : OperandPosition → Piece → Bool
 is_about o (Fixed w x) = false
 is_about o (Bits w p from least) = is_operand o p
 is_about o (Amount w p) = is_operand o p
 is_about o (Same p a b) = is_operand o p
 
 -- the register or number that a code tells, of which n is known before its pieces
-unfoldable pub read_on : Operand → List Piece → ℕ → ℕ → ℕ
+unfoldable pub read_on : OperandPosition → List Piece → ℕ → ℕ → ℕ
 read_on o [] c n = n
 read_on o (p ∷ ps) c n = read_on o ps (c % 2 ^ width ps) (if is_about o p then told p (c / 2 ^ width ps) n else n)
 

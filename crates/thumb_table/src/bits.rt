@@ -3,7 +3,7 @@ ghost use Rattle.std.specs.Prelude.{◌≡◌, ◌+◌, ◌%◌, ◌<◌, ◌≤
 ghost use Rattle.thumb_table.specs.Table.{width_of, width, number, same, value_of, packed};
 ghost use Rattle.thumb_table.specs.ReadBits.{holds, agrees, is_operand, is_about, told, read_on, is_narrow, are_narrow, most_of, most};
 
-use crate::row::{Operand, Piece};
+use crate::row::{OperandPosition, Piece};
 use thumb_instr::Parts;
 
 /// How many bits a piece has.
@@ -70,13 +70,13 @@ pub fn agrees(pieces: &[Piece], wide: u32, code: u32) -> bool
 }
 
 /// A register or number of an instruction.
-fn number(operand: Operand, parts: &Parts) -> u32
+fn number(operand: OperandPosition, parts: &Parts) -> u32
     ensures { result ≡ number operand parts.now }
 {
     match operand {
-        Operand::First => parts.first,
-        Operand::Second => parts.second,
-        Operand::Third => parts.third,
+        OperandPosition::First => parts.first,
+        OperandPosition::Second => parts.second,
+        OperandPosition::Third => parts.third,
     }
 }
 
@@ -124,7 +124,7 @@ pub fn packed(pieces: &[Piece], wide: u32, parts: &Parts) -> u32
 }
 
 /// Whether a piece tells of a register or number.
-fn is_about(operand: Operand, piece: &Piece) -> bool
+fn is_about(operand: OperandPosition, piece: &Piece) -> bool
     ensures { result ≡ is_about operand piece.now }
 {
     match *piece {
@@ -135,19 +135,19 @@ fn is_about(operand: Operand, piece: &Piece) -> bool
     }
 }
 
-fn is_operand(one: Operand, other: Operand) -> bool
+fn is_operand(one: OperandPosition, other: OperandPosition) -> bool
     ensures { result ≡ is_operand one other }
 {
     match (one, other) {
-        (Operand::First, Operand::First) => true,
-        (Operand::Second, Operand::Second) => true,
-        (Operand::Third, Operand::Third) => true,
+        (OperandPosition::First, OperandPosition::First) => true,
+        (OperandPosition::Second, OperandPosition::Second) => true,
+        (OperandPosition::Third, OperandPosition::Third) => true,
         _ => false,
     }
 }
 
 /// What is known of a register or number by a piece that holds this value, of which so much was known before.
-fn told(operand: Operand, piece: &Piece, value: u64, known: u64) -> u64
+fn told(operand: OperandPosition, piece: &Piece, value: u64, known: u64) -> u64
     requires narrow { is_narrow piece.now ≡ true }
     requires value { value < 2 ^ width_of piece.now }
     requires known { known < 2 ^ 32 }
@@ -167,7 +167,7 @@ fn told(operand: Operand, piece: &Piece, value: u64, known: u64) -> u64
 
 /// The register or number that a code tells by a row that is so many bits wide.
 #[tactic(auto, unfolding(crate::specs::ReadBits::read_on, crate::specs::ReadBits::are_narrow))]
-pub fn read(operand: Operand, pieces: &[Piece], wide: u32, code: u32) -> u32
+pub fn read(operand: OperandPosition, pieces: &[Piece], wide: u32, code: u32) -> u32
     requires wide { wide ≡ width pieces.now }
     requires long { wide ≤ 32 }
     requires narrow { are_narrow pieces.now ≡ true }

@@ -5,7 +5,7 @@ ghost use Rattle.thumb_table.specs.Table.{width, packed, pieces, Encodes};
 ghost use Rattle.thumb_table.specs.Decoding.{begins_with, halfwords, whole_of, read_parts, IsCode, IsNoCode, IsNotOf};
 
 use crate::bits::{agrees, packed, read, width};
-use crate::row::{Code, Operand, Piece};
+use crate::row::{Code, OperandPosition, Piece};
 use crate::table::{kinds_at, pieces};
 use thumb_instr::{Instr, Kind, Parts, parts, rebuilt};
 
@@ -64,9 +64,9 @@ fn read_parts(kind: Kind, row: &[Piece], wide: u32, code: u32) -> Parts
 {
     Parts {
         kind,
-        first: read(Operand::First, row, wide, code),
-        second: read(Operand::Second, row, wide, code),
-        third: read(Operand::Third, row, wide, code),
+        first: read(OperandPosition::First, row, wide, code),
+        second: read(OperandPosition::Second, row, wide, code),
+        third: read(OperandPosition::Third, row, wide, code),
     }
 }
 

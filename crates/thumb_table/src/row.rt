@@ -2,7 +2,7 @@
 
 /// Which register or number of an instruction, in the order of its text.
 #[derive(Clone, Copy, Debug)]
-pub enum Operand {
+pub enum OperandPosition {
     First,
     Second,
     Third,
@@ -14,11 +14,11 @@ pub enum Piece {
     /// How many bits, and the number that they make.
     Fixed(u32, u32),
     /// How many bits of which number, from which of its bits on, and the least that they make.
-    Bits(u32, Operand, u32, u32),
+    Bits(u32, OperandPosition, u32, u32),
     /// How many bits of which number, from its lowest on, where they make 0 for the number that has one bit more.
-    Amount(u32, Operand),
+    Amount(u32, OperandPosition),
     /// Of which number, which of its bits as 1 where it equals which other one.
-    Same(Operand, u32, u32),
+    Same(OperandPosition, u32, u32),
 }
 
 /// A code: one or two halfwords, the first of which stands at the lower address.

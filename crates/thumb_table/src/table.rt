@@ -3,11 +3,11 @@ ghost use Rattle.std.specs.Prelude.{◌≡◌, ◌<◌};
 ghost use Rattle.thumb_table.specs.Table.{pieces};
 ghost use Rattle.thumb_table.specs.Kinds.{kinds_at};
 
-use crate::row::Operand::{First, Second, Third};
+use crate::row::OperandPosition::{First, Second, Third};
 use crate::row::Piece::{self, Amount, Bits, Fixed, Same};
 use thumb_instr::{
-    Access, Barrier, ByteOperation, Condition, Extension, Hint, Interrupts, Kind, OffsetAccess,
-    Operation, Reversal, Right, Special, Sum, WordAccess,
+    Access, Barrier, ByteOperation, Condition, Extension, HintOperation, Interrupts, Kind,
+    OffsetAccess, Operation, Reversal, Right, Special, SumOperation, WordAccess,
 };
 
 /// A low register that is the first of its instruction's text.
@@ -32,10 +32,10 @@ pub fn kinds_at(upper: u32) -> &'static [Kind]
         0 => &[Kind::Movs, Kind::ShiftLeft, Kind::ShiftRight(Right::Lsr)],
         1 => &[
             Kind::ShiftRight(Right::Asr),
-            Kind::Three(Sum::Add),
-            Kind::Three(Sum::Sub),
-            Kind::ThreeNumber(Sum::Add),
-            Kind::ThreeNumber(Sum::Sub),
+            Kind::Three(SumOperation::Add),
+            Kind::Three(SumOperation::Sub),
+            Kind::ThreeNumber(SumOperation::Add),
+            Kind::ThreeNumber(SumOperation::Sub),
         ],
         2 => &[
             Kind::TwoNumber(ByteOperation::Mov),
@@ -94,8 +94,8 @@ pub fn kinds_at(upper: u32) -> &'static [Kind]
         9 => &[Kind::Stack(WordAccess::Str), Kind::Stack(WordAccess::Ldr)],
         10 => &[Kind::Address, Kind::StackAddress],
         11 => &[
-            Kind::StackMove(Sum::Add),
-            Kind::StackMove(Sum::Sub),
+            Kind::StackMove(SumOperation::Add),
+            Kind::StackMove(SumOperation::Sub),
             Kind::Extend(Extension::Sxth),
             Kind::Extend(Extension::Sxtb),
             Kind::Extend(Extension::Uxth),
@@ -108,11 +108,11 @@ pub fn kinds_at(upper: u32) -> &'static [Kind]
             Kind::Reverse(Reversal::Revsh),
             Kind::Pop,
             Kind::Breakpoint,
-            Kind::Hint(Hint::Nop),
-            Kind::Hint(Hint::Yield),
-            Kind::Hint(Hint::Wfe),
-            Kind::Hint(Hint::Wfi),
-            Kind::Hint(Hint::Sev),
+            Kind::Hint(HintOperation::Nop),
+            Kind::Hint(HintOperation::Yield),
+            Kind::Hint(HintOperation::Wfe),
+            Kind::Hint(HintOperation::Wfi),
+            Kind::Hint(HintOperation::Sev),
         ],
         12 => &[Kind::StoreMany, Kind::LoadMany],
         13 => &[
@@ -155,10 +155,10 @@ pub fn pieces(kind: Kind) -> &'static [Piece]
         Kind::ShiftLeft => &[Fixed(5, 0b00000), Bits(5, Third, 0, 1), SECOND, FIRST],
         Kind::ShiftRight(Right::Lsr) => &[Fixed(5, 0b00001), Amount(5, Third), SECOND, FIRST],
         Kind::ShiftRight(Right::Asr) => &[Fixed(5, 0b00010), Amount(5, Third), SECOND, FIRST],
-        Kind::Three(Sum::Add) => &[Fixed(7, 0b000110_0), THIRD, SECOND, FIRST],
-        Kind::Three(Sum::Sub) => &[Fixed(7, 0b000110_1), THIRD, SECOND, FIRST],
-        Kind::ThreeNumber(Sum::Add) => &[Fixed(7, 0b000111_0), THIRD, SECOND, FIRST],
-        Kind::ThreeNumber(Sum::Sub) => &[Fixed(7, 0b000111_1), THIRD, SECOND, FIRST],
+        Kind::Three(SumOperation::Add) => &[Fixed(7, 0b000110_0), THIRD, SECOND, FIRST],
+        Kind::Three(SumOperation::Sub) => &[Fixed(7, 0b000110_1), THIRD, SECOND, FIRST],
+        Kind::ThreeNumber(SumOperation::Add) => &[Fixed(7, 0b000111_0), THIRD, SECOND, FIRST],
+        Kind::ThreeNumber(SumOperation::Sub) => &[Fixed(7, 0b000111_1), THIRD, SECOND, FIRST],
         Kind::TwoNumber(ByteOperation::Mov) => &[Fixed(5, 0b00100), FIRST, Bits(8, Second, 0, 0)],
         Kind::TwoNumber(ByteOperation::Cmp) => &[Fixed(5, 0b00101), FIRST, Bits(8, Second, 0, 0)],
         Kind::TwoNumber(ByteOperation::Add) => &[Fixed(5, 0b00110), FIRST, Bits(8, Second, 0, 0)],
@@ -233,8 +233,8 @@ pub fn pieces(kind: Kind) -> &'static [Piece]
         Kind::Stack(WordAccess::Ldr) => &[Fixed(5, 0b10011), FIRST, Bits(8, Second, 0, 0)],
         Kind::Address => &[Fixed(5, 0b10100), FIRST, Bits(8, Second, 0, 0)],
         Kind::StackAddress => &[Fixed(5, 0b10101), FIRST, Bits(8, Second, 0, 0)],
-        Kind::StackMove(Sum::Add) => &[Fixed(9, 0b10110000_0), Bits(7, First, 0, 0)],
-        Kind::StackMove(Sum::Sub) => &[Fixed(9, 0b10110000_1), Bits(7, First, 0, 0)],
+        Kind::StackMove(SumOperation::Add) => &[Fixed(9, 0b10110000_0), Bits(7, First, 0, 0)],
+        Kind::StackMove(SumOperation::Sub) => &[Fixed(9, 0b10110000_1), Bits(7, First, 0, 0)],
         Kind::Extend(Extension::Sxth) => &[Fixed(10, 0b10110010_00), SECOND, FIRST],
         Kind::Extend(Extension::Sxtb) => &[Fixed(10, 0b10110010_01), SECOND, FIRST],
         Kind::Extend(Extension::Uxth) => &[Fixed(10, 0b10110010_10), SECOND, FIRST],
@@ -247,11 +247,11 @@ pub fn pieces(kind: Kind) -> &'static [Piece]
         Kind::Reverse(Reversal::Revsh) => &[Fixed(10, 0b10111010_11), SECOND, FIRST],
         Kind::Pop => &[Fixed(7, 0b1011110), Bits(9, First, 0, 0)],
         Kind::Breakpoint => &[Fixed(8, 0b10111110), Bits(8, First, 0, 0)],
-        Kind::Hint(Hint::Nop) => &[Fixed(16, 0b10111111_0000_0000)],
-        Kind::Hint(Hint::Yield) => &[Fixed(16, 0b10111111_0001_0000)],
-        Kind::Hint(Hint::Wfe) => &[Fixed(16, 0b10111111_0010_0000)],
-        Kind::Hint(Hint::Wfi) => &[Fixed(16, 0b10111111_0011_0000)],
-        Kind::Hint(Hint::Sev) => &[Fixed(16, 0b10111111_0100_0000)],
+        Kind::Hint(HintOperation::Nop) => &[Fixed(16, 0b10111111_0000_0000)],
+        Kind::Hint(HintOperation::Yield) => &[Fixed(16, 0b10111111_0001_0000)],
+        Kind::Hint(HintOperation::Wfe) => &[Fixed(16, 0b10111111_0010_0000)],
+        Kind::Hint(HintOperation::Wfi) => &[Fixed(16, 0b10111111_0011_0000)],
+        Kind::Hint(HintOperation::Sev) => &[Fixed(16, 0b10111111_0100_0000)],
         Kind::StoreMany => &[Fixed(5, 0b11000), FIRST, Bits(8, Second, 0, 0)],
         Kind::LoadMany => &[Fixed(5, 0b11001), FIRST, Bits(8, Second, 0, 0)],
         Kind::BranchIf(Condition::Eq) => &[Fixed(8, 0b1101_0000), Bits(8, First, 0, 0)],

@@ -2,7 +2,7 @@
 ghost use Rattle.std.specs.Prelude.{◌≡◌, ◌≢◌, ℕ, ◌+◌, ◌-◌, ◌<◌, ◌≤◌, ◌⊎◌, List, [], ◌∷◌, ◌++◌, length, take, Contains, All, Any, IfOk, OnOk, IfSome, slice_get, Option, Some, None, true, false};
 ghost use Rattle.clause_model.specs.Clauses.{negated, IsFalse, AllFalse};
 ghost use Rattle.clause_arena.specs.Contents.{HasClause, HasLiteral, Watches, IsWhole, literals_of, IsBetween, IsAfter};
-ghost use Rattle.unit_propagation.specs.declared.watching.Outcome.TheVariants.{Kept, Moved, Conflict};
+ghost use Rattle.unit_propagation.specs.declared.watching.WatchOutcome.TheVariants.{Kept, Moved, Conflict};
 ghost use Rattle.unit_propagation.specs.Watching.{IsAttached, IsKnown, IsOtherTrue, Rule, RuleUpTo, IsLater, IsMoved};
 
 use clause_arena::{Arena, Memory, Ref};
@@ -23,7 +23,7 @@ fn other_of(arena: &Arena, at: Ref, slot: u8) -> u32
 }
 
 /// What comes of a watch whose literal has become false.
-enum Outcome {
+enum WatchOutcome {
     /// It stays, and the other watched literal is true.
     Kept,
     /// Its slot watches another literal.
@@ -74,7 +74,7 @@ fn visit(
     falsified: u32,
     before: Option<(Ref, u8)>,
     watch: (Ref, u8),
-) -> Result<Outcome, Memory>
+) -> Result<WatchOutcome, Memory>
     requires whole { IsWhole arena.old }
     requires aligned { length reasons.old.items ≡ length assignment.old }
     requires attached { IsAttached arena.old }
@@ -91,22 +91,22 @@ fn visit(
     let other = other_of(arena, at, slot);
     let literal = Literal::from_code(other);
     if assignment.is_true(literal) {
-        return Ok(Outcome::Kept);
+        return Ok(WatchOutcome::Kept);
     }
     match find_free(arena.lits(at), other, assignment) {
         Some(free) => {
             let _trues = assignment.len();
             arena.move_watch(before, at, slot, free);
             let _literals = arena.literals();
-            Ok(Outcome::Moved)
+            Ok(WatchOutcome::Moved)
         }
         None => {
             if assignment.is_true(literal.negated()) {
-                return Ok(Outcome::Conflict);
+                return Ok(WatchOutcome::Conflict);
             }
             assignment.set(literal)?;
             reasons.push(Some(at))?;
-            Ok(Outcome::Kept)
+            Ok(WatchOutcome::Kept)
         }
     }
 }
@@ -136,9 +136,9 @@ fn walk(
         let last = before;
         next = following(arena, (at, slot));
         match visit(arena, assignment, reasons, falsified, last, (at, slot))? {
-            Outcome::Kept => before = Some((at, slot)),
-            Outcome::Moved => (),
-            Outcome::Conflict => return Ok(Some(at)),
+            WatchOutcome::Kept => before = Some((at, slot)),
+            WatchOutcome::Moved => (),
+            WatchOutcome::Conflict => return Ok(Some(at)),
         }
     }
     Ok(None)

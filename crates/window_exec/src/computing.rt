@@ -7,7 +7,7 @@ ghost use Rattle.window_exec.specs.Computes.{computes};
 
 use crate::register_file::RegisterFile;
 use crate::words::Word;
-use thumb_instr::{ByteOperation, Extension, Instr, Operation, Reversal, Right, Sum};
+use thumb_instr::{ByteOperation, Extension, Instr, Operation, Reversal, Right, SumOperation};
 use word_bits::Shift;
 
 /// What a register holds after a word was written to it: the two low bits of sp, which is register 13, stay zero.
@@ -113,7 +113,7 @@ pub fn compute<F: RegisterFile>(file: &mut F, instr: &Instr)
         Instr::Add { registers } => {
             let x = file.register(registers.target.number);
             let y = file.register(registers.source.number);
-            let word = total(Sum::Add, x, y);
+            let word = total(SumOperation::Add, x, y);
             file.set_register(
                 registers.target.number,
                 written(registers.target.number, word),
@@ -122,7 +122,7 @@ pub fn compute<F: RegisterFile>(file: &mut F, instr: &Instr)
         Instr::Compare { registers } => {
             let x = file.register(registers.left.number);
             let y = file.register(registers.right.number);
-            file.set_sum_flags(three(Sum::Sub, x, y));
+            file.set_sum_flags(three(SumOperation::Sub, x, y));
         }
         Instr::Extend {
             extension,
@@ -176,18 +176,18 @@ fn set_sum<F: RegisterFile>(file: &mut F, target: u32, sum: <F::Value as Word>::
 
 /// A sum or a difference of two values.
 #[inline(always)]
-fn three<W: Word>(sum: Sum, x: W, y: W) -> W::Sum
+fn three<W: Word>(sum: SumOperation, x: W, y: W) -> W::Sum
     ensures { (i : ℕ) → W.sum_in result i ≡ three_sum sum (W.number x i) (W.number y i) }
 {
     match sum {
-        Sum::Add => x.add_with_carry(y, W::flag(false)),
-        Sum::Sub => x.add_with_carry(y.not(), W::flag(true)),
+        SumOperation::Add => x.add_with_carry(y, W::flag(false)),
+        SumOperation::Sub => x.add_with_carry(y.not(), W::flag(true)),
     }
 }
 
 /// The low 32 bits of a sum or a difference.
 #[inline(always)]
-pub fn total<W: Word>(sum: Sum, x: W, y: W) -> W
+pub fn total<W: Word>(sum: SumOperation, x: W, y: W) -> W
     ensures { (i : ℕ) → W.number result i ≡ (three_sum sum (W.number x i) (W.number y i)).value }
 {
     W::sum_value(three(sum, x, y))
@@ -254,8 +254,8 @@ fn two<F: RegisterFile>(file: &mut F, operation: Operation, target: u32, x: F::V
                 .add_with_carry(F::Value::same(0), F::Value::flag(true));
             set_sum(file, target, sum);
         }
-        Operation::Cmp => file.set_sum_flags(three(Sum::Sub, x, y)),
-        Operation::Cmn => file.set_sum_flags(three(Sum::Add, x, y)),
+        Operation::Cmp => file.set_sum_flags(three(SumOperation::Sub, x, y)),
+        Operation::Cmn => file.set_sum_flags(three(SumOperation::Add, x, y)),
         Operation::Orr => set_result(file, target, x.or(y)),
         Operation::Mul => set_result(file, target, y.multiplied(x)),
         Operation::Bic => set_result(file, target, x.and(y.not())),
@@ -277,8 +277,8 @@ fn byte<F: RegisterFile>(
 {
     match operation {
         ByteOperation::Mov => set_result(file, target, number),
-        ByteOperation::Cmp => file.set_sum_flags(three(Sum::Sub, x, number)),
-        ByteOperation::Add => set_sum(file, target, three(Sum::Add, x, number)),
-        ByteOperation::Sub => set_sum(file, target, three(Sum::Sub, x, number)),
+        ByteOperation::Cmp => file.set_sum_flags(three(SumOperation::Sub, x, number)),
+        ByteOperation::Add => set_sum(file, target, three(SumOperation::Add, x, number)),
+        ByteOperation::Sub => set_sum(file, target, three(SumOperation::Sub, x, number)),
     }
 }

@@ -3,7 +3,7 @@ use Rattle.std.proofs.Common.{◌≡◌, ℕ, zero, suc, ◌+◌, ◌<◌, ◌�
 use Rattle.std.specs.Prelude.{slice_get, map, Contains}
 use Rattle.std.proofs.lemmas.Option.{same_Some}
 use Rattle.thumb_instr.specs.declared.instr.Instr.{Instr}
-use Rattle.seq_enum.specs.Alphabet.{numbers_from, held_in, grid2, grid3, rows, members, alphabet, words, sequences_of, sequences, IsOver}
+use Rattle.seq_enum.specs.Alphabet.{numbers_from, those_within, grid2, grid3, rows, members, alphabet, words, sequences_of, sequences, IsOver}
 use Rattle.seq_enum.proofs.Numbered.{flat_map_from, numbers_at}
 use Rattle.seq_enum.proofs.Words.{words_parts}
 use Rattle.window_harvest.proofs.Lists.{In, contains_in, in_contains, in_map, in_lists, Each, each_all, all_each, each_append}
@@ -46,7 +46,7 @@ over_number k pool w h o =
 
 -- no instruction names no register
 pub no_alphabet : (pool : List ℕ) → alphabet 0 pool ≡ []
-unfolding alphabet rows members grid2 grid3 held_in numbers_from
+unfolding alphabet rows members grid2 grid3 those_within numbers_from
 no_alphabet pool = refl
 
 pub over_none : (pool : List ℕ) (w : List Instr) → 0 < length w → IsOver 0 pool w → ⊥

@@ -5,10 +5,10 @@ use Rattle.std.proofs.lemmas.List.{length-map}
 use Rattle.thumb_instr.specs.declared.instr.Instr.{Instr}
 use Rattle.thumb_instr.specs.Items.{has as has_item}
 use Rattle.thumb_instr.specs.Window.{is_in_window, Low}
-use Rattle.thumb_model.specs.Listing.{plain, Line, places_of}
+use Rattle.thumb_model.specs.Listing.{plain, ListingLine, places_of}
 use Rattle.rule_table.specs.Canonical.{IsRenamable, IsCanonical}
 use Rattle.rule_table.proofs.Backs.{windows_normal}
-use Rattle.window_harvest.specs.Harvest.{Pair, Limits, Spot, StandsThere, IsPairAt}
+use Rattle.window_harvest.specs.Harvest.{Pair, Limits, WindowSpan, StandsThere, IsPairAt}
 use Rattle.window_harvest.specs.Keys.{Lies}
 use Rattle.window_harvest.proofs.Once.{windows_back, same_words, canonical_once}
 
@@ -27,18 +27,18 @@ same_test false true P e f = e.1 (f.0 refl)
 same_test false false P e f = refl
 
 -- at a spot stands one window, after which the same items are live
-same_window : (lines : List Line) (spot : Spot) (w v : List Instr) (items others : ℕ) → StandsThere lines spot w items → StandsThere lines spot v others → (v ≡ w) × (others ≡ items)
+same_window : (lines : List ListingLine) (spot : WindowSpan) (w v : List Instr) (items others : ℕ) → StandsThere lines spot w items → StandsThere lines spot v others → (v ≡ w) × (others ≡ items)
 same_window lines spot w v items others a b = (
   plain_same v w (sym b.is_window.stands ∙ ap (λ n. take n (drop spot.place (places_of lines))) (b.as_many ∙ sym a.as_many) ∙ a.is_window.stands),
   same_words others items (λ x. same_test (has_item others x) (has_item items x) _ (b.live x) (a.live x)),
 )
 
 -- a window without a canonical form gives no pair
-pub none_given : (limits : Limits) (lines : List Line) (spot : Spot) (w : List Instr) (items : ℕ) → (IsRenamable w → ⊥) → StandsThere lines spot w items → (pair : Pair) → IsPairAt limits lines spot pair → ⊥
+pub none_given : (limits : Limits) (lines : List ListingLine) (spot : WindowSpan) (w : List Instr) (items : ℕ) → (IsRenamable w → ⊥) → StandsThere lines spot w items → (pair : Pair) → IsPairAt limits lines spot pair → ⊥
 none_given limits lines spot w items n s pair p = n (subst IsRenamable (same_window lines spot w p.window items p.items s p.stands).0 p.renamable)
 
 -- nor does one that names too many registers or isn't over their alphabet
-pub none_lies : (limits : Limits) (lines : List Line) (spot : Spot) (w : List Instr) (items : ℕ) (seq : List Instr) (given : List (Option Low)) (mask : ℕ) → IsRenamable w → IsCanonical w items seq given mask
+pub none_lies : (limits : Limits) (lines : List ListingLine) (spot : WindowSpan) (w : List Instr) (items : ℕ) (seq : List Instr) (given : List (Option Low)) (mask : ℕ) → IsRenamable w → IsCanonical w items seq given mask
     → (Lies limits.regs limits.pool seq → ⊥) → StandsThere lines spot w items → (pair : Pair) → IsPairAt limits lines spot pair → ⊥
 none_lies limits lines spot w items seq given mask r c n s pair p =
     let same = same_window lines spot w p.window items p.items s p.stands in

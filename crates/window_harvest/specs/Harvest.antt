@@ -5,7 +5,7 @@ use Rattle.thumb_instr.specs.declared.instr.Instr.{Instr}
 use Rattle.thumb_instr.specs.declared.items.Mask.{Mask}
 use Rattle.thumb_instr.specs.Items.{has}
 use Rattle.thumb_instr.specs.Window.{Low}
-use Rattle.thumb_model.specs.Listing.{Line, code_of, places_of}
+use Rattle.thumb_model.specs.Listing.{ListingLine, code_of, places_of}
 use Rattle.thumb_model.specs.Flow.{LiveAfter}
 use Rattle.thumb_model.specs.Effect.{register_count}
 use Rattle.seq_enum.specs.Alphabet.{numbers_from, IsOver}
@@ -27,18 +27,18 @@ pub record Limits : Type 0 where
   pub pool : List ℕ
 
 -- where a window may stand: from a place on, so many instructions
-pub record Spot : Type 0 where
+pub record WindowSpan : Type 0 where
   pub place : ℕ
   pub count : ℕ
 
 -- the instructions are a window there, after which these items are live
-pub record StandsThere (lines : List Line) (spot : Spot) (window : List Instr) (items : ℕ) : Type 0 where
+pub record StandsThere (lines : List ListingLine) (spot : WindowSpan) (window : List Instr) (items : ℕ) : Type 0 where
   pub as_many : length window ≡ spot.count
   pub is_window : IsWindow lines spot.place window
   pub live : (x : ℕ) → (has items x ≡ true) ↔ LiveAfter (code_of lines) (spot.place + spot.count - 1) x
 
 -- the pair is that of the window there: its canonical form and the items that are live after it by their new names, where it names few registers and is over their alphabet
-pub record IsPairAt (limits : Limits) (lines : List Line) (spot : Spot) (pair : Pair) : Type 0 where
+pub record IsPairAt (limits : Limits) (lines : List ListingLine) (spot : WindowSpan) (pair : Pair) : Type 0 where
   pub window : List Instr
   pub items : ℕ
   pub stands : StandsThere lines spot window items
@@ -49,10 +49,10 @@ pub record IsPairAt (limits : Limits) (lines : List Line) (spot : Spot) (pair : 
   pub over : IsOver (register_count pair.seq) limits.pool pair.seq
 
 -- the pairs of spots, in their order; many have none
-pub data ArePairs (limits : Limits) (lines : List Line) : List Spot → List Pair → Type 0 where
+pub data ArePairs (limits : Limits) (lines : List ListingLine) : List WindowSpan → List Pair → Type 0 where
   none : ArePairs limits lines [] []
-  passed : (spot : Spot) (spots : List Spot) (pairs : List Pair) → ((pair : Pair) → IsPairAt limits lines spot pair → ⊥) → ArePairs limits lines spots pairs → ArePairs limits lines (spot ∷ spots) pairs
-  given : (spot : Spot) (spots : List Spot) (pair : Pair) (pairs : List Pair) → IsPairAt limits lines spot pair → ArePairs limits lines spots pairs → ArePairs limits lines (spot ∷ spots) (pair ∷ pairs)
+  passed : (spot : WindowSpan) (spots : List WindowSpan) (pairs : List Pair) → ((pair : Pair) → IsPairAt limits lines spot pair → ⊥) → ArePairs limits lines spots pairs → ArePairs limits lines (spot ∷ spots) pairs
+  given : (spot : WindowSpan) (spots : List WindowSpan) (pair : Pair) (pairs : List Pair) → IsPairAt limits lines spot pair → ArePairs limits lines spots pairs → ArePairs limits lines (spot ∷ spots) (pair ∷ pairs)
 
 -- those seen and each other pair of a list once, in order of first appearance
 pub data AreFirsts : List Pair → List Pair → List Pair → Type 0 where
@@ -61,21 +61,21 @@ pub data AreFirsts : List Pair → List Pair → List Pair → Type 0 where
   new : (seen : List Pair) (pair : Pair) (pairs firsts : List Pair) → (Contains seen pair → ⊥) → AreFirsts (seen ++ pair ∷ []) pairs firsts → AreFirsts seen (pair ∷ pairs) firsts
 
 -- all spots of 1 to `left` instructions, by place, then by length
-abbrev pub spot_of : ℕ → ℕ → Spot
+abbrev pub spot_of : ℕ → ℕ → WindowSpan
 spot_of place n = record { place = place; count = n }
 
-abbrev pub spots_at : ℕ → ℕ → List Spot
+abbrev pub spots_at : ℕ → ℕ → List WindowSpan
 spots_at left place = map (spot_of place) (numbers_from 1 left)
 
-abbrev pub spots : ℕ → ℕ → List Spot
+abbrev pub spots : ℕ → ℕ → List WindowSpan
 spots left count = flat_map (spots_at left) (numbers_from 0 count)
 
 -- those seen and the pairs of the spots, each once, in order of first appearance
-pub record AreAdded (limits : Limits) (lines : List Line) (spots : List Spot) (seen firsts : List Pair) : Type 0 where
+pub record AreAdded (limits : Limits) (lines : List ListingLine) (spots : List WindowSpan) (seen firsts : List Pair) : Type 0 where
   pub pairs : List Pair
   pub are : ArePairs limits lines spots pairs
   pub once : AreFirsts seen pairs firsts
 
 -- the distinct pairs of a listing's windows, in order of first appearance by place, then by length
-abbrev pub AreHarvest : Limits → List Line → List Pair → Type 0
+abbrev pub AreHarvest : Limits → List ListingLine → List Pair → Type 0
 AreHarvest limits lines pairs = AreAdded limits lines (spots limits.left (length (places_of lines))) [] pairs

@@ -1,7 +1,7 @@
 //! The pairs found so far, each once, in order of first appearance.
 ghost use Rattle.std.specs.Prelude.{◌≡◌, ◌≤◌, ◌<◌, ◌^◌, [], ◌∷◌, ℕ, List, length, map, MatchOption, OnOk};
-ghost use Rattle.thumb_model.specs.Listing.{Line};
-ghost use Rattle.window_harvest.specs.Harvest.{Pair, Spot, pair_of, StandsThere, IsPairAt, spots_at, AreAdded};
+ghost use Rattle.thumb_model.specs.Listing.{ListingLine};
+ghost use Rattle.window_harvest.specs.Harvest.{Pair, WindowSpan, pair_of, StandsThere, IsPairAt, spots_at, AreAdded};
 ghost use Rattle.window_harvest.specs.Keys.{IsKey, AreSeen, IsPut};
 ghost use Rattle.window_harvest.specs.LimitsOf.{limits_of, AreOf};
 ghost use Rattle.window_harvest.specs.Numberings.{AreNumberings};
@@ -14,7 +14,7 @@ use rule_table::canonical;
 use seq_enum::Pool;
 use std::collections::HashSet;
 use thumb_instr::{Instr, Items, Mask, Seq};
-use window_runs::rows::Row;
+use window_runs::rows::WindowPlace;
 use window_runs::runs::run;
 
 /// How many registers and instructions a window has at most, and the numbers that it may have, with what numbers the sequences over them.
@@ -30,7 +30,7 @@ pub struct Limits<'a> {
 fn pair_at(limits: Limits<'_>, window: &[Instr], items: Items) -> Option<(Seq, Mask, Key)>
     requires regs { limits.regs ≤ 4 }
     requires numberings { AreNumberings limits.pool.now limits.numberings.now }
-    ensures { (lines : List Line) (spot : Spot) → StandsThere lines spot window.now items.bits → MatchOption result ((pair : Pair) → IsPairAt (limits_of limits.entry) lines spot pair → ⊥) (λ f. IsPairAt (limits_of limits.entry) lines spot (pair_of (f.0, f.1)) × IsKey limits.entry.pool.now (pair_of (f.0, f.1)) f.2) }
+    ensures { (lines : List ListingLine) (spot : WindowSpan) → StandsThere lines spot window.now items.bits → MatchOption result ((pair : Pair) → IsPairAt (limits_of limits.entry) lines spot pair → ⊥) (λ f. IsPairAt (limits_of limits.entry) lines spot (pair_of (f.0, f.1)) × IsKey limits.entry.pool.now (pair_of (f.0, f.1)) f.2) }
 {
     match canonical(window, items) {
         None => None,
@@ -67,7 +67,7 @@ fn add_window(
 ) -> Result<(), Memory>
     requires regs { limits.regs ≤ 4 }
     requires numberings { AreNumberings limits.pool.now limits.numberings.now }
-    ensures { OnOk result ((lines : List Line) (spot : Spot) → StandsThere lines spot window.now items.bits → AreSeen limits.entry.pool.now seen.old.keys (map pair_of pairs.old.items) → AreSeen limits.entry.pool.now seen.new.keys (map pair_of pairs.new.items) × AreAdded (limits_of limits.entry) lines (spot ∷ []) (map pair_of pairs.old.items) (map pair_of pairs.new.items)) }
+    ensures { OnOk result ((lines : List ListingLine) (spot : WindowSpan) → StandsThere lines spot window.now items.bits → AreSeen limits.entry.pool.now seen.old.keys (map pair_of pairs.old.items) → AreSeen limits.entry.pool.now seen.new.keys (map pair_of pairs.new.items) × AreAdded (limits_of limits.entry) lines (spot ∷ []) (map pair_of pairs.old.items) (map pair_of pairs.new.items)) }
 {
     match pair_at(limits, window, items) {
         None => Ok(()),
@@ -80,7 +80,7 @@ pub fn add_place(
     seen: &mut HashSet<Key>,
     pairs: &mut Vec<(Seq, Mask)>,
     limits: Limits<'_>,
-    rows: &[Row],
+    rows: &[WindowPlace],
     live: &Live,
     place: u32,
 ) -> Result<(), Memory>
@@ -90,7 +90,7 @@ pub fn add_place(
     requires rows { length rows.now ≡ length live.now.after }
     requires few { length rows.now < 2 ^ 32 }
     requires place { place < length rows.now }
-    ensures { OnOk result ((lines : List Line) → AreOf lines rows.now live.now → AreSeen limits.entry.pool.now seen.old.keys (map pair_of pairs.old.items) → AreSeen limits.entry.pool.now seen.new.keys (map pair_of pairs.new.items) × AreAdded (limits_of limits.entry) lines (spots_at limits.entry.left place) (map pair_of pairs.old.items) (map pair_of pairs.new.items)) }
+    ensures { OnOk result ((lines : List ListingLine) → AreOf lines rows.now live.now → AreSeen limits.entry.pool.now seen.old.keys (map pair_of pairs.old.items) → AreSeen limits.entry.pool.now seen.new.keys (map pair_of pairs.new.items) × AreAdded (limits_of limits.entry) lines (spots_at limits.entry.left place) (map pair_of pairs.old.items) (map pair_of pairs.new.items)) }
 {
     let run = run(rows, place as usize, usize::from(limits.left));
     for last in 0..run.len() {

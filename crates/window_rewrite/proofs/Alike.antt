@@ -7,7 +7,7 @@ use Rattle.std.proofs.lemmas.List.{length-map}
 use Rattle.std.proofs.lemmas.Option.{slice_get_within}
 use Rattle.thumb_instr.specs.declared.instr.Instr.{Instr}
 use Rattle.thumb_instr.specs.Window.{is_in_window, Low, renamed}
-use Rattle.thumb_model.specs.Listing.{Name, Statement, Nothing, Runs, Words, Aligns, Sets, Line, Label, Code, code_of, plain, is_op_place, places_in}
+use Rattle.thumb_model.specs.Listing.{Name, Statement, Nothing, Instruction, Words, Aligns, Sets, ListingLine, Label, Code, code_of, plain, is_op_place, places_in}
 use Rattle.thumb_model.specs.Flow.{LiveAfter}
 use Rattle.thumb_model.specs.Layout.{size_at, is_among, label_address, set_in, set_address, cleared, or_else, or_first, lies_in, aim_fault, fault_at, faults_from, Layable}
 use Rattle.rule_model.specs.Rules.{Rule, rule_registers, Applies, IsSoundRule, alone}
@@ -23,7 +23,7 @@ use Rattle.kept_layout.proofs.Cutting.{two_bytes}
 use Rattle.window_rewrite.specs.Settled.{IsSettled}
 use Rattle.window_rewrite.proofs.Settled.{left_places, IsGap, settled_stay, stay_settled}
 use Rattle.window_rewrite.proofs.RuleWindows.{applied_gap, applied_stay}
-use Rattle.window_rewrite.specs.Rewriting.{setting_by}
+use Rattle.window_rewrite.specs.TableRewriting.{setting_by}
 use Rattle.window_rewrite.specs.Rules.{is_marked, AreAlike, AreFit, AreLed}
 use Rattle.window_rewrite.specs.Choices.{Meets}
 use Rattle.window_rewrite.proofs.Applied.{made, rule_there, fits_lighter, letters_all, IsLeft}
@@ -34,19 +34,19 @@ use Rattle.window_rewrite.proofs.Whole.{alike_registers, front_allowed, front_ap
 -- ---- the layout ----
 
 -- two lines are laid out alike
-record IsLaidAs (l m : Line) : Type 0 where
+record IsLaidAs (l m : ListingLine) : Type 0 where
   names : l.names ≡ m.names
   size : (at : ℕ) → size_at l.statement at ≡ size_at m.statement at
   sets : (name : Name) (rest : Option ℕ) → set_in name l.statement rest ≡ set_in name m.statement rest
   fault : (lies other : Name → Option ℕ) → ((name : Name) → lies name ≡ other name) → (at : ℕ) → fault_at lies at l.statement ≡ fault_at other at m.statement
 
-abbrev AreLaidAs : List Line → List Line → Type 0
+abbrev AreLaidAs : List ListingLine → List ListingLine → Type 0
 AreLaidAs [] [] = Unit {0}
 AreLaidAs [] (m ∷ ms) = ⊥
 AreLaidAs (l ∷ ls) [] = ⊥
 AreLaidAs (l ∷ ls) (m ∷ ms) = IsLaidAs l m × AreLaidAs ls ms
 
-labels_as : (name : Name) (at : ℕ) (ls ms : List Line) → AreLaidAs ls ms → label_address name at ls ≡ label_address name at ms
+labels_as : (name : Name) (at : ℕ) (ls ms : List ListingLine) → AreLaidAs ls ms → label_address name at ls ≡ label_address name at ms
 labels_as name at [] [] h = refl
 labels_as name at [] (m ∷ ms) h = absurd h
 labels_as name at (l ∷ ls) [] h = absurd h
@@ -55,13 +55,13 @@ labels_as name at (l ∷ ls) (m ∷ ms) h =
     ∙ ap (λ n. if is_among name m.names then Some at else label_address name (at + n) ls) (h.0.size at)
     ∙ ap (λ o. if is_among name m.names then Some at else o) (labels_as name (at + size_at m.statement at) ls ms h.1)
 
-sets_as : (name : Name) (ls ms : List Line) → AreLaidAs ls ms → set_address name ls ≡ set_address name ms
+sets_as : (name : Name) (ls ms : List ListingLine) → AreLaidAs ls ms → set_address name ls ≡ set_address name ms
 sets_as name [] [] h = refl
 sets_as name [] (m ∷ ms) h = absurd h
 sets_as name (l ∷ ls) [] h = absurd h
 sets_as name (l ∷ ls) (m ∷ ms) h = h.0.sets name (set_address name ls) ∙ ap (set_in name m.statement) (sets_as name ls ms h.1)
 
-faults_as : (lies other : Name → Option ℕ) → ((name : Name) → lies name ≡ other name) → (n at : ℕ) (ls ms : List Line) → AreLaidAs ls ms → faults_from lies n at ls ≡ faults_from other n at ms
+faults_as : (lies other : Name → Option ℕ) → ((name : Name) → lies name ≡ other name) → (n at : ℕ) (ls ms : List ListingLine) → AreLaidAs ls ms → faults_from lies n at ls ≡ faults_from other n at ms
 faults_as lies other e n at [] [] h = refl
 faults_as lies other e n at [] (m ∷ ms) h = absurd h
 faults_as lies other e n at (l ∷ ls) [] h = absurd h
@@ -70,17 +70,17 @@ faults_as lies other e n at (l ∷ ls) (m ∷ ms) h =
     ∙ ap (λ k. or_first n (fault_at other at m.statement) (faults_from lies (n + 1) (at + k) ls)) (h.0.size at)
     ∙ ap (or_first n (fault_at other at m.statement)) (faults_as lies other e (n + 1) (at + size_at m.statement at) ls ms h.1)
 
-layable_as : (base : ℕ) (ls ms : List Line) → AreLaidAs ls ms → Layable base ls → Layable base ms
+layable_as : (base : ℕ) (ls ms : List ListingLine) → AreLaidAs ls ms → Layable base ls → Layable base ms
 layable_as base ls ms h laid =
     sym (faults_as (lies_in base ls) (lies_in base ms) (λ name. ap (λ o. or_else o (cleared (set_address name ls))) (labels_as name base ls ms h) ∙ ap (λ o. or_else (label_address name base ms) (cleared o)) (sets_as name ls ms h)) 1 base ls ms h) ∙ laid
 
-long_as : (ls ms : List Line) → AreLaidAs ls ms → length ls ≡ length ms
+long_as : (ls ms : List ListingLine) → AreLaidAs ls ms → length ls ≡ length ms
 long_as [] [] h = refl
 long_as [] (m ∷ ms) h = absurd h
 long_as (l ∷ ls) [] h = absurd h
 long_as (l ∷ ls) (m ∷ ms) h = ap suc (long_as ls ms h.1)
 
-left_as : (base : ℕ) (lines ls ms : List Line) → AreLaidAs ls ms → IsLeft base lines ls → IsLeft base lines ms
+left_as : (base : ℕ) (lines ls ms : List ListingLine) → AreLaidAs ls ms → IsLeft base lines ls → IsLeft base lines ms
 left_as base lines ls ms h left = record {
   few = subst (λ n. n ≤ max (length lines) most_lines) (long_as ls ms h) left.few;
   layable = layable_as base ls ms h left.layable;
@@ -88,25 +88,25 @@ left_as base lines ls ms h left = record {
 
 same_fault : (lies other : Name → Option ℕ) → ((name : Name) → lies name ≡ other name) → (at : ℕ) (s : Statement) → fault_at lies at s ≡ fault_at other at s
 same_fault lies other e at Nothing = refl
-same_fault lies other e at (Runs i None) = refl
-same_fault lies other e at (Runs i (Some m)) = ap (λ o. aim_fault at i o m.plus) (e m.name)
+same_fault lies other e at (Instruction i None) = refl
+same_fault lies other e at (Instruction i (Some m)) = ap (λ o. aim_fault at i o m.plus) (e m.name)
 same_fault lies other e at (Words vs) = refl
 same_fault lies other e at (Aligns size most) = refl
 same_fault lies other e at (Sets name address) = refl
 
-same_line : (l : Line) → IsLaidAs l l
+same_line : (l : ListingLine) → IsLaidAs l l
 same_line l = record { names = refl; size = λ _. refl; sets = λ _ _. refl; fault = λ lies other e at. same_fault lies other e at l.statement }
 
-same_lines : (ls : List Line) → AreLaidAs ls ls
+same_lines : (ls : List ListingLine) → AreLaidAs ls ls
 same_lines [] = tt
 same_lines (l ∷ ls) = (same_line l, same_lines ls)
 
-behind_as : (xs ls ms : List Line) → AreLaidAs ls ms → AreLaidAs (xs ++ ls) (xs ++ ms)
+behind_as : (xs ls ms : List ListingLine) → AreLaidAs ls ms → AreLaidAs (xs ++ ls) (xs ++ ms)
 behind_as [] ls ms h = h
 behind_as (x ∷ xs) ls ms h = (same_line x, behind_as xs ls ms h)
 
 -- new instructions in front of lines
-new_as : (write : Instr → List ℕ) (is js : List Instr) (ls : List Line) → length is ≡ length js → list_all is_in_window is ≡ true → list_all is_in_window js ≡ true
+new_as : (write : Instr → List ℕ) (is js : List Instr) (ls : List ListingLine) → length is ≡ length js → list_all is_in_window is ≡ true → list_all is_in_window js ≡ true
     → AreLaidAs (map (new_line write) is ++ ls) (map (new_line write) js ++ ls)
 new_as write [] [] ls e v w = same_lines ls
 new_as write [] (j ∷ js) ls e v w = absurd (omega (arith, e))
@@ -119,7 +119,7 @@ new_as write (i ∷ is) (j ∷ js) ls e v w =
     )
 
 -- lines with new instructions of one number
-replaced_as : (write : Instr → List ℕ) (p count : ℕ) (is js : List Instr) (ls : List Line) → length is ≡ length js → list_all is_in_window is ≡ true → list_all is_in_window js ≡ true
+replaced_as : (write : Instr → List ℕ) (p count : ℕ) (is js : List Instr) (ls : List ListingLine) → length is ≡ length js → list_all is_in_window is ≡ true → list_all is_in_window js ≡ true
     → AreLaidAs (replaced_lines write p count is ls) (replaced_lines write p count js ls)
 replaced_as write p count is js [] e v w = tt
 replaced_as write p count is js (l ∷ ls) e v w =
@@ -169,7 +169,7 @@ applies_as a b registers code p sound also s some h =
     }
 
 -- under another map a rule's right side leaves as many lines, which can be laid out alike
-pub left_under : (base place count k : ℕ) (f g : List Low) (right : List Instr) (lines : List Line) → AreOver k right → IsLeft base lines (replaced_lines own_line place count (map (renamed f) right) lines)
+pub left_under : (base place count k : ℕ) (f g : List Low) (right : List Instr) (lines : List ListingLine) → AreOver k right → IsLeft base lines (replaced_lines own_line place count (map (renamed f) right) lines)
     → IsLeft base lines (replaced_lines own_line place count (map (renamed g) right) lines)
 left_under base place count k f g right lines over left =
     left_as base lines (replaced_lines own_line place count (map (renamed f) right) lines) (replaced_lines own_line place count (map (renamed g) right) lines)
@@ -182,7 +182,7 @@ settled_under code p count f g right s = settled_as code p count (map (renamed f
 -- ---- the choice ----
 
 -- an entry that is kept meets the same there
-pub record IsLedTo (asked : Bool) (s : Setting) (kept : List Bool) (o : Replacement) (lines : List Line) : Type 0 where
+pub record IsLedTo (asked : Bool) (s : Setting) (kept : List Bool) (o : Replacement) (lines : List ListingLine) : Type 0 where
   pub leader : ℕ
   pub no_later : leader ≤ o.entry
   pub is_kept : is_marked kept leader ≡ true
@@ -190,7 +190,7 @@ pub record IsLedTo (asked : Bool) (s : Setting) (kept : List Bool) (o : Replacem
   pub meets : Meets asked s (made o.place leader registers) lines
   pub as_long : left_length s (made o.place leader registers) ≡ left_length s o
 
-pub led_to : (asked : Bool) (costs : Option (List ℕ)) (base longest : ℕ) (rules : List Rule) (kept : List Bool) (lines : List Line) (o : Replacement) → AreFit longest (alone rules) → AreLed costs rules kept (length rules) → Meets asked (setting_by costs base (alone rules)) o lines
+pub led_to : (asked : Bool) (costs : Option (List ℕ)) (base longest : ℕ) (rules : List Rule) (kept : List Bool) (lines : List ListingLine) (o : Replacement) → AreFit longest (alone rules) → AreLed costs rules kept (length rules) → Meets asked (setting_by costs base (alone rules)) o lines
     → IsLedTo asked (setting_by costs base (alone rules)) kept o lines
 led_to asked costs base longest rules kept lines o fit led m =
     let s : Setting = setting_by costs base (alone rules) in

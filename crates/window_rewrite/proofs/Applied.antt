@@ -9,7 +9,7 @@ use Rattle.thumb_instr.specs.declared.instr.Instr.TheVariants as instr
 use Rattle.thumb_instr.specs.Items.{has}
 use Rattle.thumb_instr.specs.Window.{is_in_window, Low, renamed}
 use Rattle.thumb_instr.proofs.RenamingLemmas.{window_renamed}
-use Rattle.thumb_model.specs.Listing.{Label, Line, places_of, labels_from, code_of, is_op_place}
+use Rattle.thumb_model.specs.Listing.{Label, ListingLine, places_of, labels_from, code_of, is_op_place}
 use Rattle.thumb_model.specs.Flow.{LiveAfter}
 use Rattle.thumb_model.specs.Layout.{Layable}
 use Rattle.rule_model.specs.Rules.{Rule, Applies, IsSoundRule, alone}
@@ -29,7 +29,7 @@ use Rattle.window_rewrite.proofs.Settled.{left_places, IsGap, settled_stay, stay
 use Rattle.window_rewrite.proofs.WindowPlaces.{first_op, window_within}
 use Rattle.window_rewrite.specs.declared.finding.Rules.{Rules}
 use Rattle.window_rewrite.specs.declared.known_layout.KnownLayout.{KnownLayout}
-use Rattle.window_rewrite.specs.Rewriting.{setting_by}
+use Rattle.window_rewrite.specs.TableRewriting.{setting_by}
 use Rattle.window_rewrite.specs.Choices.{FitsIn, Meets}
 use Rattle.window_rewrite.specs.Fitting.{left_registers, FitsWhole, IsScratchLeast, Lightens, StandsThere}
 use Rattle.window_rewrite.specs.Layouts.{is_steady, AreOver as AreLaid}
@@ -42,7 +42,7 @@ use Rattle.rule_model.proofs.Unique.{plain_same}
 -- ---- the window ----
 
 -- where a window stands it may give way
-window_gap : (lines : List Line) (place : ℕ) (window is : List Instr) → IsWindow lines place window → 0 < length window → length is ≤ length window → IsGap (places_of lines) (labels_from 0 lines) place (length window) is
+window_gap : (lines : List ListingLine) (place : ℕ) (window is : List Instr) → IsWindow lines place window → 0 < length window → length is ≤ length window → IsGap (places_of lines) (labels_from 0 lines) place (length window) is
 window_gap lines place window is w some no_longer = record {
   within = window_within window (length window) (places_of lines) place refl (omega arith) w.stands;
   some = some;
@@ -52,7 +52,7 @@ window_gap lines place window is w some no_longer = record {
 }
 
 -- the window that gives way where a rule applies is the one that stands there
-same_window : (rule : Rule) (registers : List Low) (lines : List Line) (place : ℕ) (window : List Instr) → length rule.left ≡ length window → IsWindow lines place window
+same_window : (rule : Rule) (registers : List Low) (lines : List ListingLine) (place : ℕ) (window : List Instr) → length rule.left ≡ length window → IsWindow lines place window
     → (a : Applies rule registers (code_of lines) place) → a.window ≡ window
 same_window rule registers lines place window n w a = plain_same a.window window (sym a.stands ∙ ap (λ k. take k (drop place (places_of lines))) n ∙ w.stands)
 
@@ -88,17 +88,17 @@ pub rule_there : (costs : Option (List ℕ)) (base : ℕ) (rules : List Rule) (o
 rule_there costs base rules o rule at = (alone_is rules o.entry o.instance rule at).0
 
 -- the right side of a rule that fits weighs less
-pub fits_lighter : (costs : Option (List ℕ)) (base : ℕ) (table : List (List Rule)) (o : Replacement) (lines : List Line) → (a : FitsIn (setting_by costs base table) o lines) → weight_under costs a.rule.right < weight_under costs a.rule.left
+pub fits_lighter : (costs : Option (List ℕ)) (base : ℕ) (table : List (List Rule)) (o : Replacement) (lines : List ListingLine) → (a : FitsIn (setting_by costs base table) o lines) → weight_under costs a.rule.right < weight_under costs a.rule.left
 fits_lighter costs base table o lines a = same_lowers costs a.rule.left a.rule.right a.lowers
 
 -- so its left side is some instructions
-pub fits_some : (costs : Option (List ℕ)) (base : ℕ) (table : List (List Rule)) (o : Replacement) (lines : List Line) → (a : FitsIn (setting_by costs base table) o lines) → 0 < length a.rule.left
+pub fits_some : (costs : Option (List ℕ)) (base : ℕ) (table : List (List Rule)) (o : Replacement) (lines : List ListingLine) → (a : FitsIn (setting_by costs base table) o lines) → 0 < length a.rule.left
 fits_some costs base table o lines a = lighter_some costs a.rule.left a.rule.right (fits_lighter costs base table o lines a)
 
 -- ---- forth ----
 
 -- a rule that fits a window applies there, where labels stay code
-pub fitted : (lines : List Line) (place : ℕ) (rule : Rule) (registers : List Low) (window : List Instr) (live : ℕ) → IsSoundRule rule → 0 < length rule.left → StandsThere lines place window live → FitsWhole rule registers window live
+pub fitted : (lines : List ListingLine) (place : ℕ) (rule : Rule) (registers : List Low) (window : List Instr) (live : ℕ) → IsSoundRule rule → 0 < length rule.left → StandsThere lines place window live → FitsWhole rule registers window live
     → IsSettled (places_of lines) (labels_from 0 lines) place (length window) (map (renamed registers) rule.right) → Applies rule registers (code_of lines) place
 fitted lines place rule registers window live sound some there fits settled =
     let is : List Instr = map (renamed registers) rule.right in
@@ -124,7 +124,7 @@ fitted lines place rule registers window live sound some there fits settled =
     }
 
 -- what is least by the items that are live is so by the ways
-least_there : (lines : List Line) (place : ℕ) (rule : Rule) (registers : List Low) (window : List Instr) (live : ℕ) → length window ≡ length rule.left → StandsThere lines place window live → IsScratchLeast rule registers live
+least_there : (lines : List ListingLine) (place : ℕ) (rule : Rule) (registers : List Low) (window : List Instr) (live : ℕ) → length window ≡ length rule.left → StandsThere lines place window live → IsScratchLeast rule registers live
     → IsLeastScratch rule registers (code_of lines) place
 least_there lines place rule registers window live n there least scratch at x l = elim (least scratch at x l) [
   | inl t ↦ inl t
@@ -132,7 +132,7 @@ least_there lines place rule registers window live n there least scratch at x l 
 ]
 
 -- what a rule leaves can be laid out: where its layout isn't steady, that is asked for
-pub laid : (r : Rules) (g : KnownLayout) (lines : List Line) (place : ℕ) (rule : Rule) (registers : List Low) (window : List Instr) → AreLaid r g lines → IsSoundRule rule → 0 < length rule.left → length window ≡ length rule.left
+pub laid : (r : Rules) (g : KnownLayout) (lines : List ListingLine) (place : ℕ) (rule : Rule) (registers : List Low) (window : List Instr) → AreLaid r g lines → IsSoundRule rule → 0 < length rule.left → length window ≡ length rule.left
     → (is_steady g ≡ false → Layable r.base (replaced_lines own_line place (length window) (map (renamed registers) rule.right) lines)) → Applies rule registers (code_of lines) place
     → Layable r.base (replaced_lines own_line place (length rule.left) (map (renamed registers) rule.right) lines)
 laid r g lines place rule registers window over sound some n asked a =
@@ -143,14 +143,14 @@ laid r g lines place rule registers window over sound some n asked a =
     ]
 
 -- a rule puts new instructions in place of a window
-pub record IsMade (s : Setting) (lines : List Line) (r : Replacement) (window new : List Instr) : Type 0 where
+pub record IsMade (s : Setting) (lines : List ListingLine) (r : Replacement) (window new : List Instr) : Type 0 where
   pub applies : AppliesIn s r lines
   pub is_window : IsWindow lines r.place window
   pub gives_way : MayGiveWay (code_of lines) r.place window new
   pub leaves : replaced_lines s.write r.place (length window) new lines ≡ lines_after s r lines
   pub long : length window ≡ left_length s r
 
-pub applied : (costs : Option (List ℕ)) (base : ℕ) (table : List (List Rule)) (lines : List Line) (r : Replacement) (rule : Rule) (window : List Instr) (live : ℕ) (new : List Instr)
+pub applied : (costs : Option (List ℕ)) (base : ℕ) (table : List (List Rule)) (lines : List ListingLine) (r : Replacement) (rule : Rule) (window : List Instr) (live : ℕ) (new : List Instr)
     → used_rule (setting_by costs base table) r ≡ Some rule → IsSoundRule rule → weight_under costs rule.right < weight_under costs rule.left → StandsThere lines r.place window live → FitsWhole rule r.registers window live → IsScratchLeast rule r.registers live → new ≡ map (renamed r.registers) rule.right
     → IsSettled (places_of lines) (labels_from 0 lines) r.place (length window) new
     → length (replaced_lines own_line r.place (length rule.left) (map (renamed r.registers) rule.right) lines) ≤ max (length lines) most_lines
@@ -185,7 +185,7 @@ applied costs base table lines r rule window live new used sound lighter there f
     }
 
 -- what applies meets this, whether it is asked for the lines that it leaves or not
-pub meets : (asked : Bool) (s : Setting) (o : Replacement) (lines : List Line) → AppliesIn s o lines → Meets asked s o lines
+pub meets : (asked : Bool) (s : Setting) (o : Replacement) (lines : List ListingLine) → AppliesIn s o lines → Meets asked s o lines
 meets asked s o lines a = (
   record { rule = a.rule; is_rule = a.is_rule; lowers = a.lowers; applies = a.applies; joined = a.joined },
   λ _. record {
@@ -195,7 +195,7 @@ meets asked s o lines a = (
 )
 
 -- what meets more meets less
-pub meets_less : (less more : Bool) (s : Setting) (o : Replacement) (lines : List Line) → (less ≡ true → more ≡ true) → Meets more s o lines → Meets less s o lines
+pub meets_less : (less more : Bool) (s : Setting) (o : Replacement) (lines : List ListingLine) → (less ≡ true → more ≡ true) → Meets more s o lines → Meets less s o lines
 meets_less less more s o lines h m = (m.0, λ e. m.1 (h e))
 
 -- ---- back ----
@@ -204,16 +204,16 @@ same_rule : (a b : Rule) (o : Option Rule) → o ≡ Some a → o ≡ Some b →
 same_rule a b o e f = let g : (let x : Option Rule = Some a in x) ≡ Some b = sym e ∙ f in cc
 
 -- what a rule's fitting says of the window that stands there
-pub record IsFitted (lines : List Line) (place : ℕ) (rule : Rule) (registers : List Low) (window : List Instr) (live : ℕ) : Type 0 where
+pub record IsFitted (lines : List ListingLine) (place : ℕ) (rule : Rule) (registers : List Low) (window : List Instr) (live : ℕ) : Type 0 where
   pub fits : FitsWhole rule registers window live
   pub settled : IsSettled (places_of lines) (labels_from 0 lines) place (length window) (map (renamed registers) rule.right)
 
 -- the rule of a number applies there, and its right side weighs less
-record IsUsed (costs : Option (List ℕ)) (rule : Rule) (registers : List Low) (lines : List Line) (place : ℕ) : Type 0 where
+record IsUsed (costs : Option (List ℕ)) (rule : Rule) (registers : List Low) (lines : List ListingLine) (place : ℕ) : Type 0 where
   lighter : weight_under costs rule.right < weight_under costs rule.left
   applies : Applies rule registers (code_of lines) place
 
-used_there : (costs : Option (List ℕ)) (base : ℕ) (table : List (List Rule)) (lines : List Line) (r : Replacement) (rule : Rule) → used_rule (setting_by costs base table) r ≡ Some rule → FitsIn (setting_by costs base table) r lines → IsUsed costs rule r.registers lines r.place
+used_there : (costs : Option (List ℕ)) (base : ℕ) (table : List (List Rule)) (lines : List ListingLine) (r : Replacement) (rule : Rule) → used_rule (setting_by costs base table) r ≡ Some rule → FitsIn (setting_by costs base table) r lines → IsUsed costs rule r.registers lines r.place
 used_there costs base table lines r rule at a =
     let same : a.rule ≡ rule = same_rule a.rule rule (used_rule (setting_by costs base table) r) a.is_rule at in
     record {
@@ -222,11 +222,11 @@ used_there costs base table lines r rule at a =
     }
 
 -- the right side of the rule of a number weighs less where it fits
-pub used_lighter : (costs : Option (List ℕ)) (base : ℕ) (table : List (List Rule)) (lines : List Line) (r : Replacement) (rule : Rule) → used_rule (setting_by costs base table) r ≡ Some rule → FitsIn (setting_by costs base table) r lines → weight_under costs rule.right < weight_under costs rule.left
+pub used_lighter : (costs : Option (List ℕ)) (base : ℕ) (table : List (List Rule)) (lines : List ListingLine) (r : Replacement) (rule : Rule) → used_rule (setting_by costs base table) r ≡ Some rule → FitsIn (setting_by costs base table) r lines → weight_under costs rule.right < weight_under costs rule.left
 used_lighter costs base table lines r rule at a = (used_there costs base table lines r rule at a).lighter
 
 -- the rule that fits stands in the window that stands there
-pub back_lightens : (costs : Option (List ℕ)) (base : ℕ) (table : List (List Rule)) (lines : List Line) (r : Replacement) (rule : Rule) (window : List Instr)
+pub back_lightens : (costs : Option (List ℕ)) (base : ℕ) (table : List (List Rule)) (lines : List ListingLine) (r : Replacement) (rule : Rule) (window : List Instr)
     → used_rule (setting_by costs base table) r ≡ Some rule → IsSoundRule rule → length rule.left ≡ length window → IsWindow lines r.place window → FitsIn (setting_by costs base table) r lines
     → Lightens costs rule (left_registers rule r.registers) window
 back_lightens costs base table lines r rule window at sound n there a =
@@ -243,7 +243,7 @@ back_lightens costs base table lines r rule window at sound n there a =
       lighter = used.lighter;
     }
 
-pub back : (costs : Option (List ℕ)) (base : ℕ) (table : List (List Rule)) (lines : List Line) (r : Replacement) (rule : Rule) (window : List Instr) (live : ℕ)
+pub back : (costs : Option (List ℕ)) (base : ℕ) (table : List (List Rule)) (lines : List ListingLine) (r : Replacement) (rule : Rule) (window : List Instr) (live : ℕ)
     → used_rule (setting_by costs base table) r ≡ Some rule → IsSoundRule rule → length rule.left ≡ length window → StandsThere lines r.place window live → FitsIn (setting_by costs base table) r lines
     → IsFitted lines r.place rule r.registers window live
 back costs base table lines r rule window live at sound n there a =
@@ -269,11 +269,11 @@ back costs base table lines r rule window live at sound n there a =
     }
 
 -- and where it meets what is asked of the lines that it leaves, that is so of those in which the window gives way
-pub record IsLeft (base : ℕ) (lines left : List Line) : Type 0 where
+pub record IsLeft (base : ℕ) (lines left : List ListingLine) : Type 0 where
   pub few : length left ≤ max (length lines) most_lines
   pub layable : Layable base left
 
-pub back_laid : (costs : Option (List ℕ)) (base : ℕ) (table : List (List Rule)) (lines : List Line) (r : Replacement) (rule : Rule) (window : List Instr)
+pub back_laid : (costs : Option (List ℕ)) (base : ℕ) (table : List (List Rule)) (lines : List ListingLine) (r : Replacement) (rule : Rule) (window : List Instr)
     → used_rule (setting_by costs base table) r ≡ Some rule → length rule.left ≡ length window → Meets true (setting_by costs base table) r lines
     → IsLeft base lines (replaced_lines own_line r.place (length window) (map (renamed r.registers) rule.right) lines)
 back_laid costs base table lines r rule window at n m =

@@ -7,7 +7,7 @@ use Rattle.std.proofs.lemmas.Bool.{cases_lt, eqb-true, ltb-true, lt-ltb}
 use Rattle.thumb_instr.specs.declared.instr.Instr.{Instr}
 use Rattle.thumb_instr.specs.Items.{has}
 use Rattle.thumb_instr.specs.Window.{Low}
-use Rattle.thumb_model.specs.Listing.{plain, Place, Label, Line, places_of, labels_from, code_of}
+use Rattle.thumb_model.specs.Listing.{plain, Place, Label, ListingLine, places_of, labels_from, code_of}
 use Rattle.rule_model.specs.Rules.{Rule, IsSoundRule, alone, rule_at}
 use Rattle.rule_model.specs.Rewriting.{Setting, Replacement, NoneApplies, used_rule, left_length, left_length_of}
 use Rattle.rule_model.proofs.Alone.{alone_is}
@@ -23,7 +23,7 @@ use Rattle.window_runs.specs.Rows.{rows_from}
 use Rattle.window_runs.specs.Runs.{run}
 use Rattle.window_runs.proofs.Joined.{run_window, window_in_run}
 use Rattle.window_rewrite.specs.declared.choice.Choice.{Choice}
-use Rattle.window_rewrite.specs.Rewriting.{setting_by}
+use Rattle.window_rewrite.specs.TableRewriting.{setting_by}
 use Rattle.table_audit.specs.Shorter.{IsCanonicalSide}
 use Rattle.window_rewrite.specs.Rules.{rules_in, chains_of, left_forms, side_length, is_marked, AreFit, AreLed, first_with}
 use Rattle.window_rewrite.specs.Fitting.{left_registers, NoneStands, Lightens, Stands, StandsThere}
@@ -117,7 +117,7 @@ pub length_at : (rules : List Rule) (k : ℕ) (rule : Rule) → slice_get rules 
 length_at rules k rule e = ap left_length_of e
 
 -- a rule that fits is as long as that of its number
-fit_length : (costs : Option (List ℕ)) (base : ℕ) (rules : List Rule) (o : Replacement) (lines : List Line) → FitsIn (setting_by costs base (alone rules)) o lines → side_length rules o.entry ≡ left_length (setting_by costs base (alone rules)) o
+fit_length : (costs : Option (List ℕ)) (base : ℕ) (rules : List Rule) (o : Replacement) (lines : List ListingLine) → FitsIn (setting_by costs base (alone rules)) o lines → side_length rules o.entry ≡ left_length (setting_by costs base (alone rules)) o
 fit_length costs base rules o lines a = ap left_length_of (rule_there costs base rules o a.rule a.is_rule) ∙ sym (ap left_length_of a.is_rule)
 
 -- the rule of a choice at the place by a left side of the window's length stands in the window
@@ -127,7 +127,7 @@ pub record StandsIn (costs : Option (List ℕ)) (table : List (List Rule)) (wind
   pub registers : List Low
   pub lightens : Lightens costs rule registers window
 
-pub stands_in : (costs : Option (List ℕ)) (base longest : ℕ) (table : List (List Rule)) (lines : List Line) (place : ℕ) (window : List Instr) (o : Replacement) → AreFit longest table → IsWindow lines place window
+pub stands_in : (costs : Option (List ℕ)) (base longest : ℕ) (table : List (List Rule)) (lines : List ListingLine) (place : ℕ) (window : List Instr) (o : Replacement) → AreFit longest table → IsWindow lines place window
     → FitsIn (setting_by costs base table) o lines → o.place ≡ place → left_length (setting_by costs base table) o ≡ length window → StandsIn costs table window o
 stands_in costs base longest table lines place window o fit there a at long =
     let here : IsWindow lines o.place window = subst (λ p. IsWindow lines p window) (sym at) there in
@@ -140,7 +140,7 @@ stands_in costs base longest table lines place window o fit there a at long =
     }
 
 -- the search through the rules that may stand in a window: those below k don't meet this
-pub record IsSearch (asked : Bool) (costs : Option (List ℕ)) (base : ℕ) (rules : List Rule) (kept : List Bool) (lines : List Line) (place : ℕ) (window : List Instr) (at : Option ℕ) (start steps : ℕ) : Type 0 where
+pub record IsSearch (asked : Bool) (costs : Option (List ℕ)) (base : ℕ) (rules : List Rule) (kept : List Bool) (lines : List ListingLine) (place : ℕ) (window : List Instr) (at : Option ℕ) (start steps : ℕ) : Type 0 where
   pub longest : ℕ
   pub fit : AreFit longest (alone rules)
   pub led : AreLed costs rules kept (length rules)
@@ -149,12 +149,12 @@ pub record IsSearch (asked : Bool) (costs : Option (List ℕ)) (base : ℕ) (rul
   pub none : (o : Replacement) → Meets asked (setting_by costs base (alone rules)) o lines → o.place ≡ place → left_length (setting_by costs base (alone rules)) o ≡ length window → o.entry < k → ⊥
   pub cost : steps ≤ start + of_length (length window) (take k rules)
 
-pub search_begins : (asked : Bool) (costs : Option (List ℕ)) (base longest : ℕ) (rules : List Rule) (kept : List Bool) (lines : List Line) (place : ℕ) (window : List Instr) (at : Option ℕ) (start : ℕ) → AreFit longest (alone rules) → AreLed costs rules kept (length rules)
+pub search_begins : (asked : Bool) (costs : Option (List ℕ)) (base longest : ℕ) (rules : List Rule) (kept : List Bool) (lines : List ListingLine) (place : ℕ) (window : List Instr) (at : Option ℕ) (start : ℕ) → AreFit longest (alone rules) → AreLed costs rules kept (length rules)
     → Awaits costs rules kept window 0 at → IsSearch asked costs base rules kept lines place window at start start
 search_begins asked costs base longest rules kept lines place window at start fit led awaits = record { longest = longest; fit = fit; led = led; k = 0; awaits = awaits; none = λ o a e l h. absurd (omega arith); cost = omega arith }
 
 -- none meets it below the next rule: else one that is kept would
-none_before : (asked : Bool) (costs : Option (List ℕ)) (base : ℕ) (rules : List Rule) (kept : List Bool) (lines : List Line) (place : ℕ) (window : List Instr) (n : ℕ) (at : Option ℕ) (start steps : ℕ) → IsWindow lines place window
+none_before : (asked : Bool) (costs : Option (List ℕ)) (base : ℕ) (rules : List Rule) (kept : List Bool) (lines : List ListingLine) (place : ℕ) (window : List Instr) (n : ℕ) (at : Option ℕ) (start steps : ℕ) → IsWindow lines place window
     → IsSearch asked costs base rules kept lines place window at start steps → at ≡ Some n
     → (o : Replacement) → Meets asked (setting_by costs base (alone rules)) o lines → o.place ≡ place → left_length (setting_by costs base (alone rules)) o ≡ length window → o.entry < n → ⊥
 none_before asked costs base rules kept lines place window n at start steps there s is o a e l h =
@@ -170,7 +170,7 @@ none_before asked costs base rules kept lines place window n at start steps ther
           )
     ]
 
-pub search_next : (was asked : Bool) (costs : Option (List ℕ)) (base : ℕ) (rules : List Rule) (kept : List Bool) (lines : List Line) (place : ℕ) (window : List Instr) (n : ℕ) (at next : Option ℕ) (start steps after : ℕ) → IsWindow lines place window
+pub search_next : (was asked : Bool) (costs : Option (List ℕ)) (base : ℕ) (rules : List Rule) (kept : List Bool) (lines : List ListingLine) (place : ℕ) (window : List Instr) (n : ℕ) (at next : Option ℕ) (start steps after : ℕ) → IsWindow lines place window
     → IsSearch was costs base rules kept lines place window at start steps → at ≡ Some n → (was ≡ true → asked ≡ true)
     → (side_length rules n ≡ length window → (registers : List Low) → Meets asked (setting_by costs base (alone rules)) (made place n registers) lines → ⊥)
     → ((chain : ℕ) → slice_get (chains_of (left_forms rules)) n ≡ Some chain → is_marked kept n ≡ true → next ≡ first_with kept chain (n + 1) (drop (n + 1) (chains_of (left_forms rules)))) → after ≤ steps + from_bool (side_length rules n == length window)
@@ -205,7 +205,7 @@ abbrev pub left_of : List Rule → Option ℕ → ℕ
 left_of rules None = 0
 left_of rules (Some n) = length rules - n
 
-pub search_smaller : (asked : Bool) (costs : Option (List ℕ)) (base : ℕ) (rules : List Rule) (kept : List Bool) (lines : List Line) (place : ℕ) (window : List Instr) (n : ℕ) (at next : Option ℕ) (start steps : ℕ)
+pub search_smaller : (asked : Bool) (costs : Option (List ℕ)) (base : ℕ) (rules : List Rule) (kept : List Bool) (lines : List ListingLine) (place : ℕ) (window : List Instr) (n : ℕ) (at next : Option ℕ) (start steps : ℕ)
     → IsSearch asked costs base rules kept lines place window at start steps → at ≡ Some n → (k : ℕ) → n + 1 ≤ k → Awaits costs rules kept window k next → left_of rules next < left_of rules at
 search_smaller asked costs base rules kept lines place window n at next start steps s is k h a =
     let i = awaited costs rules kept window s.k n at s.awaits is in
@@ -224,7 +224,7 @@ search_smaller asked costs base rules kept lines place window n at next start st
 alone_first : (costs : Option (List ℕ)) (base : ℕ) (rules : List Rule) (o : Replacement) (rule : Rule) → used_rule (setting_by costs base (alone rules)) o ≡ Some rule → o.instance ≡ 0
 alone_first costs base rules o rule at = (alone_is rules o.entry o.instance rule at).1
 
-pub search_found : (asked : Bool) (costs : Option (List ℕ)) (base : ℕ) (rules : List Rule) (kept : List Bool) (lines : List Line) (place : ℕ) (window : List Instr) (n : ℕ) (at : Option ℕ) (start steps : ℕ) (c : Choice) → IsWindow lines place window
+pub search_found : (asked : Bool) (costs : Option (List ℕ)) (base : ℕ) (rules : List Rule) (kept : List Bool) (lines : List ListingLine) (place : ℕ) (window : List Instr) (n : ℕ) (at : Option ℕ) (start steps : ℕ) (c : Choice) → IsWindow lines place window
     → IsSearch asked costs base rules kept lines place window at start steps → at ≡ Some n
     → side_length rules n ≡ length window → IsChoice (setting_by costs base (alone rules)) lines c → (choice_of c).place ≡ place → (choice_of c).entry ≡ n → IsLowest (setting_by costs base (alone rules)) lines place (length window) c
 search_found asked costs base rules kept lines place window n at start steps c there s is long choice here entry =
@@ -239,7 +239,7 @@ search_found asked costs base rules kept lines place window n at start steps c t
       lowest_instance = λ o a e l f. let first = alone_first costs base rules (choice_of c) choice.applies.rule choice.applies.is_rule in omega arith;
     }
 
-pub search_cost : (asked : Bool) (costs : Option (List ℕ)) (base : ℕ) (rules : List Rule) (kept : List Bool) (lines : List Line) (place : ℕ) (window : List Instr) (n : ℕ) (at : Option ℕ) (start steps after : ℕ) → IsSearch asked costs base rules kept lines place window at start steps → at ≡ Some n
+pub search_cost : (asked : Bool) (costs : Option (List ℕ)) (base : ℕ) (rules : List Rule) (kept : List Bool) (lines : List ListingLine) (place : ℕ) (window : List Instr) (n : ℕ) (at : Option ℕ) (start steps after : ℕ) → IsSearch asked costs base rules kept lines place window at start steps → at ≡ Some n
     → after ≤ steps + from_bool (side_length rules n == length window) → after ≤ start + of_length (length window) rules
 search_cost asked costs base rules kept lines place window n at start steps after s is cost =
     let i = awaited costs rules kept window s.k n at s.awaits is in
@@ -250,7 +250,7 @@ search_cost asked costs base rules kept lines place window n at start steps afte
     let here = s.cost in
     omega (arith, one, before, all, tried, here, cost)
 
-pub search_none : (asked : Bool) (costs : Option (List ℕ)) (base : ℕ) (rules : List Rule) (kept : List Bool) (lines : List Line) (place : ℕ) (window : List Instr) (at : Option ℕ) (start steps : ℕ) → IsWindow lines place window
+pub search_none : (asked : Bool) (costs : Option (List ℕ)) (base : ℕ) (rules : List Rule) (kept : List Bool) (lines : List ListingLine) (place : ℕ) (window : List Instr) (at : Option ℕ) (start steps : ℕ) → IsWindow lines place window
     → IsSearch asked costs base rules kept lines place window at start steps → at ≡ None → NoneOf asked (setting_by costs base (alone rules)) lines place (length window)
 search_none asked costs base rules kept lines place window at start steps there s is o a e l =
     let d = led_to asked costs base s.longest rules kept lines o s.fit s.led a in
@@ -263,7 +263,7 @@ search_none asked costs base rules kept lines place window at start steps there 
           )
     ]
 
-pub none_cost : (asked : Bool) (costs : Option (List ℕ)) (base : ℕ) (rules : List Rule) (kept : List Bool) (lines : List Line) (place : ℕ) (window : List Instr) (at : Option ℕ) (start steps : ℕ) → IsSearch asked costs base rules kept lines place window at start steps → steps ≤ start + of_length (length window) rules
+pub none_cost : (asked : Bool) (costs : Option (List ℕ)) (base : ℕ) (rules : List Rule) (kept : List Bool) (lines : List ListingLine) (place : ℕ) (window : List Instr) (at : Option ℕ) (start steps : ℕ) → IsSearch asked costs base rules kept lines place window at start steps → steps ≤ start + of_length (length window) rules
 none_cost asked costs base rules kept lines place window at start steps s = let c = s.cost in let all = taken_all (length window) rules s.k in omega arith
 
 pub next_within : (costs : Option (List ℕ)) (entries : List Entry) (kept : List Bool) (window : List Instr) (k n : ℕ) (o : Option ℕ) → Awaits costs (rules_in entries) kept window k o → o ≡ Some n → n < length entries
@@ -272,13 +272,13 @@ next_within costs entries kept window k n o a e =
     omega (arith, slice_get_within (rules_in entries) n i.rule i.at, length_map rewriting_rule (map rule_of entries), length_map rule_of entries)
 
 -- where no rule stands in a window, none applies there
-pub none_in : (asked : Bool) (costs : Option (List ℕ)) (base longest : ℕ) (table : List (List Rule)) (lines : List Line) (place : ℕ) (window : List Instr) → AreFit longest table → IsWindow lines place window → NoneStands costs table window → NoneOf asked (setting_by costs base table) lines place (length window)
+pub none_in : (asked : Bool) (costs : Option (List ℕ)) (base longest : ℕ) (table : List (List Rule)) (lines : List ListingLine) (place : ℕ) (window : List Instr) → AreFit longest table → IsWindow lines place window → NoneStands costs table window → NoneOf asked (setting_by costs base table) lines place (length window)
 none_in asked costs base longest table lines place window fit there none o a e l =
     let i = stands_in costs base longest table lines place window o fit there a.0 e l in
     none o.entry o.instance i.rule i.registers i.at i.lightens
 
 -- nor in one that no left side has the form of
-pub none_formed : (asked : Bool) (costs : Option (List ℕ)) (base longest : ℕ) (table : List (List Rule)) (lines : List Line) (place : ℕ) (window : List Instr) → AreFit longest table → IsWindow lines place window
+pub none_formed : (asked : Bool) (costs : Option (List ℕ)) (base longest : ℕ) (table : List (List Rule)) (lines : List ListingLine) (place : ℕ) (window : List Instr) → AreFit longest table → IsWindow lines place window
     → ((rule : Rule) (registers : List Low) → IsSoundRule rule → IsCanonicalSide rule.left → Stands rule registers window → ⊥) → NoneOf asked (setting_by costs base table) lines place (length window)
 none_formed asked costs base longest table lines place window fit there none o a e l =
     let i = stands_in costs base longest table lines place window o fit there a.0 e l in
@@ -288,14 +288,14 @@ none_formed asked costs base longest table lines place window fit there none o a
 -- ---- the best entry of a place ----
 
 -- where a rule fits stands a window as long as its left side, which is no longer than the longest
-pub record IsApplicable (costs : Option (List ℕ)) (lines : List Line) (base longest : ℕ) (table : List (List Rule)) (o : Replacement) : Type 0 where
+pub record IsApplicable (costs : Option (List ℕ)) (lines : List ListingLine) (base longest : ℕ) (table : List (List Rule)) (o : Replacement) : Type 0 where
   pub window : List Instr
   pub is_window : IsWindow lines o.place window
   pub long : left_length (setting_by costs base table) o ≡ length window
   pub some : 1 ≤ length window
   pub few : length window ≤ longest
 
-pub applicable : (costs : Option (List ℕ)) (base longest : ℕ) (table : List (List Rule)) (lines : List Line) (o : Replacement) → AreFit longest table → FitsIn (setting_by costs base table) o lines → IsApplicable costs lines base longest table o
+pub applicable : (costs : Option (List ℕ)) (base longest : ℕ) (table : List (List Rule)) (lines : List ListingLine) (o : Replacement) → AreFit longest table → FitsIn (setting_by costs base table) o lines → IsApplicable costs lines base longest table o
 applicable costs base longest table lines o fit a =
     let f = fit o.entry o.instance a.rule a.is_rule in
     let n : length a.applies.window ≡ length a.rule.left = window_length a.rule o.registers (code_of lines) o.place a.applies in
@@ -315,7 +315,7 @@ applicable costs base longest table lines o fit a =
     }
 
 -- and it stands among the places
-pub place_within : (costs : Option (List ℕ)) (base longest : ℕ) (table : List (List Rule)) (lines : List Line) (o : Replacement) → AreFit longest table → FitsIn (setting_by costs base table) o lines → o.place < length (places_of lines)
+pub place_within : (costs : Option (List ℕ)) (base longest : ℕ) (table : List (List Rule)) (lines : List ListingLine) (o : Replacement) → AreFit longest table → FitsIn (setting_by costs base table) o lines → o.place < length (places_of lines)
 place_within costs base longest table lines o fit a =
     let w = applicable costs base longest table lines o fit a in
     let some = w.some in
@@ -326,14 +326,14 @@ place_within costs base longest table lines o fit a =
     omega arith
 
 -- the front of the run from a place is a window there
-front_window : (lines : List Line) (place most count : ℕ) (is : List Instr) → is ≡ run true most (drop place (rows_from false lines)) → 0 < count → count ≤ length is → IsWindow lines place (take count is)
+front_window : (lines : List ListingLine) (place most count : ℕ) (is : List Instr) → is ≡ run true most (drop place (rows_from false lines)) → 0 < count → count ≤ length is → IsWindow lines place (take count is)
 front_window lines place most count is e some few =
     let all : length (take count is) ≡ count = take_all count is few in
     let long : 1 ≤ length (take count (run true most (drop place (rows_from false lines)))) = omega (arith, all, ap (λ (l : List Instr). length (take count l)) e) in
     subst (λ (l : List Instr). IsWindow lines place (take count l)) (sym e) (run_window lines place most count long)
 
 -- and stands there with what is live after it
-pub front_stands : (lines : List Line) (place most count items : ℕ) (is slice : List Instr) → is ≡ run true most (drop place (rows_from false lines)) → slice ≡ is → 0 < count → count ≤ length is
+pub front_stands : (lines : List ListingLine) (place most count items : ℕ) (is slice : List Instr) → is ≡ run true most (drop place (rows_from false lines)) → slice ≡ is → 0 < count → count ≤ length is
     → ((x : ℕ) → (has items x ≡ true) ↔ LiveAfter (code_of lines) (place + (count - 1)) x) → StandsThere lines place (take count slice) items
 front_stands lines place most count items is slice e f some few live =
     let long : length slice ≡ length is = ap (λ (l : List Instr). length l) f in
@@ -345,11 +345,11 @@ front_stands lines place most count items is slice e f some few live =
     }
 
 -- no choice at the place has a left side of more than so many instructions
-abbrev pub NoneLonger : Bool → Setting → List Line → ℕ → ℕ → Type 0
+abbrev pub NoneLonger : Bool → Setting → List ListingLine → ℕ → ℕ → Type 0
 NoneLonger asked s lines place count = (o : Replacement) → Meets asked s o lines → o.place ≡ place → count < left_length s o → ⊥
 
 -- none has one that is longer than the run from there
-none_beyond : (asked : Bool) (costs : Option (List ℕ)) (base longest : ℕ) (table : List (List Rule)) (lines : List Line) (place : ℕ) (is : List Instr) → AreFit longest table → is ≡ run true longest (drop place (rows_from false lines))
+none_beyond : (asked : Bool) (costs : Option (List ℕ)) (base longest : ℕ) (table : List (List Rule)) (lines : List ListingLine) (place : ℕ) (is : List Instr) → AreFit longest table → is ≡ run true longest (drop place (rows_from false lines))
     → NoneLonger asked (setting_by costs base table) lines place (length is)
 none_beyond asked costs base longest table lines place is fit e o a at h =
     let w = applicable costs base longest table lines o fit a.0 in
@@ -358,7 +358,7 @@ none_beyond asked costs base longest table lines place is fit e o a at h =
     let within : length w.window ≤ length (run true longest (drop place (rows_from false lines))) = window_in_run lines place longest w.window w.some w.few there in
     omega (arith, within, long, h, ap (λ (l : List Instr). length l) e)
 
-pub none_longer : (asked : Bool) (s : Setting) (lines : List Line) (place count : ℕ) → NoneLonger asked s lines place (suc count) → NoneOf asked s lines place (suc count) → NoneLonger asked s lines place count
+pub none_longer : (asked : Bool) (s : Setting) (lines : List ListingLine) (place count : ℕ) → NoneLonger asked s lines place (suc count) → NoneOf asked s lines place (suc count) → NoneLonger asked s lines place count
 none_longer asked s lines place count n none o a at h = elim (cases_lt (suc count) (left_length s o)) [
   | inl l ↦ n o a at l
   | inr l ↦ none o a at (let e : left_length s o ≡ suc count = omega arith in e)
@@ -377,14 +377,14 @@ count_cost rules (suc n) slice start before after some few b a =
     let all : length (take (suc n) slice) ≡ suc n = take_all (suc n) slice few in
     subst (λ k. after ≤ start + longer k rules) (let e : n ≡ suc n - 1 = omega arith in e) (longer_cost rules n start before after b (subst (λ k. after ≤ before + of_length k rules) all a))
 
-pub none_shorter : (asked : Bool) (s : Setting) (lines : List Line) (place count : ℕ) (slice : List Instr) → 0 < count → count ≤ length slice → NoneLonger asked s lines place count → NoneOf asked s lines place (length (take count slice)) → NoneLonger asked s lines place (count - 1)
+pub none_shorter : (asked : Bool) (s : Setting) (lines : List ListingLine) (place count : ℕ) (slice : List Instr) → 0 < count → count ≤ length slice → NoneLonger asked s lines place count → NoneOf asked s lines place (length (take count slice)) → NoneLonger asked s lines place (count - 1)
 none_shorter asked s lines place zero slice some few n h = absurd (omega arith)
 none_shorter asked s lines place (suc m) slice some few n h =
     let all : length (take (suc m) slice) ≡ suc m = take_all (suc m) slice few in
     subst (λ k. NoneLonger asked s lines place k) (let e : m ≡ suc m - 1 = omega arith in e) (none_longer asked s lines place m n (subst (λ k. NoneOf asked s lines place k) all h))
 
 -- where no left side of more than so many instructions stands first in the run from a place, none that applies there is longer
-pub none_reached : (asked : Bool) (costs : Option (List ℕ)) (base longest : ℕ) (table : List (List Rule)) (lines : List Line) (place count : ℕ) (is slice : List Instr) → AreFit longest table → is ≡ run true longest (drop place (rows_from false lines)) → slice ≡ is
+pub none_reached : (asked : Bool) (costs : Option (List ℕ)) (base longest : ℕ) (table : List (List Rule)) (lines : List ListingLine) (place count : ℕ) (is slice : List Instr) → AreFit longest table → is ≡ run true longest (drop place (rows_from false lines)) → slice ≡ is
     → ((n k i : ℕ) (rule : Rule) (registers : List Low) → count < length rule.left → rule_at table k i ≡ Some rule → Lightens costs rule registers (take n slice) → ⊥) → NoneLonger asked (setting_by costs base table) lines place count
 none_reached asked costs base longest table lines place count is slice fit e f none o a at longer_left =
     let w = applicable costs base longest table lines o fit a.0 in
@@ -403,7 +403,7 @@ none_reached asked costs base longest table lines place count is slice fit e f n
     none n o.entry o.instance s.rule s.registers (omega (arith, left, longer_left)) s.at s.lightens
 
 -- and where none stands there at all, none applies
-pub none_there : (asked : Bool) (costs : Option (List ℕ)) (base longest : ℕ) (table : List (List Rule)) (lines : List Line) (place : ℕ) (is slice : List Instr) → AreFit longest table → is ≡ run true longest (drop place (rows_from false lines)) → slice ≡ is
+pub none_there : (asked : Bool) (costs : Option (List ℕ)) (base longest : ℕ) (table : List (List Rule)) (lines : List ListingLine) (place : ℕ) (is slice : List Instr) → AreFit longest table → is ≡ run true longest (drop place (rows_from false lines)) → slice ≡ is
     → ((n k i : ℕ) (rule : Rule) (registers : List Low) → 0 < length rule.left → rule_at table k i ≡ Some rule → Lightens costs rule registers (take n slice) → ⊥) → NoneAt asked (setting_by costs base table) lines place
 none_there asked costs base longest table lines place is slice fit e f none o a at =
     let w = applicable costs base longest table lines o fit a.0 in
@@ -413,7 +413,7 @@ none_there asked costs base longest table lines place is slice fit e f none o a 
 
 -- ---- the least place ----
 
-pub is_first : (asked : Bool) (s : Setting) (lines : List Line) (place : ℕ) (c : Choice) → NoneBefore asked s lines place → IsBest s lines place c → IsFirstChoice s lines c
+pub is_first : (asked : Bool) (s : Setting) (lines : List ListingLine) (place : ℕ) (c : Choice) → NoneBefore asked s lines place → IsBest s lines place c → IsFirstChoice s lines c
 is_first asked s lines place c none b =
     let here = b.at in
     record {
@@ -431,5 +431,5 @@ is_first asked s lines place c none b =
     }
 
 -- where none meets it before the end, none applies
-pub none_applies : (asked : Bool) (costs : Option (List ℕ)) (base longest : ℕ) (table : List (List Rule)) (lines : List Line) (place : ℕ) → AreFit longest table → length (places_of lines) ≤ place → NoneBefore asked (setting_by costs base table) lines place → NoneApplies (setting_by costs base table) lines
+pub none_applies : (asked : Bool) (costs : Option (List ℕ)) (base longest : ℕ) (table : List (List Rule)) (lines : List ListingLine) (place : ℕ) → AreFit longest table → length (places_of lines) ≤ place → NoneBefore asked (setting_by costs base table) lines place → NoneApplies (setting_by costs base table) lines
 none_applies asked costs base longest table lines place fit h none o a = let m = meets asked (setting_by costs base table) o lines a in let w = place_within costs base longest table lines o fit m.0 in none o m (omega arith)

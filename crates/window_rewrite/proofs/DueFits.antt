@@ -6,7 +6,7 @@ use Rattle.std.proofs.lemmas.Option.{slice_get-map}
 use Rattle.kept_places.specs.Marks.{is_gone, rank}
 use Rattle.thumb_instr.specs.declared.instr.Instr.{Instr}
 use Rattle.thumb_instr.specs.Window.{is_in_window, Low}
-use Rattle.thumb_model.specs.Listing.{plain, Place, Code, Line, code_of, places_of, labels_from}
+use Rattle.thumb_model.specs.Listing.{plain, Place, Code, ListingLine, code_of, places_of, labels_from}
 use Rattle.thumb_model.specs.Flow.{Reads, LiveAfter}
 use Rattle.thumb_model.specs.Replaced.{moved, replaced, are_joined_from, replaced_lines}
 use Rattle.thumb_model.specs.Cuts.{AreOps}
@@ -38,7 +38,7 @@ stands_at window n p k q places i e h at is =
     sym (get_drop p places k q at) ∙ sym (get_take n (drop p places) k h) ∙ ap (λ (xs : List Place). slice_get xs k) e ∙ slice_get-map plain window k ∙ ap (option_map plain) is
 
 -- instructions of kept places give way in lines, and in the padded code
-pub record GaveWay (write : Instr → List ℕ) (gone : List Bool) (padded : Code) (lines : List Line) (g : ℕ) (ps : List ℕ) (is : List Instr) : Type 0 where
+pub record GaveWay (write : Instr → List ℕ) (gone : List Bool) (padded : Code) (lines : List ListingLine) (g : ℕ) (ps : List ℕ) (is : List Instr) : Type 0 where
   pub padded_is : IsPadded gone padded (code_of lines)
   pub ranked : AreRanked gone g ps
   pub gap : IsGap (places_of lines) (labels_from 0 lines) g (length ps) is
@@ -46,12 +46,12 @@ pub record GaveWay (write : Instr → List ℕ) (gone : List Bool) (padded : Cod
   pub new_padded : IsPadded (marks_after ps is gone) (exchanged ps is padded) (code_of (replaced_lines write g (length ps) is lines))
 
 -- the code of the lines that are left
-left_code : (write : Instr → List ℕ) (g n : ℕ) (is : List Instr) (lines : List Line) → IsGap (places_of lines) (labels_from 0 lines) g n is → AreOps n (drop g (places_of lines)) → code_of (replaced_lines write g n is lines) ≡ replaced (code_of lines) g n is
+left_code : (write : Instr → List ℕ) (g n : ℕ) (is : List Instr) (lines : List ListingLine) → IsGap (places_of lines) (labels_from 0 lines) g n is → AreOps n (drop g (places_of lines)) → code_of (replaced_lines write g n is lines) ≡ replaced (code_of lines) g n is
 left_code write g zero is lines gap ops = absurd (let s = gap.some in omega arith)
 left_code write g (suc n) is lines gap ops = code_replaced_by write g n is lines gap.no_longer ops (outside_of g (suc n) (labels_from 0 lines) gap.unlabelled)
 
-module _ (write : Instr → List ℕ) (gone : List Bool) (padded : Code) (lines : List Line) (g : ℕ) (ps : List ℕ) (is : List Instr) (w : GaveWay write gone padded lines g ps is) where
-  abbrev new : List Line
+module _ (write : Instr → List ℕ) (gone : List Bool) (padded : Code) (lines : List ListingLine) (g : ℕ) (ps : List ℕ) (is : List Instr) (w : GaveWay write gone padded lines g ps is) where
+  abbrev new : List ListingLine
   new = replaced_lines write g (length ps) is lines
 
   abbrev after : List Bool

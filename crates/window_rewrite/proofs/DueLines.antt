@@ -2,7 +2,7 @@
 use Rattle.std.proofs.Common.{◌≡◌, ℕ, zero, suc, ◌+◌, ◌-◌, ◌<◌, ◌≤◌, ◌==◌, ◌&&◌, Bool, true, false, List, [], ◌∷◌, ◌++◌, length, drop, map, refl, sym, ap, ◌∙◌, subst, arith, ne_eqb, if◌then◌else◌}
 use Rattle.std.proofs.lemmas.Bool.{eqb-true}
 use Rattle.thumb_instr.specs.declared.instr.Instr.{Instr}
-use Rattle.thumb_model.specs.Listing.{Name, Statement, Nothing, Runs, Words, Aligns, Sets, Line, Place, places_in, places_of}
+use Rattle.thumb_model.specs.Listing.{Name, Statement, Nothing, Instruction, Words, Aligns, Sets, ListingLine, Place, places_in, places_of}
 use Rattle.thumb_model.specs.Replaced.{is_op, is_align, without, labels_kept, new_line, replaced_lines, are_joined, are_joined_from}
 use Rattle.thumb_model.specs.Cuts.{AreOps}
 use Rattle.thumb_model.proofs.Cuts.{op_takes as one_place}
@@ -13,7 +13,7 @@ use Rattle.listing_parser.proofs.ReplacedTargets.{op_next as op_line}
 -- a line of a window is an instruction's, or has no place
 other_line : (n : ℕ) (s : Statement) (ps : List Place) → is_op s ≡ false → AreOps (suc n) (places_in s ++ ps) → places_in s ≡ []
 other_line n Nothing ps e h = refl
-other_line n (Runs i m) ps e h = absurd (cc)
+other_line n (Instruction i m) ps e h = absurd (cc)
 other_line n (Words []) ps e h = refl
 other_line n (Words (v ∷ vs)) ps e h = absurd h
 other_line n (Aligns size most) ps e h = refl
@@ -22,7 +22,7 @@ other_line n (Sets name address) ps e h = refl
 -- the place at q isn't within a line that isn't an instruction's
 not_within : (q n : ℕ) (s : Statement) (ps : List Place) → is_op s ≡ false → AreOps (suc n) (drop q (places_in s ++ ps)) → length (places_in s) ≤ q
 not_within q n Nothing ps e h = omega arith
-not_within q n (Runs i m) ps e h = absurd (cc)
+not_within q n (Instruction i m) ps e h = absurd (cc)
 not_within q n (Aligns size most) ps e h = omega arith
 not_within q n (Sets name address) ps e h = omega arith
 not_within q n (Words []) ps e h = omega arith
@@ -36,7 +36,7 @@ past zero n (x ∷ xs) ps h l = absurd (omega arith)
 past (suc q) n (x ∷ xs) ps h l = subst (λ k. AreOps n (drop k ps)) (let e : q - length xs ≡ suc q - suc (length xs) = omega arith in e) (past q n xs ps h (omega arith))
 
 -- a line before the place at q ends no later
-within : (q n : ℕ) (l : Line) (ps : List Place) → AreOps (suc n) (drop q (places_in l.statement ++ ps)) → ((is_op l.statement && (q == 0)) ≡ false) → length (places_in l.statement) ≤ q
+within : (q n : ℕ) (l : ListingLine) (ps : List Place) → AreOps (suc n) (drop q (places_in l.statement ++ ps)) → ((is_op l.statement && (q == 0)) ≡ false) → length (places_in l.statement) ≤ q
 within q n l ps h e = by (is_op l.statement) refl
   where
     some : (q : ℕ) → (true && (q == 0)) ≡ false → 1 ≤ q
@@ -65,25 +65,25 @@ both_true true false e = absurd (cc)
 both_true false b e = absurd (cc)
 
 -- how a line is passed
-pub passes : (q n : ℕ) (l : Line) (ls : List Line) → (is_op l.statement && (q == 0)) ≡ false → are_joined_from q n (l ∷ ls) ≡ are_joined_from (q - length (places_in l.statement)) n ls
+pub passes : (q n : ℕ) (l : ListingLine) (ls : List ListingLine) → (is_op l.statement && (q == 0)) ≡ false → are_joined_from q n (l ∷ ls) ≡ are_joined_from (q - length (places_in l.statement)) n ls
 passes q n l ls e = ap (λ b. if b then are_joined (n - 1) ls else are_joined_from (q - length (places_in l.statement)) n ls) e
 
-begins : (n : ℕ) (l : Line) (ls : List Line) → is_op l.statement ≡ true → are_joined_from 0 n (l ∷ ls) ≡ are_joined (n - 1) ls
+begins : (n : ℕ) (l : ListingLine) (ls : List ListingLine) → is_op l.statement ≡ true → are_joined_from 0 n (l ∷ ls) ≡ are_joined (n - 1) ls
 begins n l ls e = ap (λ b. if b && true then are_joined (n - 1) ls else are_joined_from (0 - length (places_in l.statement)) n ls) e
 
-keeps_line : (write : Instr → List ℕ) (p c : ℕ) (is : List Instr) (l : Line) (ls : List Line) → (is_op l.statement && (p == 0)) ≡ false → replaced_lines write p c is (l ∷ ls) ≡ l ∷ replaced_lines write (p - length (places_in l.statement)) c is ls
+keeps_line : (write : Instr → List ℕ) (p c : ℕ) (is : List Instr) (l : ListingLine) (ls : List ListingLine) → (is_op l.statement && (p == 0)) ≡ false → replaced_lines write p c is (l ∷ ls) ≡ l ∷ replaced_lines write (p - length (places_in l.statement)) c is ls
 keeps_line write p c is l ls e = ap (λ b. if b then labels_kept l l.names ++ (map (new_line write) is ++ without (c - 1) ls) else l ∷ replaced_lines write (p - length (places_in l.statement)) c is ls) e
 
 -- ---- a window before ----
 
-joined_op : (n : ℕ) (l : Line) (ls : List Line) → is_op l.statement ≡ true → are_joined (suc n) (l ∷ ls) ≡ are_joined n ls
+joined_op : (n : ℕ) (l : ListingLine) (ls : List ListingLine) → is_op l.statement ≡ true → are_joined (suc n) (l ∷ ls) ≡ are_joined n ls
 joined_op n l ls e = ap (λ b. if b then are_joined n ls else (if is_align l.statement then false else are_joined (suc n) ls)) e
 
-joined_other : (n : ℕ) (l : Line) (ls : List Line) → is_op l.statement ≡ false → are_joined (suc n) (l ∷ ls) ≡ (if is_align l.statement then false else are_joined (suc n) ls)
+joined_other : (n : ℕ) (l : ListingLine) (ls : List ListingLine) → is_op l.statement ≡ false → are_joined (suc n) (l ∷ ls) ≡ (if is_align l.statement then false else are_joined (suc n) ls)
 joined_other n l ls e = ap (λ b. if b then are_joined n ls else (if is_align l.statement then false else are_joined (suc n) ls)) e
 
 -- the next k instructions come before those that give way
-near_before : (write : Instr → List ℕ) (p c : ℕ) (is : List Instr) (k : ℕ) (ls : List Line) → k ≤ p → AreOps k (places_of ls) → are_joined k (replaced_lines write p c is ls) ≡ are_joined k ls
+near_before : (write : Instr → List ℕ) (p c : ℕ) (is : List Instr) (k : ℕ) (ls : List ListingLine) → k ≤ p → AreOps k (places_of ls) → are_joined k (replaced_lines write p c is ls) ≡ are_joined k ls
 near_before write p c is zero [] h a = refl
 near_before write p c is zero (l ∷ ls) h a = refl
 near_before write p c is (suc k) [] h a = absurd a
@@ -103,11 +103,11 @@ near_before write p c is (suc k) (l ∷ ls) h a =
     ∙ sym (joined_other k l ls e))
 
 -- those of a window that ends before them
-pub joined_before : (write : Instr → List ℕ) (p c : ℕ) (is : List Instr) (q n : ℕ) (ls : List Line) → q + suc n ≤ p → AreOps (suc n) (drop q (places_of ls)) → are_joined_from q (suc n) (replaced_lines write p c is ls) ≡ are_joined_from q (suc n) ls
+pub joined_before : (write : Instr → List ℕ) (p c : ℕ) (is : List Instr) (q n : ℕ) (ls : List ListingLine) → q + suc n ≤ p → AreOps (suc n) (drop q (places_of ls)) → are_joined_from q (suc n) (replaced_lines write p c is ls) ≡ are_joined_from q (suc n) ls
 joined_before write p c is q n [] h a = refl
 joined_before write p c is q n (l ∷ ls) h a =
     let kept = keeps_line write p c is l ls (not_here p l.statement (omega arith)) in
-    let rest : List Line = replaced_lines write (p - length (places_in l.statement)) c is ls in
+    let rest : List ListingLine = replaced_lines write (p - length (places_in l.statement)) c is ls in
     ap (are_joined_from q (suc n)) kept ∙ cases (is_op l.statement && (q == 0))
     (λ e.
     let b = both_true (is_op l.statement) (q == 0) e in
@@ -127,7 +127,7 @@ joined_before write p c is q n (l ∷ ls) h a =
 -- ---- a window behind ----
 
 -- past instructions that go
-past_gone : (q j n : ℕ) (ls : List Line) → j ≤ q → AreOps j (places_of ls) → are_joined_from (q - j) n (without j ls) ≡ are_joined_from q n ls
+past_gone : (q j n : ℕ) (ls : List ListingLine) → j ≤ q → AreOps j (places_of ls) → are_joined_from (q - j) n (without j ls) ≡ are_joined_from q n ls
 past_gone q j n [] h a = refl
 past_gone q zero n (l ∷ ls) h a = ap (λ k. are_joined_from k n (l ∷ ls)) (let e : q - 0 ≡ q = omega arith in e)
 past_gone q (suc j) n (l ∷ ls) h a = cases (is_op l.statement)
@@ -150,11 +150,11 @@ past_gone q (suc j) n (l ∷ ls) h a = cases (is_op l.statement)
     ∙ sym (passes q n l ls (not q)))
 
 -- past labels and new instructions
-past_labels : (q n : ℕ) (l : Line) (names : List Name) (ls : List Line) → are_joined_from q n (labels_kept l names ++ ls) ≡ are_joined_from q n ls
+past_labels : (q n : ℕ) (l : ListingLine) (names : List Name) (ls : List ListingLine) → are_joined_from q n (labels_kept l names ++ ls) ≡ are_joined_from q n ls
 past_labels q n l [] ls = refl
 past_labels q n l (m ∷ ms) ls = ap (λ k. are_joined_from k n ls) (let e : q - 0 ≡ q = omega arith in e)
 
-past_new : (write : Instr → List ℕ) (q n : ℕ) (is : List Instr) (ls : List Line) → length is ≤ q → are_joined_from q n (map (new_line write) is ++ ls) ≡ are_joined_from (q - length is) n ls
+past_new : (write : Instr → List ℕ) (q n : ℕ) (is : List Instr) (ls : List ListingLine) → length is ≤ q → are_joined_from q n (map (new_line write) is ++ ls) ≡ are_joined_from (q - length is) n ls
 past_new write q n [] ls h = ap (λ k. are_joined_from k n ls) (let e : q ≡ q - 0 = omega arith in e)
 past_new write q n (i ∷ is) ls h =
     passes q n (new_line write i) (map (new_line write) is ++ ls) (not_here q (new_line write i).statement (omega arith))
@@ -162,7 +162,7 @@ past_new write q n (i ∷ is) ls h =
     ∙ ap (λ k. are_joined_from k n ls) (let e : q - 1 - length is ≡ q - suc (length is) = omega arith in e)
 
 -- those of a window that begins behind the instructions that give way
-pub joined_behind : (write : Instr → List ℕ) (p c : ℕ) (is : List Instr) (q r n : ℕ) (ls : List Line) → p + suc c ≤ q → r + suc c ≡ q + length is → AreOps (suc c) (drop p (places_of ls))
+pub joined_behind : (write : Instr → List ℕ) (p c : ℕ) (is : List Instr) (q r n : ℕ) (ls : List ListingLine) → p + suc c ≤ q → r + suc c ≡ q + length is → AreOps (suc c) (drop p (places_of ls))
     → are_joined_from r n (replaced_lines write p (suc c) is ls) ≡ are_joined_from q n ls
 joined_behind write p c is q r n [] h e a = refl
 joined_behind write p c is q r n (l ∷ ls) h e a = cases (is_op l.statement && (p == 0))

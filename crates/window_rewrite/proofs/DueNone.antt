@@ -2,7 +2,7 @@
 use Rattle.std.proofs.Common.{◌≡◌, ℕ, suc, ◌+◌, ◌-◌, ◌<◌, ◌≤◌, Bool, false, List, length, Some, sym, subst, ◌⊎◌, inl, inr, arith, refl, ◌∙◌, true≢false}
 use Rattle.kept_places.specs.Marks.{is_gone, rank}
 use Rattle.thumb_instr.specs.declared.instr.Instr.{Instr}
-use Rattle.thumb_model.specs.Listing.{Code, Line, code_of, places_of}
+use Rattle.thumb_model.specs.Listing.{Code, ListingLine, code_of, places_of}
 use Rattle.thumb_model.specs.Flow.{Reads}
 use Rattle.thumb_model.specs.Replaced.{moved, replaced_lines}
 use Rattle.rule_model.specs.Rules.{Rule, weight, IsSoundRule}
@@ -38,7 +38,7 @@ NoneLost gone padded new longest p = (q x : ℕ) → is_gone gone q ≡ false �
 abbrev placed : ℕ → Replacement → Replacement
 placed p o = record { place = p; entry = o.entry; instance = o.instance; registers = o.registers }
 
-still_none : (s : Setting) (longest : ℕ) (gone : List Bool) (padded : Code) (lines : List Line) (g : ℕ) (ps : List ℕ) (is : List Instr) → AreShort s longest → GaveWay s.write gone padded lines g ps is
+still_none : (s : Setting) (longest : ℕ) (gone : List Bool) (padded : Code) (lines : List ListingLine) (g : ℕ) (ps : List ℕ) (is : List Instr) → AreShort s longest → GaveWay s.write gone padded lines g ps is
     → (p : ℕ) → is_gone (marks_after ps is gone) p ≡ false → IsFar gone longest g (length ps) p → NoneLost (marks_after ps is gone) padded (exchanged ps is padded) longest p
     → NoneAt false s lines (rank gone p) → NoneAt false s (replaced_lines s.write g (length ps) is lines) (rank (marks_after ps is gone) p)
 still_none s longest gone padded lines g ps is short w p kept far lost none o m at =
@@ -47,7 +47,7 @@ still_none s longest gone padded lines g ps is short w p kept far lost none o m 
     let n : ℕ = length rule.left in
     let r : ℕ = rank gone p in
     let after : List Bool = marks_after ps is gone in
-    let new : List Line = replaced_lines s.write g (length ps) is lines in
+    let new : List ListingLine = replaced_lines s.write g (length ps) is lines in
     let i = short o rule a.is_rule a.lowers in
     let near = i.short in
     let some = i.some in
@@ -59,20 +59,20 @@ still_none s longest gone padded lines g ps is short w p kept far lost none o m 
     none (placed r o) (record { rule = rule; is_rule = a.is_rule; lowers = a.lowers; applies = b.applies; joined = b.joined }, λ e. absurd (true≢false (sym e))) refl
 
 -- the same of lines, marks and a padded code that are known to be so
-pub none_still : (s : Setting) (longest : ℕ) (gone after : List Bool) (padded new_padded : Code) (lines new : List Line) (g count : ℕ) (ps : List ℕ) (is : List Instr) → AreShort s longest → GaveWay s.write gone padded lines g ps is → count ≡ length ps
+pub none_still : (s : Setting) (longest : ℕ) (gone after : List Bool) (padded new_padded : Code) (lines new : List ListingLine) (g count : ℕ) (ps : List ℕ) (is : List Instr) → AreShort s longest → GaveWay s.write gone padded lines g ps is → count ≡ length ps
     → after ≡ marks_after ps is gone → new_padded ≡ exchanged ps is padded → new ≡ replaced_lines s.write g (length ps) is lines
     → (p : ℕ) → is_gone after p ≡ false → IsFar gone longest g count p → NoneLost after padded new_padded longest p → NoneAt false s lines (rank gone p) → NoneAt false s new (rank after p)
 none_still s longest gone after padded new_padded lines new g count ps is short w c e f l p =
     subst (λ (k : ℕ). is_gone after p ≡ false → IsFar gone longest g k p → NoneLost after padded new_padded longest p → NoneAt false s lines (rank gone p) → NoneAt false s new (rank after p)) (sym c)
     (subst (λ (m : List Bool). is_gone m p ≡ false → IsFar gone longest g (length ps) p → NoneLost m padded new_padded longest p → NoneAt false s lines (rank gone p) → NoneAt false s new (rank m p)) (sym e)
     (subst (λ (d : Code). is_gone (marks_after ps is gone) p ≡ false → IsFar gone longest g (length ps) p → NoneLost (marks_after ps is gone) padded d longest p → NoneAt false s lines (rank gone p) → NoneAt false s new (rank (marks_after ps is gone) p)) (sym f)
-    (subst (λ (ls : List Line). is_gone (marks_after ps is gone) p ≡ false → IsFar gone longest g (length ps) p → NoneLost (marks_after ps is gone) padded (exchanged ps is padded) longest p → NoneAt false s lines (rank gone p) → NoneAt false s ls (rank (marks_after ps is gone) p)) (sym l)
+    (subst (λ (ls : List ListingLine). is_gone (marks_after ps is gone) p ≡ false → IsFar gone longest g (length ps) p → NoneLost (marks_after ps is gone) padded (exchanged ps is padded) longest p → NoneAt false s lines (rank gone p) → NoneAt false s ls (rank (marks_after ps is gone) p)) (sym l)
     (still_none s longest gone padded lines g ps is short w p))))
 
 -- ---- where entries apply ----
 
 -- the place of an entry that applies
-pub applies_within : (s : Setting) (o : Replacement) (lines : List Line) → AppliesIn s o lines → o.place < length (places_of lines)
+pub applies_within : (s : Setting) (o : Replacement) (lines : List ListingLine) → AppliesIn s o lines → o.place < length (places_of lines)
 applies_within s o lines a =
     let some = some_left s o lines a in
     let n = window_length a.rule o.registers (code_of lines) o.place a.applies in
@@ -80,5 +80,5 @@ applies_within s o lines a =
     omega arith
 
 -- is the rank of a kept one
-pub applies_at : (s : Setting) (o : Replacement) (gone : List Bool) (padded : Code) (lines : List Line) → IsPadded gone padded (code_of lines) → AppliesIn s o lines → (p : ℕ) × (p < length padded.places) × (is_gone gone p ≡ false) × (rank gone p ≡ o.place)
+pub applies_at : (s : Setting) (o : Replacement) (gone : List Bool) (padded : Code) (lines : List ListingLine) → IsPadded gone padded (code_of lines) → AppliesIn s o lines → (p : ℕ) × (p < length padded.places) × (is_gone gone p ≡ false) × (rank gone p ≡ o.place)
 applies_at s o gone padded lines is a = rank_taken gone padded (code_of lines) is o.place (applies_within s o lines a)

@@ -7,7 +7,7 @@ use Rattle.kept_places.specs.Marks.{is_gone, marked, rank, IsLeast}
 use Rattle.kept_places.proofs.Ranks.{marked_other, marked_replicate, marked_set, unmarked}
 use Rattle.thumb_instr.specs.declared.instr.Instr.{Instr}
 use Rattle.thumb_instr.specs.Items.{has}
-use Rattle.thumb_model.specs.Listing.{Code, Line, Place, code_of, labels_from, places_of}
+use Rattle.thumb_model.specs.Listing.{Code, ListingLine, Place, code_of, labels_from, places_of}
 use Rattle.thumb_model.specs.Replaced.{replaced_lines}
 use Rattle.thumb_model.proofs.Lists.{length_map, take_all}
 use Rattle.thumb_model.proofs.LinesReplaced.{ops_of}
@@ -49,7 +49,7 @@ short_rules r ready o rule at lowers =
     record { sound = f.sound; short = f.short; some = lowers_some (setting_of r).cost rule.left rule.right lowers }
 
 -- where none fits, none fits that the layout allows
-pub none_less : (asked : Bool) (s : Setting) (lines : List Line) (p : ℕ) → NoneAt false s lines p → NoneAt asked s lines p
+pub none_less : (asked : Bool) (s : Setting) (lines : List ListingLine) (p : ℕ) → NoneAt false s lines p → NoneAt asked s lines p
 none_less asked s lines p none o m at = none o (m.0, λ e. absurd (true≢false (sym e))) at
 
 -- ---- which choice comes first ----
@@ -106,7 +106,7 @@ pub tried_here : (s : Setting) (old new : Scene) (was d : Due) (place : ℕ) →
 tried_here s old new was d place tried are many same lines due refused none = record {
   are = are;
   tried = λ p h k u.
-      subst (λ (ls : List Line). NoneAt (marked d.refused p) s ls (rank (marks new.listing) p)) (sym lines)
+      subst (λ (ls : List ListingLine). NoneAt (marked d.refused p) s ls (rank (marks new.listing) p)) (sym lines)
       (subst (λ (m : List Bool). NoneAt (marked d.refused p) s (lines_of old) (rank m p)) (sym same)
       (at p (omega arith) (ap (λ (m : List Bool). is_gone m p) (sym same) ∙ k) (ap (λ (m : List Bool). marked m p) (sym due) ∙ u)));
 }
@@ -178,7 +178,7 @@ module _ (r : Rules) (old new : Scene) (t : Site) (c : Choice) (m : IsMadeAt r o
         new_padded =
             subst (λ (g : List Bool). IsPadded g (exchanged places c.new (padded old.listing)) (code_of (replaced_lines (setting_of r).write t.number (length places) c.new (lines_of old)))) m.gone
             (subst (λ (p : Code). IsPadded (marks new.listing) p (code_of (replaced_lines (setting_of r).write t.number (length places) c.new (lines_of old)))) m.is_padded
-            (subst (λ (ls : List Line). IsPadded (marks new.listing) (padded new.listing) (code_of ls)) new_lines m.new_kept.is_padded));
+            (subst (λ (ls : List ListingLine). IsPadded (marks new.listing) (padded new.listing) (code_of ls)) new_lines m.new_kept.is_padded));
       }
 
   pub tried_again : (was d : Due) (lost : List Bool) → AreTriedBut (setting_of r) old was t.place → AreDueAgain r.longest old new places t.place was d lost → AreTried (setting_of r) new d

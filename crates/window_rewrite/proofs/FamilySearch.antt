@@ -6,7 +6,7 @@ use Rattle.std.proofs.lemmas.Bool.{cases_lt}
 use Rattle.std.proofs.lemmas.List.{length-map}
 use Rattle.std.proofs.lemmas.Option.{slice_get_within}
 use Rattle.thumb_instr.specs.declared.instr.Instr.{Instr}
-use Rattle.thumb_model.specs.Listing.{Line}
+use Rattle.thumb_model.specs.Listing.{ListingLine}
 use Rattle.rule_table.specs.Views.{family_of, rule_of}
 use Rattle.table_audit.specs.Families.{entry_at}
 use Rattle.window_runs.specs.Windows.{IsWindow}
@@ -18,7 +18,7 @@ use Rattle.window_rewrite.specs.Families.{family_forms, AwaitsFamily, IsFamilyCh
 use Rattle.window_rewrite.specs.Fitting.{IsForm}
 use Rattle.window_rewrite.specs.Forms.{form_of}
 use Rattle.window_rewrite.specs.Rules.{chain_of, chains_of, is_marked, raised_rule, side_length}
-use Rattle.window_rewrite.specs.Shapes.{blind}
+use Rattle.window_rewrite.specs.Hashes.{blind}
 use Rattle.window_rewrite.proofs.Chosen.{left_of, taken_more}
 use Rattle.window_rewrite.proofs.Keys.{all_marked, as_many_chains, chain_at, form_there, found, nothing, IsFound}
 use Rattle.window_rewrite.proofs.Raised.{families_cost, family_cost, forms_many, found_family, none_hidden_at, none_more}
@@ -27,13 +27,13 @@ abbrev pub chains_in : Rules → List ℕ
 chains_in r = chains_of (family_forms r)
 
 -- the families below k don't meet this at a place, and the one behind them is awaited whose left side has this side's number
-pub record IsFamilySearch (asked : Bool) (r : Rules) (lines : List Line) (place count : ℕ) (side : List Instr) (at : Option ℕ) (start steps : ℕ) : Type 0 where
+pub record IsFamilySearch (asked : Bool) (r : Rules) (lines : List ListingLine) (place count : ℕ) (side : List Instr) (at : Option ℕ) (start steps : ℕ) : Type 0 where
   pub k : ℕ
   pub awaits : AwaitsFamily r side k at
   pub none : NoneOfFamilies asked r lines place count k
   pub cost : steps ≤ start + of_length count (take k (families_sides r))
 
-pub family_search_begins : (asked : Bool) (r : Rules) (lines : List Line) (place count : ℕ) (side : List Instr) (at : Option ℕ) (start : ℕ) → AwaitsFamily r side 0 at → IsFamilySearch asked r lines place count side at start start
+pub family_search_begins : (asked : Bool) (r : Rules) (lines : List ListingLine) (place count : ℕ) (side : List Instr) (at : Option ℕ) (start : ℕ) → AwaitsFamily r side 0 at → IsFamilySearch asked r lines place count side at start start
 family_search_begins asked r lines place count side at start a = record {
   k = 0;
   awaits = a;
@@ -60,7 +60,7 @@ pub nexts_within : (r : Rules) (n : ℕ) → AreReady r → n < length r.familie
 nexts_within r n ready h = omega (arith, h, ready.index.family_chains.as_many, many_forms r)
 
 -- what the search cost so far
-pub family_search_spent : (asked : Bool) (r : Rules) (lines : List Line) (place count : ℕ) (side : List Instr) (at : Option ℕ) (start steps : ℕ) → IsFamilySearch asked r lines place count side at start steps → steps ≤ start + of_length count (families_sides r)
+pub family_search_spent : (asked : Bool) (r : Rules) (lines : List ListingLine) (place count : ℕ) (side : List Instr) (at : Option ℕ) (start steps : ℕ) → IsFamilySearch asked r lines place count side at start steps → steps ≤ start + of_length count (families_sides r)
 family_search_spent asked r lines place count side at start steps s = families_cost count (families_sides r) s.k start steps s.cost
 
 module _ (r : Rules) (side : List Instr) (ready : AreReady r) where
@@ -99,7 +99,7 @@ module _ (r : Rules) (side : List Instr) (ready : AreReady r) where
           let from = f.from in
           omega (arith, inside, from, within (n + 1) m f, many_sides r)
 
-  module _ (lines : List Line) (place : ℕ) (window : List Instr) (form : Form) (there : IsWindow lines place window) (formed : IsForm window form) (same : side ≡ form.side) where
+  module _ (lines : List ListingLine) (place : ℕ) (window : List Instr) (form : Form) (there : IsWindow lines place window) (formed : IsForm window form) (same : side ≡ form.side) where
     -- where no family between has the number, none of these meets this
     none_until : (asked : Bool) (k n : ℕ) → n ≤ length r.families.now → NoneOfFamilies asked r lines place (length window) k → ((j : ℕ) → k ≤ j → j < n → slice_get (chains_in r) j ≡ Some hidden → ⊥) → NoneOfFamilies asked r lines place (length window) n
     none_until asked k n most none gap o m here long from below = elim (cases_lt o.entry (length r.entries.now + k)) [

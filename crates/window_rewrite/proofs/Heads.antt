@@ -20,11 +20,11 @@ use Rattle.table_audit.proofs.Instances.{entries_length, instance_is, rule_at_be
 use Rattle.thumb_model.proofs.Lists.{length_map}
 use Rattle.window_rewrite.specs.Rules.{families_in, is_marked, is_lighter, AreMany, AreMarked, AreNoted, IsIndex, IsNoted, StayNoted}
 use Rattle.window_rewrite.proofs.Weights.{weight_raised}
-use Rattle.window_rewrite.specs.Shapes.{blind, head_number, next_shape, seen, shape_from, shape_of}
+use Rattle.window_rewrite.specs.Hashes.{blind, head_number, next_hash, seen, hash_from, hash_of}
 use Rattle.window_rewrite.specs.declared.marks.Marks.{Marks}
 use Rattle.window_rewrite.specs.Fitting.{NoneBetween, NoneMarked, NoneReaches, NoneStands, Lightens}
-use Rattle.window_rewrite.specs.declared.index.Index.{Index}
-use Rattle.window_runs.specs.declared.rows.Row.{Row}
+use Rattle.window_rewrite.specs.declared.index.RuleIndex.{RuleIndex}
+use Rattle.window_runs.specs.declared.rows.WindowPlace.{WindowPlace}
 use Rattle.window_runs.specs.Runs.{before, letter_at, run}
 
 -- ---- windows ----
@@ -36,18 +36,18 @@ head_same r i j e = ap head_number e ∙ by i
     by (instr.Mov d m) = refl
     by i = refl
 
-shape_next : (shape : ℕ) (i j : Instr) → head_number j ≡ head_number i → next_shape shape j ≡ next_shape shape i
-shape_next shape i j e = ap (λ h. (shape * 1283 + h) % 65536) e
+hash_next : (hash : ℕ) (i j : Instr) → head_number j ≡ head_number i → next_hash hash j ≡ next_hash hash i
+hash_next hash i j e = ap (λ h. (hash * 1283 + h) % 65536) e
 
 -- instructions under a map have the same number
-pub shape_renamed : (r : List Low) (shape : ℕ) (is js : List Instr) → js ≡ map (renamed r) is → shape_from shape js ≡ shape_from shape is
-shape_renamed r shape [] [] e = refl
-shape_renamed r shape [] (j ∷ js) e = absurd (cc)
-shape_renamed r shape (i ∷ is) [] e = absurd (cc)
-shape_renamed r shape (i ∷ is) (j ∷ js) e =
+pub hash_renamed : (r : List Low) (hash : ℕ) (is js : List Instr) → js ≡ map (renamed r) is → hash_from hash js ≡ hash_from hash is
+hash_renamed r hash [] [] e = refl
+hash_renamed r hash [] (j ∷ js) e = absurd (cc)
+hash_renamed r hash (i ∷ is) [] e = absurd (cc)
+hash_renamed r hash (i ∷ is) (j ∷ js) e =
     let first : j ≡ renamed r i = cc in
     let rest : js ≡ map (renamed r) is = cc in
-    ap (λ n. shape_from n js) (shape_next shape i j (head_same r i j first)) ∙ shape_renamed r (next_shape shape i) is js rest
+    ap (λ n. hash_from n js) (hash_next hash i j (head_same r i j first)) ∙ hash_renamed r (next_hash hash i) is js rest
 
 front_map : (f : Instr → Instr) (n : ℕ) (is : List Instr) → take n (map f is) ≡ map f (take n is)
 front_map f zero is = refl
@@ -61,13 +61,13 @@ front_front (suc m) (suc n) [] h = refl
 front_front (suc m) (suc n) (i ∷ is) h = ap (λ js. i ∷ js) (front_front m n is (omega arith))
 
 -- the number of a front with one instruction more
-front_next : (shape at : ℕ) (is : List Instr) (i : Instr) → slice_get is at ≡ Some i → shape_from shape (take (suc at) is) ≡ next_shape (shape_from shape (take at is)) i
-front_next shape at [] i e = absurd (cc)
-front_next shape zero (x ∷ xs) i e = let one : x ≡ i = cc in ap (next_shape shape) one
-front_next shape (suc at) (x ∷ xs) i e = front_next (next_shape shape x) at xs i e
+front_next : (hash at : ℕ) (is : List Instr) (i : Instr) → slice_get is at ≡ Some i → hash_from hash (take (suc at) is) ≡ next_hash (hash_from hash (take at is)) i
+front_next hash at [] i e = absurd (cc)
+front_next hash zero (x ∷ xs) i e = let one : x ≡ i = cc in ap (next_hash hash) one
+front_next hash (suc at) (x ∷ xs) i e = front_next (next_hash hash x) at xs i e
 
-pub front_more : (shape at : ℕ) (is : List Instr) (i : Instr) → slice_get is at ≡ Some i → shape ≡ shape_of (take at is) → next_shape shape i ≡ shape_of (take (at + 1) is)
-front_more shape at is i e s = ap (λ n. next_shape n i) s ∙ sym (front_next 0 at is i e) ∙ ap (λ n. shape_of (take n is)) (let one : suc at ≡ at + 1 = omega arith in one)
+pub front_more : (hash at : ℕ) (is : List Instr) (i : Instr) → slice_get is at ≡ Some i → hash ≡ hash_of (take at is) → next_hash hash i ≡ hash_of (take (at + 1) is)
+front_more hash at is i e s = ap (λ n. next_hash n i) s ∙ sym (front_next 0 at is i e) ∙ ap (λ n. hash_of (take n is)) (let one : suc at ≡ at + 1 = omega arith in one)
 
 pub lighter_is : (costs : Option (List ℕ)) (rule : Rule) (registers : List Low) (window : List Instr) → Lightens costs rule registers window → is_lighter costs rule ≡ true
 lighter_is costs rule registers window s = lt-ltb (weight_under costs rule.right) (weight_under costs rule.left) s.lighter
@@ -87,12 +87,12 @@ marked_still (b ∷ bs) (suc k) zero h = h
 marked_still (b ∷ bs) (suc k) (suc q) h = marked_still bs k q h
 
 -- with one front of a side more
-pub mark_more : (old new : List Bool) (side : List Instr) (at shape : ℕ) → ((q : ℕ) → is_marked old q ≡ true → is_marked new q ≡ true) → is_marked new shape ≡ true → shape ≡ shape_of (take (at + 1) side) → AreMarked old side at → AreMarked new side (at + 1)
-mark_more old new side at shape kept here is a = λ b less. elim (cases_lt b at) [
-  | inl l ↦ kept (shape_of (take (suc b) side)) (a b l)
+pub mark_more : (old new : List Bool) (side : List Instr) (at hash : ℕ) → ((q : ℕ) → is_marked old q ≡ true → is_marked new q ≡ true) → is_marked new hash ≡ true → hash ≡ hash_of (take (at + 1) side) → AreMarked old side at → AreMarked new side (at + 1)
+mark_more old new side at hash kept here is a = λ b less. elim (cases_lt b at) [
+  | inl l ↦ kept (hash_of (take (suc b) side)) (a b l)
   | inr ge ↦ (
       let same : suc b ≡ at + 1 = omega arith in
-      ap (λ n. is_marked new (shape_of (take n side))) same ∙ ap (is_marked new) (sym is) ∙ here
+      ap (λ n. is_marked new (hash_of (take n side))) same ∙ ap (is_marked new) (sym is) ∙ here
       )
 ]
 
@@ -101,8 +101,8 @@ mark_more old new side at shape kept here is a = λ b less. elim (cases_lt b at)
 -- what is marked stays so while marks come
 pub still_noted : (old new : Marks) (side : List Instr) → StayNoted old new → IsNoted old side → IsNoted new side
 still_noted old new side stay n = record {
-  whole = stay.wholes (shape_of side) n.whole;
-  fronts = λ a w. stay.fronts (shape_of (take (suc a) side)) (n.fronts a w);
+  whole = stay.wholes (hash_of side) n.whole;
+  fronts = λ a w. stay.fronts (hash_of (take (suc a) side)) (n.fronts a w);
 }
 
 pub stay_there : (marks : Marks) → StayNoted marks marks
@@ -177,61 +177,61 @@ front_as_long (suc n) [] = refl
 front_as_long (suc n) (i ∷ is) = ap (λ js. i ∷ js) (front_as_long n is)
 
 -- and has the window's number
-pub side_shape : (hidden : Bool) (side : List Instr) (registers : List Low) (window : List Instr) → map (seen hidden) window ≡ map (renamed registers) side → shape_of side ≡ shape_of (map (seen hidden) window)
-side_shape hidden side registers window e = sym (shape_renamed registers 0 side (map (seen hidden) window) e)
+pub side_hash : (hidden : Bool) (side : List Instr) (registers : List Low) (window : List Instr) → map (seen hidden) window ≡ map (renamed registers) side → hash_of side ≡ hash_of (map (seen hidden) window)
+side_hash hidden side registers window e = sym (hash_renamed registers 0 side (map (seen hidden) window) e)
 
 -- where a front of a run isn't marked, no marked side that stands first in the run is as long
-pub unreached : (marks : Marks) (hidden : Bool) (run : List Instr) (at shape : ℕ) → shape ≡ shape_of (take (at + 1) (map (seen hidden) run)) → is_marked marks.fronts.items shape ≡ false → NoneMarked marks hidden run at
-unreached marks hidden run at shape shape_is missing n side registers longer noted e =
-    let marked : is_marked marks.fronts.items (shape_of (take (suc at) side)) ≡ true = noted.fronts at longer in
+pub unreached : (marks : Marks) (hidden : Bool) (run : List Instr) (at hash : ℕ) → hash ≡ hash_of (take (at + 1) (map (seen hidden) run)) → is_marked marks.fronts.items hash ≡ false → NoneMarked marks hidden run at
+unreached marks hidden run at hash hash_is missing n side registers longer noted e =
+    let marked : is_marked marks.fronts.items (hash_of (take (suc at) side)) ≡ true = noted.fronts at longer in
     let count = side_long hidden side registers (take n run) e in
     let long : suc at ≤ n = omega (arith, count, front_short n run) in
     let front : take (suc at) (map (seen hidden) run) ≡ map (renamed registers) (take (suc at) side) =
     front_map (seen hidden) (suc at) run ∙ ap (map (seen hidden)) (sym (front_front (suc at) n run long)) ∙ sym (front_map (seen hidden) (suc at) (take n run)) ∙ ap (take (suc at)) e ∙ front_map (renamed registers) (suc at) side in
-    let same : shape ≡ shape_of (take (suc at) side) =
-    shape_is ∙ ap (λ m. shape_of (take m (map (seen hidden) run))) (let one : at + 1 ≡ suc at = omega arith in one) ∙ shape_renamed registers 0 (take (suc at) side) (take (suc at) (map (seen hidden) run)) front in
+    let same : hash ≡ hash_of (take (suc at) side) =
+    hash_is ∙ ap (λ m. hash_of (take m (map (seen hidden) run))) (let one : at + 1 ≡ suc at = omega arith in one) ∙ hash_renamed registers 0 (take (suc at) side) (take (suc at) (map (seen hidden) run)) front in
     let bad : true ≡ false = sym marked ∙ ap (is_marked marks.fronts.items) (sym same) ∙ missing in
     absurd (cc)
 
 -- where the instructions of a front don't have the number of a marked side, no marked side that stands there has as many
-unmarked_none : (marks : Marks) (hidden : Bool) (run : List Instr) (at shape : ℕ) → shape ≡ shape_of (take (at + 1) (map (seen hidden) run)) → is_marked marks.wholes.items shape ≡ false
+unmarked_none : (marks : Marks) (hidden : Bool) (run : List Instr) (at hash : ℕ) → hash ≡ hash_of (take (at + 1) (map (seen hidden) run)) → is_marked marks.wholes.items hash ≡ false
     → (n : ℕ) (side : List Instr) (registers : List Low) → length side ≡ at + 1 → IsNoted marks side → map (seen hidden) (take n run) ≡ map (renamed registers) side → ⊥
-unmarked_none marks hidden run at shape shape_is missing n side registers long noted e =
+unmarked_none marks hidden run at hash hash_is missing n side registers long noted e =
     let count : at + 1 ≡ length (take n run) = sym long ∙ sym (side_long hidden side registers (take n run) e) in
-    let same : shape ≡ shape_of side =
-    shape_is ∙ ap (λ m. shape_of (take m (map (seen hidden) run))) count ∙ ap shape_of (front_map (seen hidden) (length (take n run)) run)
-    ∙ ap (λ is. shape_of (map (seen hidden) is)) (sym (front_as_long n run)) ∙ sym (side_shape hidden side registers (take n run) e) in
+    let same : hash ≡ hash_of side =
+    hash_is ∙ ap (λ m. hash_of (take m (map (seen hidden) run))) count ∙ ap hash_of (front_map (seen hidden) (length (take n run)) run)
+    ∙ ap (λ is. hash_of (map (seen hidden) is)) (sym (front_as_long n run)) ∙ sym (side_hash hidden side registers (take n run) e) in
     let bad : true ≡ false = sym noted.whole ∙ ap (is_marked marks.wholes.items) (sym same) ∙ missing in
     absurd (cc)
 
 -- with one instruction more
-pub between_more : (marks : Marks) (hidden : Bool) (run : List Instr) (at shape reached next : ℕ) → shape ≡ shape_of (take (at + 1) (map (seen hidden) run)) → next ≡ (if is_marked marks.wholes.items shape then at + 1 else reached)
+pub between_more : (marks : Marks) (hidden : Bool) (run : List Instr) (at hash reached next : ℕ) → hash ≡ hash_of (take (at + 1) (map (seen hidden) run)) → next ≡ (if is_marked marks.wholes.items hash then at + 1 else reached)
     → NoneBetween marks hidden run reached at → NoneBetween marks hidden run next (at + 1)
-between_more marks hidden run at shape reached next shape_is e none = by (is_marked marks.wholes.items shape) refl
+between_more marks hidden run at hash reached next hash_is e none = by (is_marked marks.wholes.items hash) refl
   where
-    by : (b : Bool) → is_marked marks.wholes.items shape ≡ b → NoneBetween marks hidden run next (at + 1)
+    by : (b : Bool) → is_marked marks.wholes.items hash ≡ b → NoneBetween marks hidden run next (at + 1)
     by true m = λ n side registers longer few noted s. (
         let same : next ≡ at + 1 = e ∙ ap (λ (b : Bool). if b then at + 1 else reached) m in
         absurd (omega (arith, longer, few, same)))
     by false m = λ n side registers longer few noted s. (
         let same : next ≡ reached = e ∙ ap (λ (b : Bool). if b then at + 1 else reached) m in
         elim (cases_lt at (length side)) [
-          | inl l ↦ unmarked_none marks hidden run at shape shape_is m n side registers (omega (arith, l, few)) noted s
+          | inl l ↦ unmarked_none marks hidden run at hash hash_is m n side registers (omega (arith, l, few)) noted s
           | inr l ↦ none n side registers (omega (arith, longer, same)) l noted s
         ])
 
-pub between_within : (marks : Marks) (at shape reached next : ℕ) → next ≡ (if is_marked marks.wholes.items shape then at + 1 else reached) → reached ≤ at → next ≤ at + 1
-between_within marks at shape reached next e h = by (is_marked marks.wholes.items shape) e
+pub between_within : (marks : Marks) (at hash reached next : ℕ) → next ≡ (if is_marked marks.wholes.items hash then at + 1 else reached) → reached ≤ at → next ≤ at + 1
+between_within marks at hash reached next e h = by (is_marked marks.wholes.items hash) e
   where
     by : (b : Bool) → next ≡ (if b then at + 1 else reached) → next ≤ at + 1
     by true e = omega (arith, e)
     by false e = omega (arith, e, h)
 
 -- where the next front isn't marked, no longer one stands there
-pub between_all : (marks : Marks) (hidden : Bool) (run : List Instr) (at shape reached : ℕ) → shape ≡ shape_of (take (at + 1) (map (seen hidden) run)) → is_marked marks.fronts.items shape ≡ false → NoneBetween marks hidden run reached at
+pub between_all : (marks : Marks) (hidden : Bool) (run : List Instr) (at hash reached : ℕ) → hash ≡ hash_of (take (at + 1) (map (seen hidden) run)) → is_marked marks.fronts.items hash ≡ false → NoneBetween marks hidden run reached at
     → NoneMarked marks hidden run reached
-between_all marks hidden run at shape reached shape_is missing none n side registers longer noted s = elim (cases_lt at (length side)) [
-  | inl l ↦ unreached marks hidden run at shape shape_is missing n side registers l noted s
+between_all marks hidden run at hash reached hash_is missing none n side registers longer noted s = elim (cases_lt at (length side)) [
+  | inl l ↦ unreached marks hidden run at hash hash_is missing n side registers l noted s
   | inr l ↦ none n side registers longer l noted s
 ]
 
@@ -242,24 +242,24 @@ between_end marks hidden run reached at end none n side registers longer noted s
 
 -- ---- what a run begins with ----
 
-begun : (rows : List Row) (most : ℕ) (i : Instr) → Some i ≡ letter_at true rows → (run true most rows ≡ []) ⊎ (slice_get (run true most rows) 0 ≡ Some i)
+begun : (rows : List WindowPlace) (most : ℕ) (i : Instr) → Some i ≡ letter_at true rows → (run true most rows ≡ []) ⊎ (slice_get (run true most rows) 0 ≡ Some i)
 begun rows zero i e = inl refl
 begun [] (suc most) i e = absurd (cc)
 begun (r ∷ rs) (suc most) i e = inr (ap (λ o. slice_get (before o (run false most rs)) 0) (sym e))
 
-not_begun : (rows : List Row) (most : ℕ) → None ≡ letter_at true rows → run true most rows ≡ []
+not_begun : (rows : List WindowPlace) (most : ℕ) → None ≡ letter_at true rows → run true most rows ≡ []
 not_begun rows zero e = refl
 not_begun [] (suc most) e = refl
 not_begun (r ∷ rs) (suc most) e = ap (λ o. before o (run false most rs)) (sym e)
 
 -- where no run begins, no left side stands first in it
-pub none_without : (costs : Option (List ℕ)) (table : List (List Rule)) (rows : List Row) → None ≡ letter_at true rows → (most : ℕ) → NoneReaches costs table (run true most rows) 0
+pub none_without : (costs : Option (List ℕ)) (table : List (List Rule)) (rows : List WindowPlace) → None ≡ letter_at true rows → (most : ℕ) → NoneReaches costs table (run true most rows) 0
 none_without costs table rows e most n k i rule registers some is_rule s =
     let long = side_long false rule.left registers (take n (run true most rows)) s.stands.matches in
     absurd (omega (arith, long, front_long n (run true most rows), ap (λ (js : List Instr). length js) (not_begun rows most e), some))
 
 -- nor where its first instruction begins none
-pub none_begin : (marks : Marks) (hidden : Bool) (first : Instr) (rows : List Row) → is_marked marks.fronts.items (next_shape 0 (seen hidden first)) ≡ false → Some first ≡ letter_at true rows → (most : ℕ) → NoneMarked marks hidden (run true most rows) 0
+pub none_begin : (marks : Marks) (hidden : Bool) (first : Instr) (rows : List WindowPlace) → is_marked marks.fronts.items (next_hash 0 (seen hidden first)) ≡ false → Some first ≡ letter_at true rows → (most : ℕ) → NoneMarked marks hidden (run true most rows) 0
 none_begin marks hidden first rows missing e most n side registers some noted s = elim (begun rows most first e) [
   | inl l ↦ (
       let long = side_long hidden side registers (take n (run true most rows)) s in
@@ -267,7 +267,7 @@ none_begin marks hidden first rows missing e most n side registers some noted s 
       )
   | inr l ↦ (
       let there : slice_get (map (seen hidden) (run true most rows)) 0 ≡ Some (seen hidden first) = slice_get-map (seen hidden) (run true most rows) 0 ∙ ap (option_map (seen hidden)) l in
-      unreached marks hidden (run true most rows) 0 (next_shape 0 (seen hidden first)) (front_more 0 0 (map (seen hidden) (run true most rows)) (seen hidden first) there refl) missing n side registers some noted s
+      unreached marks hidden (run true most rows) 0 (next_hash 0 (seen hidden first)) (front_more 0 0 (map (seen hidden) (run true most rows)) (seen hidden first) there refl) missing n side registers some noted s
       )
 ]
 
@@ -289,7 +289,7 @@ blind_stands costs rule registers window s = both window ∙ ap (map blind) s.st
     under [] = refl
     under (i ∷ is) = ap (λ j. j ∷ map blind (map (renamed registers) is)) (one i) ∙ ap (λ js. renamed registers (blind i) ∷ js) (under is)
 
-module _ (costs : Option (List ℕ)) (es : List tables.Rule) (fs : List tables.Family) (index : Index) (are : IsIndex costs es fs index) where
+module _ (costs : Option (List ℕ)) (es : List tables.Rule) (fs : List tables.Family) (index : RuleIndex) (are : IsIndex costs es fs index) where
   -- the number of a family's instance among the families
   behind : (k i : ℕ) (rule : Rule) → rule_at (families_in es fs) k i ≡ Some rule → k < length fs
   behind k i rule at = by (slice_get (families_in es fs) k) refl at
@@ -336,20 +336,20 @@ module _ (costs : Option (List ℕ)) (es : List tables.Rule) (fs : List tables.F
       (λ j there. absurd (let w = behind j i rule there in omega (arith, w, none)))
 
   -- no family's instance stands in a window whose number isn't marked
-  pub none_raised : (window : List Instr) (shape : ℕ) → shape ≡ shape_of (map (seen true) window) → is_marked index.holes.wholes.items shape ≡ false → NoneStands costs (families_in es fs) window
-  none_raised window shape is missing k i rule registers at s =
+  pub none_raised : (window : List Instr) (hash : ℕ) → hash ≡ hash_of (map (seen true) window) → is_marked index.holes.wholes.items hash ≡ false → NoneStands costs (families_in es fs) window
+  none_raised window hash is missing k i rule registers at s =
       let noted = hole_noted k i rule at (lighter_is costs rule registers window s) in
-      let bad : true ≡ false = sym noted.whole ∙ ap (is_marked index.holes.wholes.items) (side_shape true (map blind rule.left) registers window (blind_stands costs rule registers window s) ∙ sym is) ∙ missing in
+      let bad : true ≡ false = sym noted.whole ∙ ap (is_marked index.holes.wholes.items) (side_hash true (map blind rule.left) registers window (blind_stands costs rule registers window s) ∙ sym is) ∙ missing in
       absurd (cc)
 
   pub none_raised_empty : (window : List Instr) → length fs ≡ 0 → NoneStands costs (families_in es fs) window
   none_raised_empty window none k i rule registers at s = absurd (let w = behind k i rule at in omega (arith, w, none))
 
   -- nor any rule where no entry's left side is marked either
-  pub none_standing : (window : List Instr) (shape : ℕ) → shape ≡ shape_of (map (seen false) window) → is_marked index.marks.wholes.items shape ≡ false → NoneStands costs (families_in es fs) window → NoneStands costs (numbers_in es fs) window
-  none_standing window shape is missing families k i rule registers at s = split k i rule at
+  pub none_standing : (window : List Instr) (hash : ℕ) → hash ≡ hash_of (map (seen false) window) → is_marked index.marks.wholes.items hash ≡ false → NoneStands costs (families_in es fs) window → NoneStands costs (numbers_in es fs) window
+  none_standing window hash is missing families k i rule registers at s = split k i rule at
       (λ there.
       let noted = entry_noted k rule there (lighter_is costs rule registers window s) in
-      let bad : true ≡ false = sym noted.whole ∙ ap (is_marked index.marks.wholes.items) (side_shape false rule.left registers window s.stands.matches ∙ sym is) ∙ missing in
+      let bad : true ≡ false = sym noted.whole ∙ ap (is_marked index.marks.wholes.items) (side_hash false rule.left registers window s.stands.matches ∙ sym is) ∙ missing in
       absurd (cc))
       (λ j there. families j i rule registers there s)

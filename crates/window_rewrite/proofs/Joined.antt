@@ -5,7 +5,7 @@ use Rattle.std.proofs.lemmas.Bool.{cases_lt}
 use Rattle.std.proofs.lemmas.List.{length-map}
 use Rattle.std.proofs.lemmas.Option.{slice_get_within}
 use Rattle.thumb_model.specs.Layout.{Layable}
-use Rattle.thumb_model.specs.Listing.{Line}
+use Rattle.thumb_model.specs.Listing.{ListingLine}
 use Rattle.rule_model.specs.Rules.{Rule, alone, rule_at}
 use Rattle.rule_model.specs.Rewriting.{Replacement, AppliesIn, used_rule, left_length_of, lines_after_rule}
 use Rattle.rule_model.proofs.Alone.{alone_at, alone_is}
@@ -17,7 +17,7 @@ use Rattle.table_audit.specs.Soundness.{instances_of, numbers_in, rewriting_rule
 use Rattle.table_audit.proofs.Instances.{entries_length, number_is, rule_at_before}
 use Rattle.window_rewrite.specs.declared.choice.Choice.{Choice}
 use Rattle.window_rewrite.specs.declared.finding.Rules.{Rules}
-use Rattle.window_rewrite.specs.Rewriting.{setting_by}
+use Rattle.window_rewrite.specs.TableRewriting.{setting_by}
 use Rattle.window_rewrite.specs.Rules.{chains_of, families_in, first_with, is_marked, left_forms, raised_rule, raised_rules, rules_in, AreFit}
 use Rattle.window_rewrite.specs.Choices.{choice_of, entries_setting, setting_of, table_in, of_length, AreReady, IsChoice, IsLowest, Meets, NoneOf}
 use Rattle.window_rewrite.specs.Forms.{form_of}
@@ -27,7 +27,7 @@ use Rattle.window_rewrite.proofs.Applied.{meets}
 -- ---- one rule in two tables ----
 
 -- what a replacement does by a table is what it does by another in which it uses the same rule
-pub meets_too : (asked : Bool) (costs : Option (List ℕ)) (base : ℕ) (t u : List (List Rule)) (o : Replacement) (lines : List Line) → used_rule (setting_by costs base u) o ≡ used_rule (setting_by costs base t) o → Meets asked (setting_by costs base t) o lines → Meets asked (setting_by costs base u) o lines
+pub meets_too : (asked : Bool) (costs : Option (List ℕ)) (base : ℕ) (t u : List (List Rule)) (o : Replacement) (lines : List ListingLine) → used_rule (setting_by costs base u) o ≡ used_rule (setting_by costs base t) o → Meets asked (setting_by costs base t) o lines → Meets asked (setting_by costs base u) o lines
 meets_too asked costs base t u o lines same m = (
   record { rule = m.0.rule; is_rule = same ∙ m.0.is_rule; lowers = m.0.lowers; applies = m.0.applies; joined = m.0.joined },
   λ e. record {
@@ -36,10 +36,10 @@ meets_too asked costs base t u o lines same m = (
   },
 )
 
-pub applies_too : (costs : Option (List ℕ)) (base : ℕ) (t u : List (List Rule)) (o : Replacement) (lines : List Line) → used_rule (setting_by costs base u) o ≡ used_rule (setting_by costs base t) o → AppliesIn (setting_by costs base t) o lines → AppliesIn (setting_by costs base u) o lines
+pub applies_too : (costs : Option (List ℕ)) (base : ℕ) (t u : List (List Rule)) (o : Replacement) (lines : List ListingLine) → used_rule (setting_by costs base u) o ≡ used_rule (setting_by costs base t) o → AppliesIn (setting_by costs base t) o lines → AppliesIn (setting_by costs base u) o lines
 applies_too costs base t u o lines same a = record { rule = a.rule; is_rule = same ∙ a.is_rule; lowers = a.lowers; applies = a.applies; least = a.least; joined = a.joined; few = a.few; layable = a.layable }
 
-choice_too : (costs : Option (List ℕ)) (base : ℕ) (t u : List (List Rule)) (lines : List Line) (c : Choice) → used_rule (setting_by costs base u) (choice_of c) ≡ used_rule (setting_by costs base t) (choice_of c) → IsChoice (setting_by costs base t) lines c → IsChoice (setting_by costs base u) lines c
+choice_too : (costs : Option (List ℕ)) (base : ℕ) (t u : List (List Rule)) (lines : List ListingLine) (c : Choice) → used_rule (setting_by costs base u) (choice_of c) ≡ used_rule (setting_by costs base t) (choice_of c) → IsChoice (setting_by costs base t) lines c → IsChoice (setting_by costs base u) lines c
 choice_too costs base t u lines c same a = record {
   whole = a.whole;
   applies = applies_too costs base t u (choice_of c) lines same a.applies;
@@ -94,7 +94,7 @@ module _ (r : Rules) where
   own o h = own_rule es fs r.costs.now r.base o (omega (arith, many, h))
 
   -- the lowest entry is the lowest of all
-  pub lowest_entry : (lines : List Line) (place count : ℕ) (c : Choice) → IsLowest (entries_setting r) lines place count c → IsLowest (setting_of r) lines place count c
+  pub lowest_entry : (lines : List ListingLine) (place count : ℕ) (c : Choice) → IsLowest (entries_setting r) lines place count c → IsLowest (setting_of r) lines place count c
   lowest_entry lines place count c l =
       let a = l.is.applies in
       let alone_rule = alone_is (map rewriting_rule es) (choice_of c).entry (choice_of c).instance a.rule a.is_rule in
@@ -112,7 +112,7 @@ module _ (r : Rules) where
       }
 
   -- where no entry meets this, the lowest family is
-  pub lowest_behind : (asked : Bool) (lines : List Line) (place count : ℕ) (c : Choice) → NoneOf asked (entries_setting r) lines place count → IsLowestFamily r lines place count c → IsLowest (setting_of r) lines place count c
+  pub lowest_behind : (asked : Bool) (lines : List ListingLine) (place count : ℕ) (c : Choice) → NoneOf asked (entries_setting r) lines place count → IsLowestFamily r lines place count c → IsLowest (setting_of r) lines place count c
   lowest_behind asked lines place count c none l = record {
     is = l.is;
     at = l.at;
@@ -125,7 +125,7 @@ module _ (r : Rules) where
   }
 
   -- and where no family does either, none does
-  pub none_of_both : (asked : Bool) (lines : List Line) (place count : ℕ) → NoneOf asked (entries_setting r) lines place count → NoneOfFamilies asked r lines place count (length r.families.now) → NoneOf asked (setting_of r) lines place count
+  pub none_of_both : (asked : Bool) (lines : List ListingLine) (place count : ℕ) → NoneOf asked (entries_setting r) lines place count → NoneOfFamilies asked r lines place count (length r.families.now) → NoneOf asked (setting_of r) lines place count
   none_of_both asked lines place count none families o m e n = elim (cases_lt o.entry (length r.entries.now)) [
     | inl h ↦ none o (meets_too asked r.costs.now r.base (table_in r) (alone (map rewriting_rule es)) o lines (sym (own o h)) m) e (ap left_length_of (sym (own o h)) ∙ n)
     | inr h ↦ families o m e n h (let w = number_in es fs o.entry o.instance m.0.rule m.0.is_rule in let within = w.within in omega (arith, within, many, many_families))

@@ -5,7 +5,7 @@ use Rattle.std.proofs.lemmas.Bool.{cases_eq, cases_lt}
 use Rattle.std.proofs.lemmas.List.{length-set}
 use Rattle.std.proofs.lemmas.Option.{same_Some}
 use Rattle.rule_model.specs.Rules.{Rule}
-use Rattle.window_rewrite.specs.declared.shadows.Kept.{Kept}
+use Rattle.window_rewrite.specs.declared.shadows.KeptEntries.{KeptEntries}
 use Rattle.window_rewrite.specs.Rules.{is_marked, is_lighter, is_true, AreKept, IsLed}
 use Rattle.window_rewrite.proofs.Heads.{marked_here, marked_still}
 use Rattle.window_rewrite.proofs.Keys.{set_here, set_other, some_head}
@@ -22,7 +22,7 @@ none_marked (suc n) zero = refl
 none_marked (suc n) (suc q) = none_marked n q
 
 -- none is kept yet
-pub none_kept : (costs : Option (List ℕ)) (rules : List Rule) (k : Kept) → length k.kept.items ≡ length rules → length k.lasts.items ≡ length rules → length k.earlier.items ≡ length rules
+pub none_kept : (costs : Option (List ℕ)) (rules : List Rule) (k : KeptEntries) → length k.kept.items ≡ length rules → length k.lasts.items ≡ length rules → length k.earlier.items ≡ length rules
     → ((q : ℕ) (o : Option ℕ) → slice_get k.lasts.items q ≡ Some o → o ≡ None) → ((q : ℕ) (o : Option ℕ) → slice_get k.earlier.items q ≡ Some o → o ≡ None) → ((q : ℕ) → is_marked k.kept.items q ≡ false) → AreKept costs rules 0 k
 none_kept costs rules k many lasts earlier no_last no_earlier none = record {
   many = many;
@@ -35,7 +35,7 @@ none_kept costs rules k many lasts earlier no_last no_earlier none = record {
 }
 
 -- a rule more that needn't be kept
-pub kept_so : (costs : Option (List ℕ)) (rules : List Rule) (n : ℕ) (rule : Rule) (k : Kept) → slice_get rules n ≡ Some rule → AreKept costs rules n k → (is_lighter costs rule ≡ true → IsLed costs rules k.kept.items n rule) → AreKept costs rules (n + 1) k
+pub kept_so : (costs : Option (List ℕ)) (rules : List Rule) (n : ℕ) (rule : Rule) (k : KeptEntries) → slice_get rules n ≡ Some rule → AreKept costs rules n k → (is_lighter costs rule ≡ true → IsLed costs rules k.kept.items n rule) → AreKept costs rules (n + 1) k
 kept_so costs rules n rule k at x here = record {
   many = x.many;
   many_lasts = x.many_lasts;
@@ -54,7 +54,7 @@ kept_so costs rules n rule k at x here = record {
 }
 
 -- a rule more that is kept
-pub more_kept : (costs : Option (List ℕ)) (rules : List Rule) (n shared : ℕ) (rule : Rule) (old new : Kept) (o : Option ℕ) → slice_get rules n ≡ Some rule → n < length rules → shared < length rules → is_lighter costs rule ≡ true → AreKept costs rules n old → slice_get old.lasts.items shared ≡ Some o
+pub more_kept : (costs : Option (List ℕ)) (rules : List Rule) (n shared : ℕ) (rule : Rule) (old new : KeptEntries) (o : Option ℕ) → slice_get rules n ≡ Some rule → n < length rules → shared < length rules → is_lighter costs rule ≡ true → AreKept costs rules n old → slice_get old.lasts.items shared ≡ Some o
     → new.kept.items ≡ slice_set old.kept.items n true → new.lasts.items ≡ slice_set old.lasts.items shared (Some n) → new.earlier.items ≡ slice_set old.earlier.items n o → AreKept costs rules (n + 1) new
 more_kept costs rules n shared rule old new o at within small light x was kept lasts earlier = record {
   many = ap (λ (l : List Bool). length l) kept ∙ length-set old.kept.items n true ∙ x.many;

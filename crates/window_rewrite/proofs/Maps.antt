@@ -15,7 +15,7 @@ use Rattle.thumb_model.proofs.Lists.{get_front, get_take, take_all}
 use Rattle.rule_table.specs.Canonical.{has}
 use Rattle.rule_table.proofs.Renamings.{AllNamed, IsSameUnder, renamed_alike}
 use Rattle.rule_table.specs.Matching.{Matches, IsMapOf, registers_in, eight, given_for}
-use Rattle.window_rewrite.specs.Rewriting.{map_of, registers_of}
+use Rattle.window_rewrite.specs.TableRewriting.{map_of, registers_of}
 use Rattle.window_rewrite.specs.Fitting.{Stands}
 use Rattle.window_rewrite.proofs.Sides.{names_below, windows_over, apart}
 

@@ -2,12 +2,12 @@
 use Rattle.std.proofs.Common.{◌≡◌, ℕ, Bool, true, List, length, map, Option, Some, sym, subst}
 use Rattle.thumb_instr.specs.declared.instr.Instr.{Instr}
 use Rattle.thumb_instr.specs.Window.{Low, renamed}
-use Rattle.thumb_model.specs.Listing.{Line, labels_from, places_of}
+use Rattle.thumb_model.specs.Listing.{ListingLine, labels_from, places_of}
 use Rattle.thumb_model.specs.Replaced.{replaced_lines}
 use Rattle.rule_model.specs.Rules.{Rule, IsSoundRule}
 use Rattle.rule_model.specs.Rewriting.{Replacement, used_rule}
 use Rattle.listing_parser.specs.Parsing.{own_line}
-use Rattle.window_rewrite.specs.Rewriting.{setting_by}
+use Rattle.window_rewrite.specs.TableRewriting.{setting_by}
 use Rattle.window_rewrite.specs.Rules.{with_open, IsFit}
 use Rattle.window_rewrite.specs.Choices.{Meets}
 use Rattle.window_rewrite.specs.Fitting.{FitsWhole, StandsThere}
@@ -31,7 +31,7 @@ whole_open rule numbers registers window live f = record {
 
 -- ---- what a use of a rule says of the window that stands there ----
 
-pub fitted_by : (asked : Bool) (costs : Option (List ℕ)) (base longest : ℕ) (table : List (List Rule)) (numbers : List ℕ) (lines : List Line) (place : ℕ) (o : Replacement) (rule : Rule) (window : List Instr) (live : ℕ)
+pub fitted_by : (asked : Bool) (costs : Option (List ℕ)) (base longest : ℕ) (table : List (List Rule)) (numbers : List ℕ) (lines : List ListingLine) (place : ℕ) (o : Replacement) (rule : Rule) (window : List Instr) (live : ℕ)
     → used_rule (setting_by costs base table) o ≡ Some (with_open rule numbers) → IsFit longest rule → length rule.left ≡ length window → StandsThere lines place window live → o.place ≡ place → Meets asked (setting_by costs base table) o lines
     → IsFitted lines place rule o.registers window live
 fitted_by asked costs base longest table numbers lines place o rule window live used fit long there here m =
@@ -41,7 +41,7 @@ fitted_by asked costs base longest table numbers lines place o rule window live 
       settled = subst (λ p. IsSettled (places_of lines) (labels_from 0 lines) p (length window) (map (renamed o.registers) rule.right)) here b.settled;
     }
 
-pub laid_by : (costs : Option (List ℕ)) (base : ℕ) (table : List (List Rule)) (numbers : List ℕ) (lines : List Line) (place : ℕ) (o : Replacement) (rule : Rule) (window : List Instr)
+pub laid_by : (costs : Option (List ℕ)) (base : ℕ) (table : List (List Rule)) (numbers : List ℕ) (lines : List ListingLine) (place : ℕ) (o : Replacement) (rule : Rule) (window : List Instr)
     → used_rule (setting_by costs base table) o ≡ Some (with_open rule numbers) → length rule.left ≡ length window → o.place ≡ place → Meets true (setting_by costs base table) o lines
     → IsLeft base lines (replaced_lines own_line place (length window) (map (renamed o.registers) rule.right) lines)
 laid_by costs base table numbers lines place o rule window used long here m =

@@ -9,7 +9,7 @@ use Rattle.std.proofs.lemmas.List.{length-map}
 use Rattle.std.proofs.lemmas.Option.{slice_get_within, slice_get-map, same_Some}
 use Rattle.thumb_instr.specs.declared.instr.Instr.{Instr}
 use Rattle.thumb_instr.specs.declared.instr.Instr.TheVariants as instr
-use Rattle.thumb_model.specs.Listing.{Line}
+use Rattle.thumb_model.specs.Listing.{ListingLine}
 use Rattle.bit_blast.specs.Slots.{Byte, IsValue, filled, slot, instance}
 use Rattle.bit_blast.specs.declared.slots.Slot.TheVariants.{Plain, Hole}
 use Rattle.bit_blast.proofs.Holes.{side_length as length_raised}
@@ -34,7 +34,7 @@ use Rattle.window_rewrite.specs.Fitting.{IsForm}
 use Rattle.window_rewrite.proofs.Applied.{meets, meets_less}
 use Rattle.window_rewrite.proofs.Chosen.{length_at, stands_in, taken_all, taken_one}
 use Rattle.window_rewrite.specs.Forms.{form_of}
-use Rattle.window_rewrite.specs.Shapes.{blind}
+use Rattle.window_rewrite.specs.Hashes.{blind}
 use Rattle.window_rewrite.proofs.Heads.{blind_instance}
 use Rattle.window_rewrite.proofs.Opened.{fit_open}
 use Rattle.thumb_model.proofs.Lists.{present_at as some_at}
@@ -180,7 +180,7 @@ module _ (r : Rules) (n : ℕ) (f : tables.Family) (e : tables.Rule) (fam : IsFa
   as_long k i rule u = ap (λ (s : Rule). length s.left) (sym u.is) ∙ length_raised f.number e.left u.value
 
   -- where the left side isn't as long as the window, no instance is
-  pub none_long : (asked : Bool) (lines : List Line) (place count : ℕ) → (length e.left ≡ count → ⊥) → NoneOfFamily asked r lines place count n
+  pub none_long : (asked : Bool) (lines : List ListingLine) (place count : ℕ) → (length e.left ≡ count → ⊥) → NoneOfFamily asked r lines place count n
   none_long asked lines place count other o m here long is =
       let u = own o.entry o.instance m.0.rule is m.0.is_rule in
       other (sym (as_long o.entry o.instance m.0.rule u) ∙ sym (ap left_length_of m.0.is_rule) ∙ long)
@@ -194,7 +194,7 @@ module _ (r : Rules) (n : ℕ) (f : tables.Family) (e : tables.Rule) (fam : IsFa
     number : family.value.number ≡ f.low + o.instance
     same : instance f.number e.left family.value ≡ side
 
-  here_is : (lines : List Line) (place : ℕ) (window : List Instr) (form : Form) (o : Replacement) → AreReady r → IsWindow lines place window → IsForm window form → FitsIn (setting_of r) o lines → o.place ≡ place
+  here_is : (lines : List ListingLine) (place : ℕ) (window : List Instr) (form : Form) (o : Replacement) → AreReady r → IsWindow lines place window → IsForm window form → FitsIn (setting_of r) o lines → o.place ≡ place
       → left_length (setting_of r) o ≡ length window → o.entry ≡ length r.entries.now + n → IsHere o form.side
   here_is lines place window form o ready there formed a here long is =
       let s = stands_in r.costs.now r.base r.longest (table_in r) lines place window o ready.fit there a here long in
@@ -211,14 +211,14 @@ module _ (r : Rules) (n : ℕ) (f : tables.Family) (e : tables.Rule) (fam : IsFa
       }
 
   -- so where none does, none stands there
-  pub none_stands : (asked : Bool) (lines : List Line) (place : ℕ) (window : List Instr) (form : Form) → AreReady r → IsWindow lines place window → IsForm window form
+  pub none_stands : (asked : Bool) (lines : List ListingLine) (place : ℕ) (window : List Instr) (form : Form) → AreReady r → IsWindow lines place window → IsForm window form
       → ((x : Byte) → IsValue (symbol_of f) x → instance f.number e.left x ≡ form.side → ⊥) → NoneOfFamily asked r lines place (length window) n
   none_stands asked lines place window form ready there formed none o m here long is =
       let h = here_is lines place window form o ready there formed m.0 here long is in
       none h.family.value h.among h.same
 
   -- nor where the number of the left side isn't the window's
-  pub none_hidden : (asked : Bool) (lines : List Line) (place : ℕ) (window : List Instr) (form : Form) → AreReady r → IsWindow lines place window → IsForm window form → (form_of (map blind e.left) ≡ form_of (map blind form.side) → ⊥)
+  pub none_hidden : (asked : Bool) (lines : List ListingLine) (place : ℕ) (window : List Instr) (form : Form) → AreReady r → IsWindow lines place window → IsForm window form → (form_of (map blind e.left) ≡ form_of (map blind form.side) → ⊥)
       → NoneOfFamily asked r lines place (length window) n
   none_hidden asked lines place window form ready there formed other o m here long is =
       let h = here_is lines place window form o ready there formed m.0 here long is in
@@ -251,7 +251,7 @@ module _ (r : Rules) (n : ℕ) (f : tables.Family) (e : tables.Rule) (fam : IsFa
     instance_long = ap (λ (is : List Instr). length is) only.is.left ∙ length_raised f.number e.left only.value
 
     -- what is found by it is the family's choice
-    pub family_choice : (lines : List Line) (place : ℕ) (window : List Instr) (form : Form) (c : Choice) → AreReady r → IsWindow lines place window → IsForm window form → side ≡ form.side → length e.left ≡ length window
+    pub family_choice : (lines : List ListingLine) (place : ℕ) (window : List Instr) (form : Form) (c : Choice) → AreReady r → IsWindow lines place window → IsForm window form → side ≡ form.side → length e.left ≡ length window
         → IsChoiceBy r.costs.now r.base (entry_rule i.rule) lines place (length r.entries.now + n) i.number c → IsFamilyChoice r lines place (length window) n c
     family_choice lines place window form c ready there formed same long by =
         let used : used_rule (setting_of r) (choice_of c) ≡ Some (with_open (entry_rule i.rule) numbers) =
@@ -273,7 +273,7 @@ module _ (r : Rules) (n : ℕ) (f : tables.Family) (e : tables.Rule) (fam : IsFa
         }
 
     -- and where it doesn't meet this, no instance does
-    pub none_tried : (asked : Bool) (lines : List Line) (place : ℕ) (window : List Instr) (form : Form) → AreReady r → IsWindow lines place window → IsForm window form → side ≡ form.side → NoneBy asked r.costs.now r.base (entry_rule i.rule) lines place
+    pub none_tried : (asked : Bool) (lines : List ListingLine) (place : ℕ) (window : List Instr) (form : Form) → AreReady r → IsWindow lines place window → IsForm window form → side ≡ form.side → NoneBy asked r.costs.now r.base (entry_rule i.rule) lines place
         → NoneOfFamily asked r lines place (length window) n
     none_tried asked lines place window form ready there formed same none o m here long is =
         let h = here_is lines place window form o ready there formed m.0 here long is in
@@ -282,7 +282,7 @@ module _ (r : Rules) (n : ℕ) (f : tables.Family) (e : tables.Rule) (fam : IsFa
         none (table_in r) numbers o (h.used ∙ ap Some rule) here m
 
 -- where the number of a family's left side isn't the window's, none of its instances meets this
-pub none_hidden_at : (asked : Bool) (r : Rules) (n own hidden : ℕ) (lines : List Line) (place : ℕ) (window : List Instr) (form : Form) → n < length r.families.now → AreReady r → IsWindow lines place window → IsForm window form
+pub none_hidden_at : (asked : Bool) (r : Rules) (n own hidden : ℕ) (lines : List ListingLine) (place : ℕ) (window : List Instr) (form : Form) → n < length r.families.now → AreReady r → IsWindow lines place window → IsForm window form
     → slice_get (raised_forms (map rule_of r.entries.now) (map family_of r.families.now)) n ≡ Some own → hidden ≡ form_of (map blind form.side) → (own ≡ hidden → ⊥) → NoneOfFamily asked r lines place (length window) n
 none_hidden_at asked r n own hidden lines place window form within ready there formed is same other =
     let f = some_at r.families.now n within in
@@ -293,7 +293,7 @@ none_hidden_at asked r n own hidden lines place window form within ready there f
 -- ---- one family after the other ----
 
 -- where none of the earlier families meets this, a family's choice is the lowest
-pub found_family : (asked : Bool) (r : Rules) (lines : List Line) (place count n : ℕ) (c : Choice) → NoneOfFamilies asked r lines place count n → IsFamilyChoice r lines place count n c → IsLowestFamily r lines place count c
+pub found_family : (asked : Bool) (r : Rules) (lines : List ListingLine) (place count n : ℕ) (c : Choice) → NoneOfFamilies asked r lines place count n → IsFamilyChoice r lines place count n c → IsLowestFamily r lines place count c
 found_family asked r lines place count n c none f =
     let entry = f.entry in
     record {
@@ -308,7 +308,7 @@ found_family asked r lines place count n c none f =
     }
 
 -- with one family more
-pub none_more : (was asked : Bool) (r : Rules) (lines : List Line) (place count n : ℕ) → (was ≡ true → asked ≡ true) → NoneOfFamilies was r lines place count n → NoneOfFamily asked r lines place count n → NoneOfFamilies asked r lines place count (n + 1)
+pub none_more : (was asked : Bool) (r : Rules) (lines : List ListingLine) (place count n : ℕ) → (was ≡ true → asked ≡ true) → NoneOfFamilies was r lines place count n → NoneOfFamily asked r lines place count n → NoneOfFamilies asked r lines place count (n + 1)
 none_more was asked r lines place count n stays none one o m here long from below = elim (cases_lt o.entry (length r.entries.now + n)) [
   | inl l ↦ none o (meets_less was asked (setting_of r) o lines stays m) here long from l
   | inr l ↦ one o m here long (let e : o.entry ≡ length r.entries.now + n = omega arith in e)

@@ -1,27 +1,27 @@
 -- One replacement more.
 use Rattle.std.proofs.Common.{◌≡◌, ℕ, ◌+◌, ◌-◌, ◌*◌, ◌<◌, ◌≤◌, List, [], ◌∷◌, ◌++◌, map, refl, sym, ap, ◌∙◌, subst, arith, append_assoc, append-nil, mul-le-mul_right}
 use Rattle.std.proofs.lemmas.List.{map-append}
-use Rattle.thumb_model.specs.Listing.{Line, places_of}
+use Rattle.thumb_model.specs.Listing.{ListingLine, places_of}
 use Rattle.rule_model.specs.Laws.{instructions}
 use Rattle.rule_model.specs.Rules.{weight}
 use Rattle.rule_model.specs.Rewriting.{Setting, Replacement, IsFirst, NoneApplies, AreRewritten, lines_after}
 use Rattle.window_rewrite.specs.declared.choice.Replacement.{Replacement as Made}
-use Rattle.window_rewrite.specs.Rewriting.{replacement_of}
+use Rattle.window_rewrite.specs.TableRewriting.{replacement_of}
 use Rattle.window_rewrite.specs.Due.{Completes}
 
 -- ---- what completes the replacements ----
 
-pub one_more : (s : Setting) (start current next : List Line) (done more : List Made) (m : Made) → IsFirst s (replacement_of m) current → next ≡ lines_after s (replacement_of m) current → more ≡ done ++ m ∷ []
+pub one_more : (s : Setting) (start current next : List ListingLine) (done more : List Made) (m : Made) → IsFirst s (replacement_of m) current → next ≡ lines_after s (replacement_of m) current → more ≡ done ++ m ∷ []
     → Completes s start done current → Completes s start more next
 one_more s start current next done more m first e f h rs new w =
     let r : Replacement = replacement_of m in
-    let there : AreRewritten s (lines_after s r current) rs new = subst (λ (l : List Line). AreRewritten s l rs new) e w in
+    let there : AreRewritten s (lines_after s r current) rs new = subst (λ (l : List ListingLine). AreRewritten s l rs new) e w in
     let all : AreRewritten s start (map replacement_of done ++ (r ∷ rs)) new = h (r ∷ rs) new (first, there) in
     let same : map replacement_of done ++ (r ∷ rs) ≡ map replacement_of more ++ rs =
     sym (append_assoc (map replacement_of done) (r ∷ []) rs) ∙ ap (λ l. l ++ rs) (sym (map-append replacement_of done (m ∷ [])) ∙ ap (map replacement_of) (sym f)) in
     subst (λ (l : List Replacement). AreRewritten s start l new) same all
 
-pub no_more : (s : Setting) (start current : List Line) (done : List Made) → NoneApplies s current → Completes s start done current → AreRewritten s start (map replacement_of done) current
+pub no_more : (s : Setting) (start current : List ListingLine) (done : List Made) → NoneApplies s current → Completes s start done current → AreRewritten s start (map replacement_of done) current
 no_more s start current done none h = subst (λ (l : List Replacement). AreRewritten s start l current) (append-nil (map replacement_of done)) (h [] current (none, refl))
 
 -- ---- what the looks cost ----
@@ -47,7 +47,7 @@ cost_ends start after n places entries passed count a e f =
 -- ---- what is left to do ----
 
 -- what the instructions of lines cost
-abbrev pub paid : Setting → List Line → ℕ
+abbrev pub paid : Setting → List ListingLine → ℕ
 paid s lines = weight s.cost (instructions (places_of lines))
 
 -- where they cost less there is less, whatever is due

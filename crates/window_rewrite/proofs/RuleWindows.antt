@@ -4,7 +4,7 @@ use Rattle.std.specs.Prelude.{slice_get}
 use Rattle.std.specs.List.{list_all}
 use Rattle.thumb_instr.specs.declared.instr.Instr.{Instr}
 use Rattle.thumb_instr.specs.Window.{Low, renamed, is_in_window}
-use Rattle.thumb_model.specs.Listing.{Label, Line, Code, code_of, places_of, labels_from, is_code, is_op_place}
+use Rattle.thumb_model.specs.Listing.{Label, ListingLine, Code, code_of, places_of, labels_from, is_code, is_op_place}
 use Rattle.thumb_model.specs.Replaced.{moved, move_label, replaced, replaced_lines}
 use Rattle.thumb_model.proofs.Lists.{length_map}
 use Rattle.thumb_model.proofs.LinesReplaced.{outside_of, before}
@@ -69,7 +69,7 @@ applied_stay rule registers code p a k l e h =
 
 -- ---- steady listings ----
 
-pub steady_stays : (base : ℕ) (write : Instr → List ℕ) (rule : Rule) (registers : List Low) (place : ℕ) (ls : List Line) → IsSoundRule rule → 0 < length rule.left → Applies rule registers (code_of ls) place → IsSteady base ls
+pub steady_stays : (base : ℕ) (write : Instr → List ℕ) (rule : Rule) (registers : List Low) (place : ℕ) (ls : List ListingLine) → IsSoundRule rule → 0 < length rule.left → Applies rule registers (code_of ls) place → IsSteady base ls
     → IsSteady base (replaced_lines write place (length rule.left) (map (renamed registers) rule.right) ls)
 steady_stays base write rule registers place ls sound some a h =
     let is : List Instr = map (renamed registers) rule.right in

@@ -8,7 +8,7 @@ use Rattle.std.proofs.lemmas.Option.{slice_get-map, slice_get_past}
 use Rattle.thumb_instr.specs.declared.instr.Instr.{Instr}
 use Rattle.thumb_instr.specs.Items.{has}
 use Rattle.thumb_instr.specs.Window.{is_in_window}
-use Rattle.thumb_model.specs.Listing.{Place, plain, Label, Line, Code, is_op_place, code_of, places_of, labels_from}
+use Rattle.thumb_model.specs.Listing.{Place, plain, Label, ListingLine, Code, is_op_place, code_of, places_of, labels_from}
 use Rattle.thumb_model.specs.Flow.{Reads, LiveAfter}
 use Rattle.thumb_model.specs.Layout.{Layable}
 use Rattle.thumb_model.specs.Replaced.{replaced_lines}
@@ -64,32 +64,32 @@ as_given [] = refl
 as_given (x ∷ xs) = ap (λ ys. x ∷ ys) (as_given xs)
 
 -- a listing of which nothing is changed has all its places
-pub first_many : (lines : List Line) (e : Edited) → e ≡ unchanged lines → length e.stands ≡ length (places_of lines)
+pub first_many : (lines : List ListingLine) (e : Edited) → e ≡ unchanged lines → length e.stands ≡ length (places_of lines)
 first_many lines e h = ap (λ (e : Edited). length e.stands) h ∙ many_given (length (places_of lines))
 
 -- none is gone
-pub first_none_gone : (lines : List Line) (e : Edited) → e ≡ unchanged lines → (p : ℕ) → is_gone (marks e) p ≡ false
+pub first_none_gone : (lines : List ListingLine) (e : Edited) → e ≡ unchanged lines → (p : ℕ) → is_gone (marks e) p ≡ false
 first_none_gone lines e h p = ap (λ (e : Edited). is_gone (marks e) p) h ∙ none_gone (length (places_of lines)) p
 
 -- and the code of all places is its code
-pub first_code : (lines : List Line) (e : Edited) → e ≡ unchanged lines → padded e ≡ code_of lines
+pub first_code : (lines : List ListingLine) (e : Edited) → e ≡ unchanged lines → padded e ≡ code_of lines
 first_code lines e h = ap padded h ∙ ap (λ (ps : List Place). record { places = ps; labels = labels_from 0 lines }) (as_given (places_of lines))
 
-pub first_padded : (lines : List Line) (e : Edited) → e ≡ unchanged lines → lines_now e ≡ lines → IsPadded (marks e) (padded e) (code_of (lines_now e))
+pub first_padded : (lines : List ListingLine) (e : Edited) → e ≡ unchanged lines → lines_now e ≡ lines → IsPadded (marks e) (padded e) (code_of (lines_now e))
 first_padded lines e h same =
-    subst (λ (ls : List Line). IsPadded (marks e) (padded e) (code_of ls)) (sym same)
+    subst (λ (ls : List ListingLine). IsPadded (marks e) (padded e) (code_of ls)) (sym same)
     (subst (λ (c : Code). IsPadded (marks e) c (code_of lines)) (sym (first_code lines e h)) (whole_padded (marks e) (code_of lines) (first_none_gone lines e h)))
 
-pub first_as_many : (lines : List Line) (e : Edited) → e ≡ unchanged lines → length (marks e) ≡ length (padded e).places
+pub first_as_many : (lines : List ListingLine) (e : Edited) → e ≡ unchanged lines → length (marks e) ≡ length (padded e).places
 first_as_many lines e h = length_map is_none e.stands ∙ first_many lines e h ∙ sym (ap (λ (c : Code). length c.places) (first_code lines e h))
 
-pub first_live : (lines : List Line) (e : Edited) (k : Parts) → e ≡ unchanged lines → IsKeptLive (code_of lines) k → IsKeptLive (padded e) k
+pub first_live : (lines : List ListingLine) (e : Edited) (k : Parts) → e ≡ unchanged lines → IsKeptLive (code_of lines) k → IsKeptLive (padded e) k
 first_live lines e k h live = subst (λ (c : Code). IsKeptLive c k) (sym (first_code lines e h)) live
 
 -- the layout, where it is kept, is that of the lines
-pub first_over : (r : Rules) (g : KnownLayout) (lines now : List Line) (b : Bool) → now ≡ lines → Layable r.base lines → is_steady g ≡ b → IsSteadyIf r.base lines b → HasLayout r.base g lines → AreOver r g now
+pub first_over : (r : Rules) (g : KnownLayout) (lines now : List ListingLine) (b : Bool) → now ≡ lines → Layable r.base lines → is_steady g ≡ b → IsSteadyIf r.base lines b → HasLayout r.base g lines → AreOver r g now
 first_over r g lines now b e layable same steady layout =
-    subst (λ (ls : List Line). AreOver r g ls) (sym e) (record {
+    subst (λ (ls : List ListingLine). AreOver r g ls) (sym e) (record {
       layable = layable;
       aligned = λ h. (steady (sym same ∙ h)).0;
       steady = λ h. (steady (sym same ∙ h)).1;
@@ -104,19 +104,19 @@ said_still (Some x) P Q f h = f x h
 -- ---- a run ----
 
 -- the first instructions of a run are a window
-pub run_front : (lines : List Line) (most number count : ℕ) (letters : List Instr) → letters ≡ run true most (drop number (rows_from false lines)) → 0 < count → count ≤ length letters → IsWindow lines number (take count letters)
+pub run_front : (lines : List ListingLine) (most number count : ℕ) (letters : List Instr) → letters ≡ run true most (drop number (rows_from false lines)) → 0 < count → count ≤ length letters → IsWindow lines number (take count letters)
 run_front lines most number count letters e some few =
     let many : length (take count letters) ≡ count = take_many count letters few in
     let all : length (take count (run true most (drop number (rows_from false lines)))) ≡ length (take count letters) = ap (λ (is : List Instr). length (take count is)) (sym e) in
     subst (λ (is : List Instr). IsWindow lines number (take count is)) (sym e) (run_window lines number most count (omega arith))
 
 -- an instruction of a run stands at its place
-pub record StandsInRun (lines : List Line) (number k : ℕ) : Type 0 where
+pub record StandsInRun (lines : List ListingLine) (number k : ℕ) : Type 0 where
   pub letter : Instr
   pub stands : slice_get (places_of lines) (number + k) ≡ Some (plain letter)
   pub is_letter : is_in_window letter ≡ true
 
-pub run_stands : (lines : List Line) (most number k : ℕ) (letters : List Instr) → letters ≡ run true most (drop number (rows_from false lines)) → k < length letters → StandsInRun lines number k
+pub run_stands : (lines : List ListingLine) (most number k : ℕ) (letters : List Instr) → letters ≡ run true most (drop number (rows_from false lines)) → k < length letters → StandsInRun lines number k
 run_stands lines most number k letters e h =
     let w = run_front lines most number (suc k) letters e (omega arith) h in
     let i = present_at letters k h in
@@ -168,7 +168,7 @@ live_there e most number count letters items seen s is a n same some few x =
 -- ---- labels that stay code ----
 
 -- where an instruction of the run follows
-pub settled_before : (lines : List Line) (most number count : ℕ) (letters new : List Instr) → letters ≡ run true most (drop number (rows_from false lines)) → count < length letters → IsSettled (places_of lines) (labels_from 0 lines) number count new
+pub settled_before : (lines : List ListingLine) (most number count : ℕ) (letters new : List Instr) → letters ≡ run true most (drop number (rows_from false lines)) → count < length letters → IsSettled (places_of lines) (labels_from 0 lines) number count new
 settled_before lines most number count letters new e h = let there = run_stands lines most number count letters e h in inr (inl (ap is_op_place there.stands))
 
 -- where no label stands at the place
@@ -192,14 +192,14 @@ settled_whole vanishes places labels p count long (i ∷ is) h e none = absurd (
 -- ---- a window that gives way ----
 
 -- a choice may be made at its place, with its window and its new instructions as slices
-pub keeps_here : (s : Setting) (lines : List Line) (c : Choice) (place : ℕ) (window new : List Instr) → IsChoice s lines c → (choice_of c).place ≡ place → window ≡ c.window → new ≡ c.new → MayGiveWay (code_of lines) place window new
+pub keeps_here : (s : Setting) (lines : List ListingLine) (c : Choice) (place : ℕ) (window new : List Instr) → IsChoice s lines c → (choice_of c).place ≡ place → window ≡ c.window → new ≡ c.new → MayGiveWay (code_of lines) place window new
 keeps_here s lines c place window new is at e f =
     let here : MayGiveWay (code_of lines) place c.window c.new = subst (λ (p : ℕ). MayGiveWay (code_of lines) p c.window c.new) at is.gives_way in
     let there : MayGiveWay (code_of lines) place window c.new = subst (λ (w : List Instr). MayGiveWay (code_of lines) place w c.new) (sym e) here in
     subst (λ (n : List Instr). MayGiveWay (code_of lines) place window n) (sym f) there
 
 -- and leaves the lines after it
-pub leaves_here : (s : Setting) (lines now : List Line) (c : Choice) (place : ℕ) (window new : List Instr) → IsChoice s lines c → (choice_of c).place ≡ place → window ≡ c.window → new ≡ c.new
+pub leaves_here : (s : Setting) (lines now : List ListingLine) (c : Choice) (place : ℕ) (window new : List Instr) → IsChoice s lines c → (choice_of c).place ≡ place → window ≡ c.window → new ≡ c.new
     → now ≡ replaced_lines s.write place (length window) new lines → now ≡ lines_after s (choice_of c) lines
 leaves_here s lines now c place window new is at e f h =
     h
@@ -208,11 +208,11 @@ leaves_here s lines now c place window new is at e f h =
     ∙ ap (λ (n : List Instr). replaced_lines s.write (choice_of c).place (length c.window) n lines) f
     ∙ is.leaves
 
-pub window_here : (s : Setting) (lines : List Line) (c : Choice) (place : ℕ) (window : List Instr) → IsChoice s lines c → (choice_of c).place ≡ place → window ≡ c.window → IsWindow lines place window
+pub window_here : (s : Setting) (lines : List ListingLine) (c : Choice) (place : ℕ) (window : List Instr) → IsChoice s lines c → (choice_of c).place ≡ place → window ≡ c.window → IsWindow lines place window
 window_here s lines c place window is at e = subst (λ (w : List Instr). IsWindow lines place w) (sym e) (subst (λ p. IsWindow lines p c.window) at is.is_window)
 
 -- which can be laid out
-leaves_layable : (s : Setting) (o : Replacement) (lines now : List Line) → AppliesIn s o lines → now ≡ lines_after s o lines → Layable s.base now
+leaves_layable : (s : Setting) (o : Replacement) (lines now : List ListingLine) → AppliesIn s o lines → now ≡ lines_after s o lines → Layable s.base now
 leaves_layable s o lines now a e = subst (Layable s.base) (sym e) (subst (λ (k : Option Rule). Layable s.base (lines_after_rule s k o lines)) (sym a.is_rule) a.layable)
 
 -- what may stand in a window has two bytes
@@ -223,7 +223,7 @@ twos (i ∷ is) h =
     ((twos_of (i ∷ []) (p.0, tt)).0, twos is p.1)
 
 -- steady lines stay steady where a window gives way to no more instructions
-steady_left : (base : ℕ) (lines : List Line) (place : ℕ) (window new : List Instr) → IsWindow lines place window → list_all is_in_window new ≡ true → 0 < length window → length new ≤ length window → IsSteady base lines
+steady_left : (base : ℕ) (lines : List ListingLine) (place : ℕ) (window new : List Instr) → IsWindow lines place window → list_all is_in_window new ≡ true → 0 < length window → length new ≤ length window → IsSteady base lines
     → IsSteady base (replaced_lines own_line place (length window) new lines)
 steady_left base lines place window new w letters some few h =
     let b = before (length window) some in
@@ -235,11 +235,11 @@ steady_left base lines place window new w letters some few h =
     subst (λ j. IsSteady base (replaced_lines own_line place j new lines)) (sym e) (cut_stays base lines (replaced_lines own_line place (suc n) new lines) c h)
 
 -- the choice may be made on the layout
-pub allowed_here : (r : Rules) (g : KnownLayout) (lines : List Line) (c : Choice) (place : ℕ) (window new : List Instr) → AreOver r g lines → StandsNear g place → IsChoice (setting_of r) lines c → (choice_of c).place ≡ place → Moves g c.window c.new c.moved
+pub allowed_here : (r : Rules) (g : KnownLayout) (lines : List ListingLine) (c : Choice) (place : ℕ) (window new : List Instr) → AreOver r g lines → StandsNear g place → IsChoice (setting_of r) lines c → (choice_of c).place ≡ place → Moves g c.window c.new c.moved
     → window ≡ c.window → new ≡ c.new → Allows g window new c.moved
 allowed_here r g lines c place window new over near is at moves e f =
     let s : Setting = setting_of r in
-    let left : List Line = replaced_lines own_line place (length window) new lines in
+    let left : List ListingLine = replaced_lines own_line place (length window) new lines in
     let keeps = keeps_here s lines c place window new is at e f in
     let layable : Layable r.base left = leaves_layable s (choice_of c) lines left is.applies (leaves_here s lines left c place window new is at e f refl) in
     record {
@@ -255,7 +255,7 @@ allowed_here r g lines c place window new over near is at moves e f =
     }
 
 -- and leaves lines of which as much is known, where the layout has their layout
-pub still_over : (r : Rules) (g h : KnownLayout) (lines now : List Line) (c : Choice) (place : ℕ) (window new : List Instr) → IsChoice (setting_of r) lines c → (choice_of c).place ≡ place → window ≡ c.window → new ≡ c.new
+pub still_over : (r : Rules) (g h : KnownLayout) (lines now : List ListingLine) (c : Choice) (place : ℕ) (window new : List Instr) → IsChoice (setting_of r) lines c → (choice_of c).place ≡ place → window ≡ c.window → new ≡ c.new
     → now ≡ replaced_lines own_line place (length window) new lines → is_steady h ≡ is_steady g → HasLayout r.base h (replaced_lines own_line place (length window) new lines) → AreOver r g lines → AreOver r h now
 still_over r g h lines now c place window new is at e f left same layout over =
     let s : Setting = setting_of r in
@@ -277,7 +277,7 @@ pub made_padded : (was now : Edited) (place : ℕ) (ps : List ℕ) (window new :
     → AreRanked (marks was) place ps → length ps ≡ length window → MayGiveWay (code_of (lines_now was)) place window new → IsPadded (marks now) (padded now) (code_of (lines_now now))
 made_padded was now place ps window new m s many a n k =
     let after = still_padded (marks was) (padded was) (lines_now was) s many place ps window new a n k in
-    let with_lines : IsPadded (marks_after ps new (marks was)) (exchanged ps new (padded was)) (code_of (lines_now now)) = subst (λ (ls : List Line). IsPadded (marks_after ps new (marks was)) (exchanged ps new (padded was)) (code_of ls)) (sym m.lines) after in
+    let with_lines : IsPadded (marks_after ps new (marks was)) (exchanged ps new (padded was)) (code_of (lines_now now)) = subst (λ (ls : List ListingLine). IsPadded (marks_after ps new (marks was)) (exchanged ps new (padded was)) (code_of ls)) (sym m.lines) after in
     let with_code : IsPadded (marks_after ps new (marks was)) (padded now) (code_of (lines_now now)) = subst (λ (c : Code). IsPadded (marks_after ps new (marks was)) c (code_of (lines_now now))) (sym m.padded_now) with_lines in
     subst (λ (g : List Bool). IsPadded g (padded now) (code_of (lines_now now))) (sym m.gone) with_code
 

@@ -7,7 +7,7 @@ use Rattle.std.proofs.lemmas.List.{length-set}
 use Rattle.thumb_instr.specs.declared.instr.Instr.{Instr}
 use Rattle.thumb_instr.specs.declared.instr.Instr.TheVariants as instr
 use Rattle.thumb_instr.specs.Window.{is_in_window}
-use Rattle.thumb_model.specs.Listing.{Place, plain, Label, Line, Code, is_code, is_op_place, code_of, places_of, labels_from}
+use Rattle.thumb_model.specs.Listing.{Place, plain, Label, ListingLine, Code, is_code, is_op_place, code_of, places_of, labels_from}
 use Rattle.thumb_model.specs.Replaced.{move_label, replaced, replaced_lines}
 use Rattle.thumb_model.proofs.LinesReplaced.{ops_of, outside_of}
 use Rattle.rule_model.proofs.AsMany.{code_replaced_by}
@@ -90,7 +90,7 @@ many_places (p ∷ ps) (i ∷ is) places = many_places ps is (slice_set places p
 -- ---- the window ----
 
 -- the code that is left where no more instructions stand
-code_left : (lines : List Line) (r n : ℕ) (window new : List Instr) → MayGiveWay (code_of lines) r window new → n ≡ length window → code_of (replaced_lines own_line r n new lines) ≡ replaced (code_of lines) r n new
+code_left : (lines : List ListingLine) (r n : ℕ) (window new : List Instr) → MayGiveWay (code_of lines) r window new → n ≡ length window → code_of (replaced_lines own_line r n new lines) ≡ replaced (code_of lines) r n new
 code_left lines r zero window new k e = let s = k.some in absurd (omega arith)
 code_left lines r (suc n) window new k e =
     let few = k.no_longer in
@@ -104,7 +104,7 @@ stands : (gone : List Bool) (padded code : Code) → IsPadded gone padded code �
 stands gone padded code s m r ps window new a n k = sym (windows_stand gone padded code s m r ps a) ∙ ap (λ c. map Some (take c (drop r code.places))) n ∙ ap (map Some) k.stands
 
 -- the code in which the kept places give way is that of the lines that are left
-pub still_padded : (gone : List Bool) (padded : Code) (lines : List Line) → IsPadded gone padded (code_of lines) → length gone ≡ length padded.places → (r : ℕ) (ps : List ℕ) (window new : List Instr) → AreRanked gone r ps → length ps ≡ length window
+pub still_padded : (gone : List Bool) (padded : Code) (lines : List ListingLine) → IsPadded gone padded (code_of lines) → length gone ≡ length padded.places → (r : ℕ) (ps : List ℕ) (window new : List Instr) → AreRanked gone r ps → length ps ≡ length window
     → MayGiveWay (code_of lines) r window new → IsPadded (marks_after ps new gone) (exchanged ps new padded) (code_of (replaced_lines own_line r (length window) new lines))
 still_padded gone padded lines s m r ps window new a n k =
     let few = k.no_longer in

@@ -6,43 +6,43 @@ use Rattle.std.specs.List.{list_all}
 use Rattle.thumb_instr.specs.declared.instr.Instr.{Instr}
 use Rattle.thumb_instr.specs.Window.{is_in_window}
 use Rattle.thumb_model.specs.Layout.{Layable}
-use Rattle.thumb_model.specs.Listing.{Line}
+use Rattle.thumb_model.specs.Listing.{ListingLine}
 use Rattle.thumb_model.specs.Replaced.{replaced_lines}
 use Rattle.listing_parser.specs.Parsing.{own_line}
 use Rattle.window_runs.specs.Windows.{IsWindow}
 use Rattle.kept_layout.specs.declared.kept.KeptLayout.{KeptLayout}
-use Rattle.kept_layout.specs.Stretches.{lessen, shapes_of, Shape}
+use Rattle.kept_layout.specs.Blocks.{lessen, footprints_of, Footprint}
 use Rattle.kept_layout.specs.Kept.{AreCut, IsNear, Lays}
 use Rattle.kept_layout.proofs.Giving.{cut_after, gives}
 use Rattle.kept_layout.proofs.Reaching.{reaches_cut}
 use Rattle.window_rewrite.specs.declared.known_layout.KnownLayout.{KnownLayout}
 use Rattle.window_rewrite.specs.Layouts.{is_steady, HasLayout, StandsNear}
 
--- a stretch takes no bytes and no places fewer
-none_less : (s : Shape) → (let t : Shape = record { head = s.head; bytes = s.bytes - 0; places = s.places - 0 } in t) ≡ s
+-- a block takes no bytes and no places fewer
+none_less : (s : Footprint) → (let t : Footprint = record { head = s.head; bytes = s.bytes - 0; places = s.places - 0 } in t) ≡ s
 none_less s =
     let bytes : s.bytes - 0 ≡ s.bytes = omega arith in
     let places : s.places - 0 ≡ s.places = omega arith in
     λ i. record { head = s.head; bytes = bytes i; places = places i }
 
-lessened_none : (k : ℕ) (shapes : List Shape) → lessen k 0 0 shapes ≡ shapes
+lessened_none : (k : ℕ) (footprints : List Footprint) → lessen k 0 0 footprints ≡ footprints
 lessened_none k [] = refl
 lessened_none zero (s ∷ ss) = ap (λ x. x ∷ ss) (none_less s)
 lessened_none (suc k) (s ∷ ss) = ap (λ xs. s ∷ xs) (lessened_none k ss)
 
 -- a layout is still that of the lines
-pub still_lays : (k : KeptLayout) (lines : List Line) (place : ℕ) (window new : List Instr) → Lays k lines → IsNear k place → IsWindow lines place window → 0 < length window → length new ≡ length window → list_all is_in_window new ≡ true
+pub still_lays : (k : KeptLayout) (lines : List ListingLine) (place : ℕ) (window new : List Instr) → Lays k lines → IsNear k place → IsWindow lines place window → 0 < length window → length new ≡ length window → list_all is_in_window new ≡ true
     → Lays k (replaced_lines own_line place (length window) new lines)
 still_lays k lines place window new lays near w some e letters =
-    let shapes : List Shape = shapes_of k.stretches.items in
-    let left : List Line = replaced_lines own_line place (length window) new lines in
+    let footprints : List Footprint = footprints_of k.blocks.items in
+    let left : List ListingLine = replaced_lines own_line place (length window) new lines in
     let none : length window - length new ≡ 0 = omega arith in
-    let cut : AreCut left (lessen k.here (2 * (length window - length new)) (length window - length new) shapes) = cut_after own_line k lines place window new (gives lays near w some (omega arith) letters) in
-    let same : AreCut left (lessen k.here 0 0 shapes) = subst (λ n. AreCut left (lessen k.here (2 * n) n shapes)) none cut in
-    record { laid = lays.laid; cut = subst (AreCut left) (lessened_none k.here shapes) same }
+    let cut : AreCut left (lessen k.here (2 * (length window - length new)) (length window - length new) footprints) = cut_after own_line k lines place window new (gives lays near w some (omega arith) letters) in
+    let same : AreCut left (lessen k.here 0 0 footprints) = subst (λ n. AreCut left (lessen k.here (2 * n) n footprints)) none cut in
+    record { laid = lays.laid; cut = subst (AreCut left) (lessened_none k.here footprints) same }
 
 -- and so is one that is kept
-pub unmoved : (g : KnownLayout) (base : ℕ) (lines : List Line) (place : ℕ) (window new : List Instr) → HasLayout base g lines → StandsNear g place → IsWindow lines place window → 0 < length window → length new ≡ length window → list_all is_in_window new ≡ true
+pub unmoved : (g : KnownLayout) (base : ℕ) (lines : List ListingLine) (place : ℕ) (window new : List Instr) → HasLayout base g lines → StandsNear g place → IsWindow lines place window → 0 < length window → length new ≡ length window → list_all is_in_window new ≡ true
     → HasLayout base g (replaced_lines own_line place (length window) new lines)
 unmoved g base lines place window new has near w some e letters = by g.kept has near
   where
@@ -51,15 +51,15 @@ unmoved g base lines place window new has near w some e letters = by g.kept has 
     by (Some k) h n = (h.0, still_lays k lines place window new h.1 n w some e letters)
 
 -- lines that have a layout can be laid out
-pub lays_layable : (k : KeptLayout) (lines : List Line) → Lays k lines → Layable k.base lines
-lays_layable k lines lays = reaches_cut k.base lines (shapes_of k.stretches.items) lays.cut lays.laid.reach
+pub lays_layable : (k : KeptLayout) (lines : List ListingLine) → Lays k lines → Layable k.base lines
+lays_layable k lines lays = reaches_cut k.base lines (footprints_of k.blocks.items) lays.cut lays.laid.reach
 
 -- so they can be where one is kept
-pub unmoved_layable : (g : KnownLayout) (base : ℕ) (lines : List Line) (place : ℕ) (window new : List Instr) → is_steady g ≡ false → HasLayout base g lines → StandsNear g place → IsWindow lines place window → 0 < length window → length new ≡ length window
+pub unmoved_layable : (g : KnownLayout) (base : ℕ) (lines : List ListingLine) (place : ℕ) (window new : List Instr) → is_steady g ≡ false → HasLayout base g lines → StandsNear g place → IsWindow lines place window → 0 < length window → length new ≡ length window
     → list_all is_in_window new ≡ true → Layable base (replaced_lines own_line place (length window) new lines)
 unmoved_layable g base lines place window new steady has near w some e letters = by g.kept (unmoved g base lines place window new has near w some e letters) steady
   where
-    left : List Line
+    left : List ListingLine
     left = replaced_lines own_line place (length window) new lines
 
     by : (o : Option KeptLayout) → IfSome o (λ k. (k.base ≡ base) × Lays k left) → not (is_some o) ≡ false → Layable base left

@@ -9,7 +9,7 @@ use Rattle.thumb_model.specs.Effect.{one_of, IsOneToOne, register_count}
 use Rattle.thumb_model.proofs.Lists.{get_back, get_take, take_all, take_short}
 use Rattle.rule_model.specs.Rules.{Rule, rule_registers, IsSoundRule}
 use Rattle.rule_table.specs.Scratch.{has_register, is_free, IsLeastFree}
-use Rattle.window_rewrite.specs.Rewriting.{map_of, registers_of}
+use Rattle.window_rewrite.specs.TableRewriting.{map_of, registers_of}
 use Rattle.window_rewrite.specs.Rules.{needs_scratch, AreAlike}
 use Rattle.window_rewrite.specs.Fitting.{left_registers, AreWhole, IsScratchLeast}
 use Rattle.window_rewrite.proofs.Live.{Allowed}

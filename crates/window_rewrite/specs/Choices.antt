@@ -3,7 +3,7 @@ use Rattle.std.specs.Prelude.{◌≡◌, ℕ, ◌+◌, ◌<◌, ◌≤◌, ◌==
 use Rattle.std.specs.Int.{from_bool}
 use Rattle.thumb_instr.specs.declared.instr.Instr.{Instr}
 use Rattle.thumb_instr.specs.Window.{Low}
-use Rattle.thumb_model.specs.Listing.{Line, code_of}
+use Rattle.thumb_model.specs.Listing.{ListingLine, code_of}
 use Rattle.thumb_model.specs.Layout.{Layable}
 use Rattle.rule_model.specs.Rules.{Rule, weight, alone, rule_at, Applies}
 use Rattle.rule_model.specs.Rewriting.{Setting, Replacement, used_rule, AppliesIn, IsFirst, lines_after, left_length}
@@ -11,7 +11,7 @@ use Rattle.thumb_model.specs.Replaced.{are_joined_from, replaced_lines}
 use Rattle.window_runs.specs.Windows.{IsWindow}
 use Rattle.window_rewrite.specs.declared.choice.Choice.{Choice}
 use Rattle.window_rewrite.specs.declared.finding.Rules.{Rules}
-use Rattle.window_rewrite.specs.Rewriting.{setting_by, replacement_of, IsWhole}
+use Rattle.window_rewrite.specs.TableRewriting.{setting_by, replacement_of, IsWhole}
 use Rattle.rule_table.specs.Views.{family_of, rule_of}
 use Rattle.table_audit.specs.Soundness.{numbers_in}
 use Rattle.window_rewrite.specs.Rules.{rules_in, chain_of, chains_of, left_forms, raised_rules, first_with, with_open, AreFit, AreRaised, IsIndex}
@@ -57,7 +57,7 @@ pub record Awaits (costs : Option (List ℕ)) (rules : List Rule) (kept : List B
 -- ---- with and without a look at the lines that are left ----
 
 -- this entry of the table fits there, under this map: it applies with some free scratch register, if it needs one, and whatever the lines come to that it leaves
-pub record FitsIn (s : Setting) (o : Replacement) (lines : List Line) : Type 0 where
+pub record FitsIn (s : Setting) (o : Replacement) (lines : List ListingLine) : Type 0 where
   pub rule : Rule
   pub is_rule : used_rule s o ≡ Some rule
   pub lowers : weight s.cost rule.right < weight s.cost rule.left
@@ -65,12 +65,12 @@ pub record FitsIn (s : Setting) (o : Replacement) (lines : List Line) : Type 0 w
   pub joined : are_joined_from o.place (length rule.left) lines ≡ true
 
 -- the lines that it leaves are not too many, and can be laid out
-pub record IsAllowed (s : Setting) (o : Replacement) (lines : List Line) : Type 0 where
+pub record IsAllowed (s : Setting) (o : Replacement) (lines : List ListingLine) : Type 0 where
   pub few : length (lines_after s o lines) ≤ max (length lines) s.most_lines
   pub layable : Layable s.base (lines_after s o lines)
 
 -- it fits, and where that is asked too, the lines that it leaves are allowed
-abbrev pub Meets : Bool → Setting → Replacement → List Line → Type 0
+abbrev pub Meets : Bool → Setting → Replacement → List ListingLine → Type 0
 Meets asked s o lines = FitsIn s o lines × (asked ≡ true → IsAllowed s o lines)
 
 -- ---- choices ----
@@ -79,7 +79,7 @@ abbrev pub choice_of : Choice → Replacement
 choice_of c = replacement_of c.replacement
 
 -- it applies: its window gives way to its new instructions
-pub record IsChoice (s : Setting) (lines : List Line) (c : Choice) : Type 0 where
+pub record IsChoice (s : Setting) (lines : List ListingLine) (c : Choice) : Type 0 where
   pub whole : IsWhole c.replacement
   pub applies : AppliesIn s (choice_of c) lines
   pub is_window : IsWindow lines (choice_of c).place c.window
@@ -88,18 +88,18 @@ pub record IsChoice (s : Setting) (lines : List Line) (c : Choice) : Type 0 wher
   pub long : length c.window ≡ left_length s (choice_of c)
 
 -- a rule with these sides and this mask applies at the place as this number's instance
-pub record IsChoiceBy (costs : Option (List ℕ)) (base : ℕ) (rule : Rule) (lines : List Line) (place entry instance : ℕ) (c : Choice) : Type 0 where
+pub record IsChoiceBy (costs : Option (List ℕ)) (base : ℕ) (rule : Rule) (lines : List ListingLine) (place entry instance : ℕ) (c : Choice) : Type 0 where
   pub is : (table : List (List Rule)) (numbers : List ℕ) → rule_at table entry instance ≡ Some (with_open rule numbers) → IsChoice (setting_by costs base table) lines c
   pub at : (choice_of c).place ≡ place
   pub entry_is : (choice_of c).entry ≡ entry
   pub instance_is : (choice_of c).instance ≡ instance
 
 -- no rule with these sides and this mask meets this at the place
-abbrev pub NoneBy : Bool → Option (List ℕ) → ℕ → Rule → List Line → ℕ → Type 0
+abbrev pub NoneBy : Bool → Option (List ℕ) → ℕ → Rule → List ListingLine → ℕ → Type 0
 NoneBy asked costs base rule lines place = (table : List (List Rule)) (numbers : List ℕ) (o : Replacement) → used_rule (setting_by costs base table) o ≡ Some (with_open rule numbers) → o.place ≡ place → Meets asked (setting_by costs base table) o lines → ⊥
 
 -- of the choices at a place by left sides of so many instructions it has the lowest number
-pub record IsLowest (s : Setting) (lines : List Line) (place count : ℕ) (c : Choice) : Type 0 where
+pub record IsLowest (s : Setting) (lines : List ListingLine) (place count : ℕ) (c : Choice) : Type 0 where
   pub is : IsChoice s lines c
   pub at : (choice_of c).place ≡ place
   pub long : left_length s (choice_of c) ≡ count
@@ -107,11 +107,11 @@ pub record IsLowest (s : Setting) (lines : List Line) (place count : ℕ) (c : C
   pub lowest_instance : (o : Replacement) → AppliesIn s o lines → o.place ≡ place → left_length s o ≡ count → o.entry ≡ (choice_of c).entry → (choice_of c).instance ≤ o.instance
 
 -- none meets this at a place by a left side of so many instructions
-abbrev pub NoneOf : Bool → Setting → List Line → ℕ → ℕ → Type 0
+abbrev pub NoneOf : Bool → Setting → List ListingLine → ℕ → ℕ → Type 0
 NoneOf asked s lines place count = (o : Replacement) → Meets asked s o lines → o.place ≡ place → left_length s o ≡ count → ⊥
 
 -- of the choices at a place it is the best
-pub record IsBest (s : Setting) (lines : List Line) (place : ℕ) (c : Choice) : Type 0 where
+pub record IsBest (s : Setting) (lines : List ListingLine) (place : ℕ) (c : Choice) : Type 0 where
   pub is : IsChoice s lines c
   pub at : (choice_of c).place ≡ place
   pub longest : (o : Replacement) → AppliesIn s o lines → o.place ≡ place → left_length s o ≤ left_length s (choice_of c)
@@ -119,16 +119,16 @@ pub record IsBest (s : Setting) (lines : List Line) (place : ℕ) (c : Choice) :
   pub lowest_instance : (o : Replacement) → AppliesIn s o lines → o.place ≡ place → left_length s o ≡ left_length s (choice_of c) → o.entry ≡ (choice_of c).entry → (choice_of c).instance ≤ o.instance
 
 -- none does at a place
-abbrev pub NoneAt : Bool → Setting → List Line → ℕ → Type 0
+abbrev pub NoneAt : Bool → Setting → List ListingLine → ℕ → Type 0
 NoneAt asked s lines place = (o : Replacement) → Meets asked s o lines → o.place ≡ place → ⊥
 
 -- of all choices it is the first
-pub record IsFirstChoice (s : Setting) (lines : List Line) (c : Choice) : Type 0 where
+pub record IsFirstChoice (s : Setting) (lines : List ListingLine) (c : Choice) : Type 0 where
   pub first : IsFirst s (choice_of c) lines
   pub is : IsChoice s lines c
 
 -- none does before the place
-abbrev pub NoneBefore : Bool → Setting → List Line → ℕ → Type 0
+abbrev pub NoneBefore : Bool → Setting → List ListingLine → ℕ → Type 0
 NoneBefore asked s lines place = (o : Replacement) → Meets asked s o lines → o.place < place → ⊥
 
 -- ---- how many rules there are ----

@@ -1,7 +1,7 @@
 -- Places that are due: at the others no entry applies.
 use Rattle.std.specs.Prelude.{◌≡◌, ◌+◌, ◌<◌, ◌≤◌, ℕ, suc, Bool, true, false, List, [], ◌∷◌, ◌++◌, length, map}
 use Rattle.kept_places.specs.Marks.{is_gone, marked, rank}
-use Rattle.thumb_model.specs.Listing.{Line}
+use Rattle.thumb_model.specs.Listing.{ListingLine}
 use Rattle.edited_listing.specs.Edited.{marks}
 use Rattle.rule_model.specs.Rewriting.{Setting, AreRewritten}
 use Rattle.rule_model.specs.Rewriting.{Replacement as Used}
@@ -9,7 +9,7 @@ use Rattle.window_rewrite.specs.declared.choice.Replacement.{Replacement}
 use Rattle.window_rewrite.specs.declared.due.Due.{Due}
 use Rattle.window_rewrite.specs.declared.scene.Scene.{Scene}
 use Rattle.window_rewrite.specs.Choices.{NoneAt}
-use Rattle.window_rewrite.specs.Rewriting.{replacement_of}
+use Rattle.window_rewrite.specs.TableRewriting.{replacement_of}
 use Rattle.window_rewrite.specs.Scenes.{lines_of}
 
 -- ---- marks ----
@@ -57,5 +57,5 @@ pub record AreTriedBut (s : Setting) (scene : Scene) (d : Due) (taken : ℕ) : T
 -- ---- replacements ----
 
 -- what completes the replacements from the current lines completes them from the start
-abbrev pub Completes : Setting → List Line → List Replacement → List Line → Type 0
-Completes s start done current = (rs : List Used) (new : List Line) → AreRewritten s current rs new → AreRewritten s start (map replacement_of done ++ rs) new
+abbrev pub Completes : Setting → List ListingLine → List Replacement → List ListingLine → Type 0
+Completes s start done current = (rs : List Used) (new : List ListingLine) → AreRewritten s current rs new → AreRewritten s start (map replacement_of done ++ rs) new

@@ -2,7 +2,7 @@
 use Rattle.std.specs.Prelude.{◌≡◌, ℕ, ◌+◌, ◌<◌, ◌≤◌, Bool, List, Option, drop, length, map}
 use Rattle.thumb_instr.specs.declared.instr.Instr.{Instr}
 use Rattle.thumb_instr.specs.declared.instr.Instr.TheVariants as instr
-use Rattle.thumb_model.specs.Listing.{Line}
+use Rattle.thumb_model.specs.Listing.{ListingLine}
 use Rattle.bit_blast.specs.Slots.{Byte, IsValue, instance}
 use Rattle.rule_table.specs.Table.{Rule, Family}
 use Rattle.rule_table.specs.Views.{family_of, rule_of}
@@ -13,7 +13,7 @@ use Rattle.window_rewrite.specs.declared.families.Instance.{Instance}
 use Rattle.window_rewrite.specs.declared.finding.Rules.{Rules}
 use Rattle.window_rewrite.specs.Forms.{form_of}
 use Rattle.window_rewrite.specs.Rules.{chain_of, chains_of, first_with, raised_forms}
-use Rattle.window_rewrite.specs.Shapes.{blind}
+use Rattle.window_rewrite.specs.Hashes.{blind}
 use Rattle.window_rewrite.specs.Choices.{choice_of, setting_of, IsChoice, Meets}
 
 -- movs, cmp, adds or subs with this number in 8 bits
@@ -46,7 +46,7 @@ AwaitsFamily r side k next = next ≡ first_with r.index.now.families.kept.items
 -- ---- choices ----
 
 -- it applies by an instance of the family of a number, and no other instance does
-pub record IsFamilyChoice (r : Rules) (lines : List Line) (place count n : ℕ) (c : Choice) : Type 0 where
+pub record IsFamilyChoice (r : Rules) (lines : List ListingLine) (place count n : ℕ) (c : Choice) : Type 0 where
   pub is : IsChoice (setting_of r) lines c
   pub at : (choice_of c).place ≡ place
   pub long : left_length (setting_of r) (choice_of c) ≡ count
@@ -54,16 +54,16 @@ pub record IsFamilyChoice (r : Rules) (lines : List Line) (place count n : ℕ) 
   pub only : (o : Replacement) → AppliesIn (setting_of r) o lines → o.place ≡ place → left_length (setting_of r) o ≡ count → o.entry ≡ length r.entries.now + n → o.instance ≡ (choice_of c).instance
 
 -- no instance of the family meets this at a place by a left side of so many instructions
-abbrev pub NoneOfFamily : Bool → Rules → List Line → ℕ → ℕ → ℕ → Type 0
+abbrev pub NoneOfFamily : Bool → Rules → List ListingLine → ℕ → ℕ → ℕ → Type 0
 NoneOfFamily asked r lines place count n = (o : Replacement) → Meets asked (setting_of r) o lines → o.place ≡ place → left_length (setting_of r) o ≡ count → o.entry ≡ length r.entries.now + n → ⊥
 
 -- nor does any of the first n families
-abbrev pub NoneOfFamilies : Bool → Rules → List Line → ℕ → ℕ → ℕ → Type 0
+abbrev pub NoneOfFamilies : Bool → Rules → List ListingLine → ℕ → ℕ → ℕ → Type 0
 NoneOfFamilies asked r lines place count n =
     (o : Replacement) → Meets asked (setting_of r) o lines → o.place ≡ place → left_length (setting_of r) o ≡ count → length r.entries.now ≤ o.entry → o.entry < length r.entries.now + n → ⊥
 
 -- of the choices at a place by families with left sides of so many instructions it has the lowest
-pub record IsLowestFamily (r : Rules) (lines : List Line) (place count : ℕ) (c : Choice) : Type 0 where
+pub record IsLowestFamily (r : Rules) (lines : List ListingLine) (place count : ℕ) (c : Choice) : Type 0 where
   pub is : IsChoice (setting_of r) lines c
   pub at : (choice_of c).place ≡ place
   pub long : left_length (setting_of r) (choice_of c) ≡ count

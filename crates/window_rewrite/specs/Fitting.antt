@@ -5,7 +5,7 @@ use Rattle.thumb_instr.specs.Items.{has}
 use Rattle.thumb_instr.specs.Window.{Low, renamed, item_under}
 use Rattle.thumb_model.specs.Flow.{LiveAfter}
 use Rattle.thumb_model.specs.Effect.{one_of, IsOneToOne, register_count, normalised}
-use Rattle.thumb_model.specs.Listing.{Line, code_of}
+use Rattle.thumb_model.specs.Listing.{ListingLine, code_of}
 use Rattle.rule_model.specs.Rules.{Rule, rule_at, rule_registers, IsSoundRule}
 use Rattle.seq_enum.specs.Costs.{weight_under}
 use Rattle.table_audit.specs.Shorter.{IsCanonicalSide}
@@ -14,10 +14,10 @@ use Rattle.window_rewrite.specs.declared.forms.Form.{Form}
 use Rattle.window_rewrite.specs.declared.marks.Marks.{Marks}
 use Rattle.window_rewrite.specs.Forms.{form_of}
 use Rattle.window_rewrite.specs.Rules.{IsNoted}
-use Rattle.window_rewrite.specs.Shapes.{seen}
+use Rattle.window_rewrite.specs.Hashes.{seen}
 
 -- the instructions are a window at the place, after which these items are live
-pub record StandsThere (lines : List Line) (place : ℕ) (window : List Instr) (items : ℕ) : Type 0 where
+pub record StandsThere (lines : List ListingLine) (place : ℕ) (window : List Instr) (items : ℕ) : Type 0 where
   pub is_window : IsWindow lines place window
   pub live : (x : ℕ) → (has items x ≡ true) ↔ LiveAfter (code_of lines) (place + length window - 1) x
 

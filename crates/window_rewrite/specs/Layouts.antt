@@ -3,7 +3,7 @@ use Rattle.std.specs.Prelude.{◌≡◌, ℕ, ◌-◌, ◌*◌, ◌%◌, ◌<◌
 use Rattle.std.specs.List.{list_all}
 use Rattle.thumb_instr.specs.declared.instr.Instr.{Instr}
 use Rattle.thumb_instr.specs.Window.{is_in_window}
-use Rattle.thumb_model.specs.Listing.{Line}
+use Rattle.thumb_model.specs.Listing.{ListingLine}
 use Rattle.thumb_model.specs.Layout.{Layable}
 use Rattle.thumb_model.specs.Replaced.{replaced_lines}
 use Rattle.listing_parser.specs.Parsing.{own_line}
@@ -20,7 +20,7 @@ abbrev pub is_steady : KnownLayout → Bool
 is_steady g = not (is_some g.kept)
 
 -- the layout that is kept, if one is, is that of the lines from the base
-abbrev pub HasLayout : ℕ → KnownLayout → List Line → Type 0
+abbrev pub HasLayout : ℕ → KnownLayout → List ListingLine → Type 0
 HasLayout base g lines = IfSome g.kept (λ k. (k.base ≡ base) × Lays k lines)
 
 -- it stands where the place is
@@ -33,7 +33,7 @@ Moves g window new m = length new < length window → IfSome g.kept (λ k. IsMov
 
 -- a window at which the layout stands may give way to no more instructions, which leave lines that can be laid out, where a layout is kept, which then moves so
 pub record Allows (g : KnownLayout) (window new : List Instr) (m : Move) : Type 0 where
-  pub lines : List Line
+  pub lines : List ListingLine
   pub place : ℕ
   pub lays : IfSome g.kept (λ k. Lays k lines × Layable k.base (replaced_lines own_line place (length window) new lines))
   pub moved : Moves g window new m
@@ -44,12 +44,12 @@ pub record Allows (g : KnownLayout) (window new : List Instr) (m : Move) : Type 
   pub no_longer : length new ≤ length window
 
 -- the lines can be laid out, and are steady, if the layout is; otherwise it has their layout
-pub record AreOver (r : Rules) (g : KnownLayout) (lines : List Line) : Type 0 where
+pub record AreOver (r : Rules) (g : KnownLayout) (lines : List ListingLine) : Type 0 where
   pub layable : Layable r.base lines
   pub aligned : is_steady g ≡ true → r.base % 4 ≡ 0
   pub steady : is_steady g ≡ true → IsSteady r.base lines
   pub layout : HasLayout r.base g lines
 
 -- where it is said so, the lines and those that come of them by replacements can be laid out from the base
-abbrev pub IsSteadyIf : ℕ → List Line → Bool → Type 0
+abbrev pub IsSteadyIf : ℕ → List ListingLine → Bool → Type 0
 IsSteadyIf base lines b = b ≡ true → (base % 4 ≡ 0) × IsSteady base lines

@@ -1,6 +1,6 @@
-pub mod Rewriting
+pub mod TableRewriting
 pub mod Errors
-pub mod Shapes
+pub mod Hashes
 pub mod Forms
 pub mod Rules
 pub mod Fitting

@@ -13,11 +13,11 @@ use Rattle.table_audit.specs.Families.{entry_at, is_hole}
 use Rattle.table_audit.specs.Soundness.{instances_of, rewriting_rule}
 use Rattle.table_audit.specs.Shorter.{IsCanonicalSide}
 use Rattle.window_rewrite.specs.declared.chains.Chains.{Chains}
-use Rattle.window_rewrite.specs.declared.index.Index.{Index}
+use Rattle.window_rewrite.specs.declared.index.RuleIndex.{RuleIndex}
 use Rattle.window_rewrite.specs.declared.marks.Marks.{Marks}
-use Rattle.window_rewrite.specs.declared.shadows.Kept.{Kept}
+use Rattle.window_rewrite.specs.declared.shadows.KeptEntries.{KeptEntries}
 use Rattle.window_rewrite.specs.Forms.{form_of}
-use Rattle.window_rewrite.specs.Shapes.{blind, shape_of}
+use Rattle.window_rewrite.specs.Hashes.{blind, hash_of}
 
 abbrev pub entry_rule : Entry → Rule
 entry_rule e = rewriting_rule (rule_of e)
@@ -95,11 +95,11 @@ is_marked marks k = is_true (slice_get marks k)
 
 -- the fronts of a side of up to so many instructions are marked
 abbrev pub AreMarked : List Bool → List Instr → ℕ → Type 0
-AreMarked marks side count = (at : ℕ) → at < count → is_marked marks (shape_of (take (suc at) side)) ≡ true
+AreMarked marks side count = (at : ℕ) → at < count → is_marked marks (hash_of (take (suc at) side)) ≡ true
 
 -- a side is marked
 pub record IsNoted (marks : Marks) (side : List Instr) : Type 0 where
-  pub whole : is_marked marks.wholes.items (shape_of side) ≡ true
+  pub whole : is_marked marks.wholes.items (hash_of side) ≡ true
   pub fronts : AreMarked marks.fronts.items side (length side)
 
 -- there is a mark for each number
@@ -148,7 +148,7 @@ abbrev pub AreLed : Option (List ℕ) → List Rule → List Bool → ℕ → Ty
 AreLed costs rules kept n = (k : ℕ) (rule : Rule) → k < n → slice_get rules k ≡ Some rule → is_lighter costs rule ≡ true → IsLed costs rules kept k rule
 
 -- which of the first n rules are kept: right sides of such weigh less; from the last of them ways lead back through others
-pub record AreKept (costs : Option (List ℕ)) (rules : List Rule) (n : ℕ) (k : Kept) : Type 0 where
+pub record AreKept (costs : Option (List ℕ)) (rules : List Rule) (n : ℕ) (k : KeptEntries) : Type 0 where
   pub many : length k.kept.items ≡ length rules
   pub many_lasts : length k.lasts.items ≡ length rules
   pub many_earlier : length k.earlier.items ≡ length rules
@@ -194,7 +194,7 @@ pub record AreChains (forms : List ℕ) (n : ℕ) (chains : Chains) : Type 0 whe
   pub as_many : length chains.nexts.items ≡ length forms
   pub nexts : AreNexts (chains_of forms) chains.kept.items chains.nexts.items n
 
-pub record IsIndex (costs : Option (List ℕ)) (entries : List tables.Rule) (families : List tables.Family) (index : Index) : Type 0 where
+pub record IsIndex (costs : Option (List ℕ)) (entries : List tables.Rule) (families : List tables.Family) (index : RuleIndex) : Type 0 where
   pub marks : AreNoted costs left_side (alone (map rewriting_rule entries)) (length entries) index.marks
   pub holes : AreNoted costs blind_side (families_in entries families) (length families) index.holes
   pub led : AreLed costs (map rewriting_rule entries) index.entries.kept.items (length (map rewriting_rule entries))

@@ -2,7 +2,7 @@
 use Rattle.std.specs.Prelude.{◌≡◌, ℕ, ◌<◌, ◌≤◌, ◌↔◌, max, true, false, List, [], length, drop}
 use Rattle.thumb_instr.specs.declared.instr.Instr.{Instr}
 use Rattle.thumb_model.specs.Layout.{Layable}
-use Rattle.thumb_model.specs.Listing.{Line, code_of, labels_from, places_of}
+use Rattle.thumb_model.specs.Listing.{ListingLine, code_of, labels_from, places_of}
 use Rattle.thumb_model.specs.Replaced.{replaced_lines}
 use Rattle.listing_parser.specs.Grammar.{most_lines}
 use Rattle.listing_parser.specs.Parsing.{own_line}
@@ -25,7 +25,7 @@ use Rattle.window_rewrite.specs.Settled.{IsSettled}
 use Rattle.window_rewrite.specs.Layouts.{is_steady, AreOver, StandsNear}
 
 -- the lines now
-abbrev pub lines_of : Scene → List Line
+abbrev pub lines_of : Scene → List ListingLine
 lines_of s = lines_now s.listing
 
 -- what is kept of its places is true of the lines now
@@ -61,7 +61,7 @@ IsNear s t = StandsNear s.layout t.number
 
 -- ---- a look at a site ----
 
-abbrev pub lines_seen : Look → List Line
+abbrev pub lines_seen : Look → List ListingLine
 lines_seen l = lines_of l.scene.now
 
 abbrev pub number_seen : Look → ℕ
@@ -82,7 +82,7 @@ pub record IsSight (t : Sight) : Type 0 where
   pub form : IsForm t.window.now t.form.now
 
 -- the lines that are left where a window there gives way
-abbrev pub lines_left : Look → List Instr → List Instr → List Line
+abbrev pub lines_left : Look → List Instr → List Instr → List ListingLine
 lines_left l window new = replaced_lines own_line (number_seen l) (length window) new (lines_seen l)
 
 -- they are not too many, and can be laid out, where that isn't sure

@@ -9,7 +9,7 @@ ghost use Rattle.step_ledger.specs.Counts.{RisesByAtLeast};
 ghost use Rattle.window_rewrite.specs.Choices.{choice_of, setting_of, sides_of, table_in, AreReady, IsChoice};
 ghost use Rattle.window_rewrite.specs.Fitting.{NoneReaches};
 ghost use Rattle.window_rewrite.specs.Due.{AreTried, AreTriedBut, Reaches, StayMarked};
-ghost use Rattle.window_rewrite.specs.Rewriting.{replacement_of, IsWhole};
+ghost use Rattle.window_rewrite.specs.TableRewriting.{replacement_of, IsWhole};
 ghost use Rattle.window_rewrite.specs.Scenes.{lines_of, IsNear, IsOver, IsSite};
 ghost use Rattle.window_rewrite.specs.Layouts.{Moves};
 

@@ -17,7 +17,7 @@ use crate::families::lowest_family;
 use crate::fitting::fitting;
 use crate::forms::Form;
 use crate::fronts::may_stand;
-use crate::index::Index;
+use crate::index::RuleIndex;
 use crate::items::registers_of;
 use crate::replacing::renamed_all;
 use crate::scene::{Scene, Site};
@@ -35,7 +35,7 @@ use thumb_instr::{Instr, Items, Seq};
 pub(crate) struct Rules<'a> {
     pub(crate) entries: &'a [Entry],
     pub(crate) families: &'a [Family],
-    pub(crate) index: &'a Index,
+    pub(crate) index: &'a RuleIndex,
     /// What instructions cost; where there are no costs, a side weighs as much as it is long.
     pub(crate) costs: &'a Option<Costs>,
     /// How many instructions a left side has at most.

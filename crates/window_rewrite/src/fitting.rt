@@ -4,7 +4,7 @@ ghost use Rattle.std.specs.List.{list_all};
 ghost use Rattle.thumb_instr.specs.Window.{Low, is_in_window};
 ghost use Rattle.rule_model.specs.Rules.{IsSoundRule};
 ghost use Rattle.table_audit.specs.Shorter.{IsCanonicalSide};
-ghost use Rattle.window_rewrite.specs.Rewriting.{map_of, registers_of};
+ghost use Rattle.window_rewrite.specs.TableRewriting.{map_of, registers_of};
 ghost use Rattle.window_rewrite.specs.Rules.{entry_rule};
 ghost use Rattle.window_rewrite.specs.Fitting.{FitsWhole, IsScratchLeast};
 

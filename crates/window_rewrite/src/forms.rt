@@ -11,7 +11,7 @@ ghost use Rattle.window_rewrite.specs.Fitting.{IsForm, Stands};
 ghost use Rattle.window_rewrite.specs.Forms.{form_of, letter_number, next_form};
 ghost use Rattle.window_rewrite.specs.Rules.{left_forms, raised_form, raised_forms, rules_in};
 
-use crate::shapes::{SHAPES, blind_all};
+use crate::hashes::{HASHES, blind_all};
 use listing_parser::Memory;
 use rule_table::{Entry, Family, canonical};
 use seq_enum::rank;
@@ -47,7 +47,7 @@ fn next_form(form: usize, instr: &Instr) -> usize
     ensures value { result ≡ next_form form instr.now }
     ensures small { result < 65536 }
 {
-    (form * 1283 + letter_number(instr)) % SHAPES
+    (form * 1283 + letter_number(instr)) % HASHES
 }
 
 /// The number of instructions with their registers.

@@ -1,7 +1,7 @@
 //! What the marks tell of a run: how long the left sides may be that stand first in it. Those of entries are marked as they are, but for registers, and those of
 //! families with 0 for 8-bit numbers too. Where a table has no families these aren't asked for.
 ghost use Rattle.std.specs.Prelude.{◌≡◌, ◌≤◌, ◌<◌, ℕ, List, length, map, true, false, Some, if◌then◌else◌};
-ghost use Rattle.window_runs.specs.declared.rows.Row.{Row};
+ghost use Rattle.window_runs.specs.declared.rows.WindowPlace.{WindowPlace};
 ghost use Rattle.window_runs.specs.Runs.{letter_at, run};
 ghost use Rattle.rule_table.specs.Views.{family_of, rule_of};
 ghost use Rattle.window_rewrite.specs.Fitting.{NoneMarked, NoneReaches, NoneStands};
@@ -9,23 +9,23 @@ ghost use Rattle.window_rewrite.specs.Rules.{families_in, is_marked, AreMany};
 ghost use Rattle.window_rewrite.specs.Choices.{table_in, AreReady};
 
 use crate::finding::Rules;
+use crate::hashes::{hash_of, next_hash, seen};
 use crate::marks::Marks;
-use crate::shapes::{next_shape, seen, shape_of};
 use thumb_instr::Instr;
 
 /// Whether a side that is marked may begin with an instruction.
 fn may_begin_in(marks: &Marks, hidden: bool, first: Instr) -> bool
     requires { AreMany marks.now }
-    ensures { result ≡ false → (rows : List Row) → Some first ≡ letter_at true rows → (most : ℕ) → NoneMarked marks.now hidden (run true most rows) 0 }
+    ensures { result ≡ false → (rows : List WindowPlace) → Some first ≡ letter_at true rows → (most : ℕ) → NoneMarked marks.now hidden (run true most rows) 0 }
 {
-    marks.has_front(next_shape(0, &seen(hidden, first)))
+    marks.has_front(next_hash(0, &seen(hidden, first)))
 }
 
 /// Whether some left side may begin with an instruction that a run begins with, but for registers. Where there is none or none may, no rule whose right side
 /// weighs less stands first in the run.
 pub(crate) fn may_begin(rules: &Rules<'_>, first: Option<Instr>) -> bool
     requires ready { AreReady rules.now }
-    ensures { result ≡ false → (rows : List Row) → first ≡ letter_at true rows → (most : ℕ) → NoneReaches rules.now.costs.now (table_in rules.now) (run true most rows) 0 }
+    ensures { result ≡ false → (rows : List WindowPlace) → first ≡ letter_at true rows → (most : ℕ) → NoneReaches rules.now.costs.now (table_in rules.now) (run true most rows) 0 }
 {
     match first {
         None => false,
@@ -42,12 +42,12 @@ pub(crate) fn may_begin(rules: &Rules<'_>, first: Option<Instr>) -> bool
 }
 
 /// The count of instructions that have a number, if they may be a marked side, but for registers; or else that of others.
-fn longest_of(marks: &Marks, shape: usize, count: usize, other: usize) -> usize
+fn longest_of(marks: &Marks, hash: usize, count: usize, other: usize) -> usize
     requires many { AreMany marks.now }
-    requires small { shape < 65536 }
-    ensures { result ≡ (if is_marked marks.now.wholes.items shape then count else other) }
+    requires small { hash < 65536 }
+    ensures { result ≡ (if is_marked marks.now.wholes.items hash then count else other) }
 {
-    if marks.has_whole(shape) { count } else { other }
+    if marks.has_whole(hash) { count } else { other }
 }
 
 /// How many instructions the longest marked side may have that stands first in a run, but for registers; 0 where there is none.
@@ -56,14 +56,14 @@ fn reach_in(marks: &Marks, hidden: bool, run: &[Instr]) -> usize
     ensures within { result ≤ length run.now }
     ensures none { NoneMarked marks.now hidden run.now result }
 {
-    let mut shape = 0;
+    let mut hash = 0;
     let mut reached = 0;
     for at in 0..run.len() {
-        shape = next_shape(shape, &seen(hidden, run[at]));
-        if !marks.has_front(shape) {
+        hash = next_hash(hash, &seen(hidden, run[at]));
+        if !marks.has_front(hash) {
             return reached;
         }
-        reached = longest_of(marks, shape, at + 1, reached);
+        reached = longest_of(marks, hash, at + 1, reached);
     }
     reached
 }
@@ -91,7 +91,7 @@ fn may_raise(rules: &Rules<'_>, window: &[Instr]) -> bool
     if rules.families.is_empty() {
         return false;
     }
-    rules.index.holes.has_whole(shape_of(true, window))
+    rules.index.holes.has_whole(hash_of(true, window))
 }
 
 /// Whether a rule may stand in a window, but for registers and, of families, 8-bit numbers.
@@ -99,7 +99,7 @@ pub(crate) fn may_stand(rules: &Rules<'_>, window: &[Instr]) -> bool
     requires ready { AreReady rules.now }
     ensures { result ≡ false → NoneStands rules.now.costs.now (table_in rules.now) window.now }
 {
-    if rules.index.marks.has_whole(shape_of(false, window)) {
+    if rules.index.marks.has_whole(hash_of(false, window)) {
         return true;
     }
     may_raise(rules, window)

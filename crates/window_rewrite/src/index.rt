@@ -14,7 +14,7 @@ use std::alloc::Global;
 
 /// The rules whose right sides weigh less: marks that reject most windows, and for the others the rules by their left sides.
 #[derive(Drop)]
-pub(crate) struct Index {
+pub(crate) struct RuleIndex {
     pub(crate) marks: Marks,
     /// Marks of the families, by left sides with 0 for 8-bit numbers.
     pub(crate) holes: Marks,
@@ -44,17 +44,17 @@ fn family_chains(alloc: Global, entries: &[Entry], families: &[Family]) -> Resul
     Chains::of(alloc, kept, &forms)
 }
 
-impl Index {
+impl RuleIndex {
     /// The index of these entries and families.
     pub(crate) fn of(
         alloc: Global,
         costs: &Option<Costs>,
         entries: &[Entry],
         families: &[Family],
-    ) -> Result<Index, Memory>
+    ) -> Result<RuleIndex, Memory>
         ensures { IfOk result (IsIndex costs.now (map rule_of entries.now) (map family_of families.now)) }
     {
-        Ok(Index {
+        Ok(RuleIndex {
             marks: Marks::of(alloc, costs, entries)?,
             holes: Marks::of_families(alloc, costs, entries, families)?,
             entries: entry_chains(alloc, costs, entries)?,

@@ -4,7 +4,7 @@ ghost use Rattle.thumb_instr.specs.Items.{has};
 ghost use Rattle.thumb_instr.specs.Window.{item_under};
 ghost use Rattle.thumb_model.specs.Effect.{one_of};
 ghost use Rattle.table_audit.specs.Soundness.{items_in};
-ghost use Rattle.window_rewrite.specs.Rewriting.{registers_of};
+ghost use Rattle.window_rewrite.specs.TableRewriting.{registers_of};
 ghost use Rattle.window_rewrite.specs.Fitting.{is_allowed};
 
 use arrayvec::ArrayVec;

@@ -15,7 +15,7 @@ pub(crate) struct KnownLayout {
 impl KnownLayout {
     ghost use Rattle.std.specs.Prelude.{◌≡◌, ℕ, length, List, IfOk, OnOk, IfSome};
     ghost use Rattle.thumb_model.specs.Layout.{Layable};
-    ghost use Rattle.thumb_model.specs.Listing.{Line as Listed};
+    ghost use Rattle.thumb_model.specs.Listing.{ListingLine as Listed};
     ghost use Rattle.thumb_model.specs.Replaced.{replaced_lines};
     ghost use Rattle.listing_parser.specs.Parsing.{own_line};
     ghost use Rattle.kept_layout.specs.Kept.{IsLaid};

@@ -25,6 +25,7 @@ mod finding;
 mod fitting;
 mod forms;
 mod fronts;
+mod hashes;
 mod index;
 mod items;
 mod known_layout;
@@ -34,7 +35,6 @@ mod rewriting;
 mod scene;
 mod scratch;
 mod shadows;
-mod shapes;
 
 pub use choice::{Replacement, Rewritten};
 pub use errors::RewriteError;

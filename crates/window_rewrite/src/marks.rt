@@ -5,10 +5,10 @@ ghost use Rattle.rule_table.specs.Views.{family_of, rule_of};
 ghost use Rattle.table_audit.specs.Families.{entry_at};
 ghost use Rattle.table_audit.specs.Soundness.{instances_of};
 ghost use Rattle.window_rewrite.specs.Rules.{blind_side, families_in, is_marked, is_lighter, left_side, rules_in, AreMany, AreMarked, AreNoted, IsNoted, StayNoted};
-ghost use Rattle.window_rewrite.specs.Shapes.{shape_of};
+ghost use Rattle.window_rewrite.specs.Hashes.{hash_of};
 
+use crate::hashes::{HASHES, blind_all, next_hash};
 use crate::shadows::is_lighter;
-use crate::shapes::{SHAPES, blind_all, next_shape};
 use listing_parser::Memory;
 use rule_table::{Entry, Family};
 use seq_enum::Costs;
@@ -26,14 +26,14 @@ pub(crate) struct Marks {
 }
 
 /// Marks a number.
-fn mark(marks: &mut Vec<bool>, shape: usize)
+fn mark(marks: &mut Vec<bool>, hash: usize)
     requires many { length marks.old.items ≡ 65536 }
-    requires small { shape < 65536 }
+    requires small { hash < 65536 }
     ensures many { length marks.new.items ≡ 65536 }
     ensures kept { (q : ℕ) → is_marked marks.old.items q ≡ true → is_marked marks.new.items q ≡ true }
-    ensures here { is_marked marks.new.items shape ≡ true }
+    ensures here { is_marked marks.new.items hash ≡ true }
 {
-    marks[shape] = true;
+    marks[hash] = true;
 }
 
 /// Marks the fronts of a left side. The number of its instructions.
@@ -42,15 +42,15 @@ pub(crate) fn mark_fronts(marks: &mut Vec<bool>, left: &[Instr]) -> usize
     ensures many { length marks.new.items ≡ 65536 }
     ensures kept { (q : ℕ) → is_marked marks.old.items q ≡ true → is_marked marks.new.items q ≡ true }
     ensures fronts { AreMarked marks.new.items left.now (length left.now) }
-    ensures shape { result ≡ shape_of left.now }
+    ensures hash { result ≡ hash_of left.now }
     ensures small { result < 65536 }
 {
-    let mut shape = 0;
+    let mut hash = 0;
     for instr in left {
-        shape = next_shape(shape, instr);
-        mark(marks, shape);
+        hash = next_hash(hash, instr);
+        mark(marks, hash);
     }
-    shape
+    hash
 }
 
 impl Marks {
@@ -59,8 +59,8 @@ impl Marks {
         ensures { IfOk result AreMany }
     {
         Ok(Marks {
-            wholes: vec![in alloc; false; SHAPES]?,
-            fronts: vec![in alloc; false; SHAPES]?,
+            wholes: vec![in alloc; false; HASHES]?,
+            fronts: vec![in alloc; false; HASHES]?,
         })
     }
 
@@ -102,8 +102,8 @@ impl Marks {
         ensures stay { StayNoted self.old self.new }
         ensures noted { IsNoted self.new side.now }
     {
-        let shape = mark_fronts(&mut self.fronts, side);
-        mark(&mut self.wholes, shape);
+        let hash = mark_fronts(&mut self.fronts, side);
+        mark(&mut self.wholes, hash);
     }
 
     /// Marks the left side of an entry, if its right side weighs less.
@@ -136,20 +136,20 @@ impl Marks {
     }
 
     /// Whether some left side may have this number.
-    pub(crate) fn has_whole(&self, shape: usize) -> bool
+    pub(crate) fn has_whole(&self, hash: usize) -> bool
         requires many { AreMany self.now }
-        requires small { shape < 65536 }
-        ensures { result ≡ is_marked self.now.wholes.items shape }
+        requires small { hash < 65536 }
+        ensures { result ≡ is_marked self.now.wholes.items hash }
     {
-        self.wholes[shape]
+        self.wholes[hash]
     }
 
     /// Whether some left side may begin with instructions of this number.
-    pub(crate) fn has_front(&self, shape: usize) -> bool
+    pub(crate) fn has_front(&self, hash: usize) -> bool
         requires many { AreMany self.now }
-        requires small { shape < 65536 }
-        ensures { result ≡ is_marked self.now.fronts.items shape }
+        requires small { hash < 65536 }
+        ensures { result ≡ is_marked self.now.fronts.items hash }
     {
-        self.fronts[shape]
+        self.fronts[hash]
     }
 }

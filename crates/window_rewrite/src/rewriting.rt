@@ -8,7 +8,7 @@ ghost use Rattle.thumb_model.specs.Listing.{code_of, places_of};
 ghost use Rattle.thumb_model.specs.Literals.{HasLiterals};
 ghost use Rattle.thumb_model.specs.Same.{Same};
 ghost use Rattle.rule_model.specs.Rewriting.{AreRewritten};
-ghost use Rattle.window_rewrite.specs.Rewriting.{setting, replacement_of, rewriting_cost, IsRefusal, IsWhole};
+ghost use Rattle.window_rewrite.specs.TableRewriting.{setting, replacement_of, rewriting_cost, IsRefusal, IsWhole};
 ghost use Rattle.window_rewrite.specs.Choices.{setting_of, sides_of, AreReady};
 ghost use Rattle.window_rewrite.specs.Layouts.{IsSteadyIf};
 
@@ -16,7 +16,7 @@ use crate::choice::Rewritten;
 use crate::due::go_through;
 use crate::errors::RewriteError;
 use crate::finding::Rules;
-use crate::index::Index;
+use crate::index::RuleIndex;
 use crate::scene::Scene;
 use label_layout::layout;
 use listing_parser::{Listing, Memory};
@@ -70,7 +70,7 @@ pub fn rewrite<L: Ledger>(
     let accepted = table.table();
     let entries = accepted.entries.as_slice();
     let families = accepted.families.as_slice();
-    let index = Index::of(alloc, &accepted.costs, entries, families)?;
+    let index = RuleIndex::of(alloc, &accepted.costs, entries, families)?;
     let rules = Rules {
         entries,
         families,

@@ -12,7 +12,7 @@ ghost use Rattle.edited_listing.specs.Edited.{lines_now, marks, padded};
 ghost use Rattle.kept_live.specs.KeptLive.{LosesAt};
 ghost use Rattle.step_ledger.specs.Counts.{RisesByAtLeast};
 ghost use Rattle.window_rewrite.specs.Choices.{choice_of, setting_of, IsChoice};
-ghost use Rattle.window_rewrite.specs.Rewriting.{visits};
+ghost use Rattle.window_rewrite.specs.TableRewriting.{visits};
 ghost use Rattle.window_rewrite.specs.Scenes.{lines_of, IsKept, IsNear, IsOver, IsRun, IsSite};
 ghost use Rattle.window_rewrite.specs.Settled.{IsSettled};
 ghost use Rattle.window_rewrite.specs.Layouts.{is_steady, IsSteadyIf, Moves};

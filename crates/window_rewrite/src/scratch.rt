@@ -3,7 +3,7 @@ ghost use Rattle.std.specs.Prelude.{◌≡◌, List, length, MatchOption};
 ghost use Rattle.thumb_instr.specs.Window.{named, named_by, Low};
 ghost use Rattle.thumb_model.specs.Effect.{above, register_count};
 ghost use Rattle.rule_model.specs.Rules.{IsSoundRule};
-ghost use Rattle.window_rewrite.specs.Rewriting.{map_of, registers_of};
+ghost use Rattle.window_rewrite.specs.TableRewriting.{map_of, registers_of};
 ghost use Rattle.window_rewrite.specs.Rules.{entry_rule, needs_scratch};
 ghost use Rattle.window_rewrite.specs.Fitting.{left_registers, AreWhole, IsScratchLeast};
 

@@ -99,7 +99,7 @@ fn number_of(entry: &Entry) -> usize
 
 /// The first entries of a table, as far as they are looked at.
 #[derive(Drop)]
-pub(crate) struct Kept {
+pub(crate) struct KeptEntries {
     /// Whether an entry is kept.
     kept: Vec<bool>,
     /// Of the entries that are kept the last one for each remainder of their numbers by how many entries there are, and of each of these the one before it.
@@ -107,7 +107,7 @@ pub(crate) struct Kept {
     earlier: Vec<Option<usize>>,
 }
 
-impl Kept {
+impl KeptEntries {
     /// Where the last entry stands that is kept and may be alike.
     fn shared(&self, entry: &Entry) -> usize
         requires { 0 < length self.now.lasts.items }
@@ -171,7 +171,7 @@ pub(crate) fn kept_entries(
     ensures led { IfOk result (λ kept. AreLed costs.now (rules_in entries.now) kept.items (length entries.now)) }
     ensures many { IfOk result (λ kept. length kept.items ≡ length entries.now) }
 {
-    let mut all = Kept {
+    let mut all = KeptEntries {
         kept: vec![in alloc; false; entries.len()]?,
         lasts: vec![in alloc; None; entries.len()]?,
         earlier: vec![in alloc; None; entries.len()]?,
@@ -179,7 +179,7 @@ pub(crate) fn kept_entries(
     for number in 0..entries.len() {
         all.look(costs, entries, number);
     }
-    let Kept {
+    let KeptEntries {
         kept,
         lasts: _lasts,
         earlier: _earlier,

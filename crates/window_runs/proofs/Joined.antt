@@ -5,16 +5,16 @@ use Rattle.std.specs.List.{list_all}
 use Rattle.std.proofs.lemmas.Bool.{and_parts, and_from, cases_lt}
 use Rattle.thumb_instr.specs.declared.instr.Instr.{Instr}
 use Rattle.thumb_instr.specs.Window.{is_in_window}
-use Rattle.thumb_model.specs.Listing.{Name, Mention, Value, Statement, Nothing, Runs, Words, Aligns, Sets, Line, Place, Op, Word, plain, Label, places_in, places_of, labels_at, labels_from}
+use Rattle.thumb_model.specs.Listing.{Name, Mention, Value, Statement, Nothing, Instruction, Words, Aligns, Sets, ListingLine, Place, Op, Word, plain, Label, places_in, places_of, labels_at, labels_from}
 use Rattle.thumb_model.specs.Replaced.{is_op, is_align, are_joined, are_joined_from}
-use Rattle.window_runs.specs.declared.rows.Row.{Row}
+use Rattle.window_runs.specs.declared.rows.WindowPlace.{WindowPlace}
 use Rattle.window_runs.specs.Windows.{IsWindow}
 use Rattle.window_runs.specs.Rows.{is_unlabelled, letter_of, rows_of, stays_joined, rows_from}
 use Rattle.window_runs.specs.Runs.{letter_at, before, run}
 use Rattle.thumb_model.proofs.Lists.{take_short as take_less, length_map as map_length}
 
 -- the instructions stand in the rows, joined; of the first it may not matter
-abbrev pub Fits : Bool → List Instr → List Row → Type 0
+abbrev pub Fits : Bool → List Instr → List WindowPlace → Type 0
 Fits first [] rows = Unit {0}
 Fits first (i ∷ is) [] = ⊥
 Fits first (i ∷ is) (r ∷ rs) = ((first || r.is_joined) ≡ true) × (r.letter ≡ Some i) × Fits false is rs
@@ -22,7 +22,7 @@ Fits first (i ∷ is) (r ∷ rs) = ((first || r.is_joined) ≡ true) × (r.lette
 -- ---- runs ----
 
 -- each front of a run fits
-pub run_fits : (first : Bool) (n k : ℕ) (rows : List Row) → Fits first (take k (run first n rows)) rows
+pub run_fits : (first : Bool) (n k : ℕ) (rows : List WindowPlace) → Fits first (take k (run first n rows)) rows
 run_fits first zero zero rows = tt
 run_fits first zero (suc k) rows = tt
 run_fits first (suc n) zero [] = tt
@@ -36,7 +36,7 @@ run_fits first (suc n) (suc k) (r ∷ rs) = go (run_fits false n k rs) (first ||
     go h false e o f = tt
 
 -- what fits is a front of the run
-fits_run : (first : Bool) (n : ℕ) (is : List Instr) (rows : List Row) → length is ≤ n → Fits first is rows → take (length is) (run first n rows) ≡ is
+fits_run : (first : Bool) (n : ℕ) (is : List Instr) (rows : List WindowPlace) → length is ≤ n → Fits first is rows → take (length is) (run first n rows) ≡ is
 fits_run first n [] rows h f = refl
 fits_run first zero (i ∷ is) rows h f = absurd (omega arith)
 fits_run first (suc n) (i ∷ is) [] h f = absurd f
@@ -44,22 +44,22 @@ fits_run first (suc n) (i ∷ is) (r ∷ rs) h f =
     rw (f.0, f.1) (ap (λ (js : List Instr). i ∷ js) (fits_run false n is rs (omega arith) f.2))
 
 -- a run ends where there is no letter
-run_none : (begins : Bool) (n : ℕ) (rows : List Row) → letter_at begins rows ≡ None → run begins n rows ≡ []
+run_none : (begins : Bool) (n : ℕ) (rows : List WindowPlace) → letter_at begins rows ≡ None → run begins n rows ≡ []
 run_none begins zero rows e = refl
 run_none begins (suc n) [] e = refl
 run_none begins (suc n) (r ∷ rs) e = ap (λ (o : Option Instr). before o (run false n rs)) e
 
-run_some : (begins : Bool) (n at : ℕ) (rows : List Row) (i : Instr) → letter_at begins (drop at rows) ≡ Some i → run begins (suc n) (drop at rows) ≡ i ∷ run false n (drop (at + 1) rows)
+run_some : (begins : Bool) (n at : ℕ) (rows : List WindowPlace) (i : Instr) → letter_at begins (drop at rows) ≡ Some i → run begins (suc n) (drop at rows) ≡ i ∷ run false n (drop (at + 1) rows)
 run_some begins n zero [] i e = absurd (cc)
 run_some begins n (suc at) [] i e = absurd (cc)
 run_some begins n zero (r ∷ rs) i e = ap (λ (o : Option Instr). before o (run false n rs)) e
 run_some begins n (suc at) (r ∷ rs) i e = run_some begins n at rs i e ∙ ap (λ k. i ∷ run false n (drop k (r ∷ rs))) (let f : suc (at + 1) ≡ suc at + 1 = omega arith in f)
 
-pub run_ends : (seq : List Instr) (begins : Bool) (n : ℕ) (rows : List Row) (all : List Instr) → letter_at begins rows ≡ None → seq ++ run begins n rows ≡ all → seq ≡ all
+pub run_ends : (seq : List Instr) (begins : Bool) (n : ℕ) (rows : List WindowPlace) (all : List Instr) → letter_at begins rows ≡ None → seq ++ run begins n rows ≡ all → seq ≡ all
 run_ends seq begins n rows all e f = sym (append-nil seq) ∙ ap (λ is. seq ++ is) (sym (run_none begins n rows e)) ∙ f
 
 -- one instruction more
-pub run_more : (seq : List Instr) (most place : ℕ) (rows : List Row) (i : Instr) → length seq < most → letter_at (nat_eq (length seq) 0) (drop (place + length seq) rows) ≡ Some i
+pub run_more : (seq : List Instr) (most place : ℕ) (rows : List WindowPlace) (i : Instr) → length seq < most → letter_at (nat_eq (length seq) 0) (drop (place + length seq) rows) ≡ Some i
     → (seq ++ i ∷ []) ++ run (nat_eq (length (seq ++ i ∷ [])) 0) (most - length (seq ++ i ∷ [])) (drop (place + length (seq ++ i ∷ [])) rows)
     ≡ seq ++ run (nat_eq (length seq) 0) (most - length seq) (drop (place + length seq) rows)
 run_more seq most place rows i h e =
@@ -93,25 +93,25 @@ at_from : (c m : ℕ) (names : List Name) → m ≤ c → AreFrom m (labels_at c
 at_from c m [] h = tt
 at_from c m (n ∷ ns) h = (h, at_from c m ns h)
 
-all_from : (c m : ℕ) (lines : List Line) → m ≤ c → AreFrom m (labels_from c lines)
+all_from : (c m : ℕ) (lines : List ListingLine) → m ≤ c → AreFrom m (labels_from c lines)
 all_from c m [] h = tt
 all_from c m (l ∷ ls) h = from_append m (labels_at c l.names) _ (at_from c m l.names h) (all_from (c + length (places_in l.statement)) m ls (omega arith))
 
 -- the instructions stand at the head of the lines, joined to what stands before them
-record Tail (c high : ℕ) (lines : List Line) (is : List Instr) : Type 0 where
+record Tail (c high : ℕ) (lines : List ListingLine) (is : List Instr) : Type 0 where
   stands : take (length is) (places_of lines) ≡ map plain is
   letters : list_all is_in_window is ≡ true
   free : AreFrom high (labels_from c lines)
   joined : are_joined (length is) lines ≡ true
 
 -- what isn't joined to what stands before doesn't fit behind it
-broken : (lines : List Line) (i : Instr) (is : List Instr) → Fits false (i ∷ is) (rows_from false lines) → ⊥
+broken : (lines : List ListingLine) (i : Instr) (is : List Instr) → Fits false (i ∷ is) (rows_from false lines) → ⊥
 broken [] i is f = f
 broken (l ∷ ls) i is f = by (broken ls i is) l.statement f
   where
     by : (Fits false (i ∷ is) (rows_from false ls) → ⊥) → (s : Statement) → Fits false (i ∷ is) (rows_of (false && is_unlabelled l.names) s ++ rows_from (stays_joined (false && is_unlabelled l.names) s) ls) → ⊥
     by on Nothing f = on f
-    by on (Runs j m) f = let e = f.0 in absurd (cc)
+    by on (Instruction j m) f = let e = f.0 in absurd (cc)
     by on (Words []) f = on f
     by on (Words (v ∷ vs)) f = let e = f.0 in absurd (cc)
     by on (Aligns size most) f = on f
@@ -131,7 +131,7 @@ is_letter i j None e w = let s : j ≡ i = cc in ap (λ (k : Instr). letter_of k
 is_letter i j (Some m) e w = absurd (cc)
 
 -- the same of a line with these names and this statement, and the lines behind it
-record TailAt (c high : ℕ) (names : List Name) (s : Statement) (ls : List Line) (i : Instr) (is : List Instr) : Type 0 where
+record TailAt (c high : ℕ) (names : List Name) (s : Statement) (ls : List ListingLine) (i : Instr) (is : List Instr) : Type 0 where
   stands : take (suc (length is)) (places_in s ++ places_of ls) ≡ plain i ∷ map plain is
   letters : (is_in_window i && list_all is_in_window is) ≡ true
   free : AreFrom high (labels_at c names ++ labels_from (c + length (places_in s)) ls)
@@ -140,7 +140,7 @@ record TailAt (c high : ℕ) (names : List Name) (s : Statement) (ls : List Line
 two_heads : (p q : Place) (ps qs : List Place) → p ≡ q → ps ≡ qs → (let xs : List Place = p ∷ ps in xs) ≡ q ∷ qs
 two_heads p q ps qs e f = cc
 
-fits_tail : (lines : List Line) (c high : ℕ) (is : List Instr) → high ≡ c + length is → Fits false is (rows_from true lines) → Tail c high lines is
+fits_tail : (lines : List ListingLine) (c high : ℕ) (is : List Instr) → high ≡ c + length is → Fits false is (rows_from true lines) → Tail c high lines is
 fits_tail lines c high [] e f = record { stands = refl; letters = refl; free = all_from c high lines (omega arith); joined = refl }
 fits_tail [] c high (i ∷ is) e f = absurd f
 fits_tail (l ∷ ls) c high (i ∷ is) e f =
@@ -151,7 +151,7 @@ fits_tail (l ∷ ls) c high (i ∷ is) e f =
     by : (Fits false (i ∷ is) (rows_from true ls) → Tail (c + 0) high ls (i ∷ is)) → (Fits false is (rows_from true ls) → Tail (c + 1) high ls is)
         → (names : List Name) (s : Statement) → Fits false (i ∷ is) (rows_of (true && is_unlabelled names) s ++ rows_from (stays_joined (true && is_unlabelled names) s) ls) → TailAt c high names s ls i is
     by same next (n ∷ ns) Nothing f = absurd (broken ls i is f)
-    by same next (n ∷ ns) (Runs j m) f = let g = f.0 in absurd (cc)
+    by same next (n ∷ ns) (Instruction j m) f = let g = f.0 in absurd (cc)
     by same next (n ∷ ns) (Words []) f = absurd (broken ls i is f)
     by same next (n ∷ ns) (Words (v ∷ vs)) f = let g = f.0 in absurd (cc)
     by same next (n ∷ ns) (Aligns size most) f = absurd (broken ls i is f)
@@ -161,7 +161,7 @@ fits_tail (l ∷ ls) c high (i ∷ is) e f =
     by same next [] (Sets name address) f = let t = same f in record { stands = t.stands; letters = t.letters; free = t.free; joined = t.joined }
     by same next [] (Words (v ∷ vs)) f = let g = f.0 in absurd (cc)
     by same next [] (Aligns size most) f = absurd (broken ls i is f)
-    by same next [] (Runs j m) f =
+    by same next [] (Instruction j m) f =
         let t = next f.2 in
         let w = letter_is i j m f.1 in
         record { stands = two_heads (Op j m) (plain i) (take (length is) (places_of ls)) (map plain is) w.0 t.stands; letters = and_from (is_in_window i) (list_all is_in_window is) w.1 t.letters; free = t.free; joined = t.joined }
@@ -169,7 +169,7 @@ fits_tail (l ∷ ls) c high (i ∷ is) e f =
 head_of : (p q : Place) (ps qs : List Place) → (let xs : List Place = p ∷ ps in xs) ≡ q ∷ qs → (p ≡ q) × (ps ≡ qs)
 head_of p q ps qs e = (cc, cc)
 
-tail_fits : (lines : List Line) (c high : ℕ) (is : List Instr) → high ≡ c + length is → Tail c high lines is → Fits false is (rows_from true lines)
+tail_fits : (lines : List ListingLine) (c high : ℕ) (is : List Instr) → high ≡ c + length is → Tail c high lines is → Fits false is (rows_from true lines)
 tail_fits lines c high [] e t = tt
 tail_fits [] c high (i ∷ is) e t = let s = t.stands in absurd (cc)
 tail_fits (l ∷ ls) c high (i ∷ is) e t =
@@ -184,7 +184,7 @@ tail_fits (l ∷ ls) c high (i ∷ is) e t =
     by same next [] (Sets name address) t = same (record { stands = t.stands; letters = t.letters; free = t.free; joined = t.joined })
     by same next [] (Words (v ∷ vs)) t = let h = head_of (Word v) (plain i) _ _ t.stands in let g = h.0 in absurd (cc)
     by same next [] (Aligns size most) t = let j = t.joined in absurd (cc)
-    by same next [] (Runs j m) t =
+    by same next [] (Instruction j m) t =
         let h = head_of (Op j m) (plain i) (take (length is) (places_of ls)) (map plain is) t.stands in
         let w = and_parts (is_in_window i) (list_all is_in_window is) t.letters in
         (refl, is_letter i j m h.0 w.0, next (record { stands = h.1; letters = w.1; free = t.free; joined = t.joined }))
@@ -226,13 +226,13 @@ all_clear low high [] h = tt
 all_clear low high (l ∷ ls) h = (h 0 l refl, all_clear low high ls (λ k. h (suc k)))
 
 -- the instructions stand in the lines from place p on, of which the first has the number c
-record Span (c p low high : ℕ) (lines : List Line) (is : List Instr) : Type 0 where
+record Span (c p low high : ℕ) (lines : List ListingLine) (is : List Instr) : Type 0 where
   stands : take (length is) (drop p (places_of lines)) ≡ map plain is
   letters : list_all is_in_window is ≡ true
   free : AreClear low high (labels_from c lines)
   joined : are_joined_from p (length is) lines ≡ true
 
-record SpanAt (c p low high : ℕ) (names : List Name) (s : Statement) (ls : List Line) (i : Instr) (is : List Instr) : Type 0 where
+record SpanAt (c p low high : ℕ) (names : List Name) (s : Statement) (ls : List ListingLine) (i : Instr) (is : List Instr) : Type 0 where
   stands : take (suc (length is)) (drop p (places_in s ++ places_of ls)) ≡ plain i ∷ map plain is
   letters : (is_in_window i && list_all is_in_window is) ≡ true
   free : AreClear low high (labels_at c names ++ labels_from (c + length (places_in s)) ls)
@@ -248,10 +248,10 @@ drop_past (x ∷ xs) ys zero h = absurd (omega arith)
 drop_past (x ∷ xs) ys (suc p) h = drop_past xs ys p (omega arith) ∙ ap (λ n. drop n ys) (let e : p - length xs ≡ suc p - suc (length xs) = omega arith in e)
 
 -- a data word has no letter
-abbrev word_row : Value → Row
+abbrev word_row : Value → WindowPlace
 word_row v = record { letter = None; is_joined = false }
 
-word_fits_not : (vs : List Value) (p : ℕ) (rows : List Row) (i : Instr) (is : List Instr) → p < length vs → Fits true (i ∷ is) (drop p (map word_row vs ++ rows)) → ⊥
+word_fits_not : (vs : List Value) (p : ℕ) (rows : List WindowPlace) (i : Instr) (is : List Instr) → p < length vs → Fits true (i ∷ is) (drop p (map word_row vs ++ rows)) → ⊥
 word_fits_not [] p rows i is h f = omega arith
 word_fits_not (v ∷ vs) zero rows i is h f = let e = f.1 in absurd (cc)
 word_fits_not (v ∷ vs) (suc p) rows i is h f = word_fits_not vs p rows i is (omega arith) f
@@ -264,8 +264,8 @@ word_stands_not (v ∷ vs) (suc p) places rest n i h e = word_stands_not vs p pl
 pub no_place : (q : ℕ) → (suc q == 0) ≡ false
 no_place q = ne_eqb (suc q) 0 (λ e. omega arith)
 
-fits_span : (lines : List Line) (b : Bool) (c p low high : ℕ) (i : Instr) (is : List Instr) → low ≡ c + p → high ≡ low + suc (length is) → Fits true (i ∷ is) (drop p (rows_from b lines)) → Span c p low high lines (i ∷ is)
-fits_span [] b c p low high i is e g f = absurd (subst (λ (rs : List Row). Fits true (i ∷ is) rs) (drop_none p) f)
+fits_span : (lines : List ListingLine) (b : Bool) (c p low high : ℕ) (i : Instr) (is : List Instr) → low ≡ c + p → high ≡ low + suc (length is) → Fits true (i ∷ is) (drop p (rows_from b lines)) → Span c p low high lines (i ∷ is)
+fits_span [] b c p low high i is e g f = absurd (subst (λ (rs : List WindowPlace). Fits true (i ∷ is) rs) (drop_none p) f)
 fits_span (l ∷ ls) b c p low high i is e g f =
     let t = by (λ a k q h. fits_span ls a (c + k) q low high i is h g) l.names l.statement p e f in
     record { stands = t.stands; letters = t.letters; free = t.free; joined = t.joined }
@@ -294,7 +294,7 @@ fits_span (l ∷ ls) b c p low high i is e g f =
           | inr ge ↦
               let rows = rows_from (b && is_unlabelled names) ls in
               let past : drop q (map word_row vs ++ rows) ≡ drop (q - length vs) rows = drop_past (map word_row vs) rows q (omega (arith, map_length word_row vs)) ∙ ap (λ n. drop (q - n) rows) (map_length word_row vs) in
-              let t = rec (b && is_unlabelled names) (length vs) (q - length vs) (omega arith) (subst (λ (rs : List Row). Fits true (i ∷ is) rs) past f) in
+              let t = rec (b && is_unlabelled names) (length vs) (q - length vs) (omega arith) (subst (λ (rs : List WindowPlace). Fits true (i ∷ is) rs) past f) in
               let places : drop q (map Word vs ++ places_of ls) ≡ drop (q - length vs) (places_of ls) = drop_past (map Word vs) (places_of ls) q (omega (arith, map_length Word vs)) ∙ ap (λ n. drop (q - n) (places_of ls)) (map_length Word vs) in
               record {
                 stands = ap (take (suc (length is))) places ∙ t.stands;
@@ -303,7 +303,7 @@ fits_span (l ∷ ls) b c p low high i is e g f =
                 joined = ap (λ n. are_joined_from (q - n) (suc (length is)) ls) (map_length Word vs) ∙ t.joined;
               }
         ]
-    by rec names (Runs j m) zero h f =
+    by rec names (Instruction j m) zero h f =
         let t = fits_tail ls (c + 1) high is (omega arith) f.2 in
         let w = letter_is i j m f.1 in
         record {
@@ -312,7 +312,7 @@ fits_span (l ∷ ls) b c p low high i is e g f =
           free = clear_append low high (labels_at c names) (labels_from (c + 1) ls) (below names 0 h) (clear_from low high (labels_from (c + 1) ls) t.free);
           joined = ap (λ n. are_joined n ls) (let z : suc (length is) - 1 ≡ length is = omega arith in z) ∙ t.joined;
         }
-    by rec names (Runs j m) (suc q) h f =
+    by rec names (Instruction j m) (suc q) h f =
         let t = rec true 1 q (omega arith) f in
         record {
           stands = t.stands;
@@ -321,7 +321,7 @@ fits_span (l ∷ ls) b c p low high i is e g f =
           joined = rw (no_place q) (ap (λ n. are_joined_from n (suc (length is)) ls) (let z : suc q - 1 ≡ q = omega arith in z) ∙ t.joined);
         }
 
-span_fits : (lines : List Line) (b : Bool) (c p low high : ℕ) (i : Instr) (is : List Instr) → low ≡ c + p → high ≡ low + suc (length is) → Span c p low high lines (i ∷ is) → Fits true (i ∷ is) (drop p (rows_from b lines))
+span_fits : (lines : List ListingLine) (b : Bool) (c p low high : ℕ) (i : Instr) (is : List Instr) → low ≡ c + p → high ≡ low + suc (length is) → Span c p low high lines (i ∷ is) → Fits true (i ∷ is) (drop p (rows_from b lines))
 span_fits [] b c p low high i is e g t = absurd (let s : take (suc (length is)) [] ≡ plain i ∷ map plain is = ap (take (suc (length is))) (sym (drop_none p)) ∙ t.stands in cc)
 span_fits (l ∷ ls) b c p low high i is e g t =
     by (λ a k q h. span_fits ls a (c + k) q low high i is h g) l.names l.statement p e (record { stands = t.stands; letters = t.letters; free = t.free; joined = t.joined })
@@ -348,14 +348,14 @@ span_fits (l ∷ ls) b c p low high i is e g t =
               let rows = rows_from (b && is_unlabelled names) ls in
               let past : drop q (map word_row vs ++ rows) ≡ drop (q - length vs) rows = drop_past (map word_row vs) rows q (omega (arith, map_length word_row vs)) ∙ ap (λ n. drop (q - n) rows) (map_length word_row vs) in
               let places : drop q (map Word vs ++ places_of ls) ≡ drop (q - length vs) (places_of ls) = drop_past (map Word vs) (places_of ls) q (omega (arith, map_length Word vs)) ∙ ap (λ n. drop (q - n) (places_of ls)) (map_length Word vs) in
-              subst (λ (rs : List Row). Fits true (i ∷ is) rs) (sym past) (rec (b && is_unlabelled names) (length vs) (q - length vs) (omega arith) (record {
+              subst (λ (rs : List WindowPlace). Fits true (i ∷ is) rs) (sym past) (rec (b && is_unlabelled names) (length vs) (q - length vs) (omega arith) (record {
                 stands = ap (take (suc (length is))) (sym places) ∙ t.stands;
                 letters = t.letters;
                 free = subst (λ n. AreClear low high (labels_from (c + n) ls)) (map_length Word vs) (clear_parts low high (labels_at c names) (labels_from (c + length (map Word vs)) ls) t.free).1;
                 joined = ap (λ n. are_joined_from (q - n) (suc (length is)) ls) (sym (map_length Word vs)) ∙ t.joined;
               }))
         ]
-    by rec names (Runs j m) zero h t =
+    by rec names (Instruction j m) zero h t =
         let s = head_of (Op j m) (plain i) (take (length is) (places_of ls)) (map plain is) t.stands in
         let w = and_parts (is_in_window i) (list_all is_in_window is) t.letters in
         let clear = (clear_parts low high (labels_at c names) (labels_from (c + 1) ls) t.free).1 in (
@@ -368,7 +368,7 @@ span_fits (l ∷ ls) b c p low high i is e g t =
             joined = ap (λ n. are_joined n ls) (let z : length is ≡ suc (length is) - 1 = omega arith in z) ∙ t.joined;
           }),
         )
-    by rec names (Runs j m) (suc q) h t =
+    by rec names (Instruction j m) (suc q) h t =
         let joined : are_joined_from (suc q - 1) (suc (length is)) ls ≡ true = rw (no_place q) at t.joined in
         rec true 1 q (omega arith) (record {
           stands = t.stands;
@@ -379,13 +379,13 @@ span_fits (l ∷ ls) b c p low high i is e g t =
 
 -- ---- windows ----
 
-pub fits_window : (lines : List Line) (p : ℕ) (w : List Instr) → 1 ≤ length w → Fits true w (drop p (rows_from false lines)) → IsWindow lines p w
+pub fits_window : (lines : List ListingLine) (p : ℕ) (w : List Instr) → 1 ≤ length w → Fits true w (drop p (rows_from false lines)) → IsWindow lines p w
 fits_window lines p [] h f = absurd (omega arith)
 fits_window lines p (i ∷ is) h f =
     let t = fits_span lines false 0 p p (p + suc (length is)) i is (omega arith) refl f in
     record { stands = t.stands; letters = t.letters; unlabelled = clear_all p (p + suc (length is)) (labels_from 0 lines) t.free; joined = t.joined }
 
-pub window_fits : (lines : List Line) (p : ℕ) (w : List Instr) → 1 ≤ length w → IsWindow lines p w → Fits true w (drop p (rows_from false lines))
+pub window_fits : (lines : List ListingLine) (p : ℕ) (w : List Instr) → 1 ≤ length w → IsWindow lines p w → Fits true w (drop p (rows_from false lines))
 window_fits lines p [] h f = absurd (omega arith)
 window_fits lines p (i ∷ is) h f =
     span_fits lines false 0 p p (p + suc (length is)) i is (omega arith) refl (record {
@@ -396,10 +396,10 @@ window_fits lines p (i ∷ is) h f =
     })
 
 -- each front of the run from a place is a window, and each window of at most so many instructions is a front of it
-pub run_window : (lines : List Line) (p most n : ℕ) → 1 ≤ length (take n (run true most (drop p (rows_from false lines)))) → IsWindow lines p (take n (run true most (drop p (rows_from false lines))))
+pub run_window : (lines : List ListingLine) (p most n : ℕ) → 1 ≤ length (take n (run true most (drop p (rows_from false lines)))) → IsWindow lines p (take n (run true most (drop p (rows_from false lines))))
 run_window lines p most n h = fits_window lines p (take n (run true most (drop p (rows_from false lines)))) h (run_fits true most n (drop p (rows_from false lines)))
 
-pub window_in_run : (lines : List Line) (p most : ℕ) (w : List Instr) → 1 ≤ length w → length w ≤ most → IsWindow lines p w → length w ≤ length (run true most (drop p (rows_from false lines)))
+pub window_in_run : (lines : List ListingLine) (p most : ℕ) (w : List Instr) → 1 ≤ length w → length w ≤ most → IsWindow lines p w → length w ≤ length (run true most (drop p (rows_from false lines)))
 window_in_run lines p most w h k f =
     let rows = drop p (rows_from false lines) in
     let same : take (length w) (run true most rows) ≡ w = fits_run true most w rows k (window_fits lines p w h f) in

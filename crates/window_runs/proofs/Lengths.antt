@@ -1,14 +1,14 @@
 -- How long rows and runs are.
 use Rattle.std.proofs.Common.{◌≡◌, ℕ, zero, suc, ◌+◌, ◌-◌, ◌<◌, ◌≤◌, ◌&&◌, Bool, true, false, List, [], ◌∷◌, length, drop, Option, Some, None, refl, sym, ap, ◌∙◌, arith, length-append}
 use Rattle.thumb_instr.specs.declared.instr.Instr.{Instr}
-use Rattle.thumb_model.specs.Listing.{Statement, Nothing, Runs, Words, Aligns, Sets, Line, Word, places_in, places_of}
-use Rattle.window_runs.specs.declared.rows.Row.{Row}
+use Rattle.thumb_model.specs.Listing.{Statement, Nothing, Instruction, Words, Aligns, Sets, ListingLine, Word, places_in, places_of}
+use Rattle.window_runs.specs.declared.rows.WindowPlace.{WindowPlace}
 use Rattle.window_runs.specs.Rows.{is_unlabelled, rows_of, stays_joined, rows_from}
 use Rattle.window_runs.specs.Runs.{letter_at, before, run}
 use Rattle.thumb_model.proofs.Lists.{length_drop as length-drop, length_map as map_length}
 
 -- a run is no longer than the rows
-run_less : (begins : Bool) (n : ℕ) (rows : List Row) → length (run begins n rows) ≤ length rows
+run_less : (begins : Bool) (n : ℕ) (rows : List WindowPlace) → length (run begins n rows) ≤ length rows
 run_less begins zero rows = omega arith
 run_less begins (suc n) [] = omega arith
 run_less begins (suc n) (r ∷ rs) = go (letter_at begins (r ∷ rs)) (run_less false n rs)
@@ -18,7 +18,7 @@ run_less begins (suc n) (r ∷ rs) = go (letter_at begins (r ∷ rs)) (run_less 
     go (Some i) h = omega arith
 
 -- nor longer than asked for
-pub run_short : (begins : Bool) (n : ℕ) (rows : List Row) → length (run begins n rows) ≤ n
+pub run_short : (begins : Bool) (n : ℕ) (rows : List WindowPlace) → length (run begins n rows) ≤ n
 run_short begins zero rows = omega arith
 run_short begins (suc n) [] = omega arith
 run_short begins (suc n) (r ∷ rs) = go (letter_at begins (r ∷ rs)) (run_short false n rs)
@@ -27,18 +27,18 @@ run_short begins (suc n) (r ∷ rs) = go (letter_at begins (r ∷ rs)) (run_shor
     go None h = omega arith
     go (Some i) h = omega arith
 
-pub run_within : (most place last : ℕ) (rows : List Row) (is : List Instr) → is ≡ run true most (drop place rows) → place < length rows → last < length is → place + last < length rows
+pub run_within : (most place last : ℕ) (rows : List WindowPlace) (is : List Instr) → is ≡ run true most (drop place rows) → place < length rows → last < length is → place + last < length rows
 run_within most place last rows is e h k = omega (arith, ap (λ (l : List Instr). length l) e, run_less true most (drop place rows), length-drop place rows)
 
 -- a row for each place
 statement_length : (b : Bool) (s : Statement) → length (rows_of b s) ≡ length (places_in s)
 statement_length b Nothing = refl
-statement_length b (Runs i m) = refl
+statement_length b (Instruction i m) = refl
 statement_length b (Words vs) = map_length _ vs ∙ sym (map_length Word vs)
 statement_length b (Aligns size most) = refl
 statement_length b (Sets name address) = refl
 
-pub rows_length : (b : Bool) (lines : List Line) → length (rows_from b lines) ≡ length (places_of lines)
+pub rows_length : (b : Bool) (lines : List ListingLine) → length (rows_from b lines) ≡ length (places_of lines)
 rows_length b [] = refl
 rows_length b (l ∷ ls) =
     omega (

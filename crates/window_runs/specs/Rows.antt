@@ -2,8 +2,8 @@
 use Rattle.std.specs.Prelude.{◌&&◌, Bool, true, false, List, [], ◌∷◌, ◌++◌, map, Option, Some, None, if◌then◌else◌}
 use Rattle.thumb_instr.specs.declared.instr.Instr.{Instr}
 use Rattle.thumb_instr.specs.Window.{is_in_window}
-use Rattle.thumb_model.specs.Listing.{Name, Mention, Statement, Nothing, Runs, Words, Aligns, Sets, Line}
-use Rattle.window_runs.specs.declared.rows.Row.{Row}
+use Rattle.thumb_model.specs.Listing.{Name, Mention, Statement, Nothing, Instruction, Words, Aligns, Sets, ListingLine}
+use Rattle.window_runs.specs.declared.rows.WindowPlace.{WindowPlace}
 
 abbrev pub is_unlabelled : List Name → Bool
 is_unlabelled [] = true
@@ -15,9 +15,9 @@ letter_of i None = if is_in_window i then Some i else None
 letter_of i (Some m) = None
 
 -- of each place, its letter, and whether neither a label nor an alignment line stands between it and the place before
-abbrev pub rows_of : Bool → Statement → List Row
+abbrev pub rows_of : Bool → Statement → List WindowPlace
 rows_of joined Nothing = []
-rows_of joined (Runs i m) = record { letter = letter_of i m; is_joined = joined } ∷ []
+rows_of joined (Instruction i m) = record { letter = letter_of i m; is_joined = joined } ∷ []
 rows_of joined (Words vs) = map (λ v. record { letter = None; is_joined = false }) vs
 rows_of joined (Aligns size most) = []
 rows_of joined (Sets name address) = []
@@ -25,12 +25,12 @@ rows_of joined (Sets name address) = []
 -- whether the place behind the statement is joined to what stands before it, where no label stands between
 abbrev pub stays_joined : Bool → Statement → Bool
 stays_joined joined Nothing = joined
-stays_joined joined (Runs i m) = true
+stays_joined joined (Instruction i m) = true
 stays_joined joined (Words vs) = joined
 stays_joined joined (Aligns size most) = false
 stays_joined joined (Sets name address) = joined
 
-abbrev pub rows_from : Bool → List Line → List Row
+abbrev pub rows_from : Bool → List ListingLine → List WindowPlace
 rows_from joined [] = []
 rows_from joined (l ∷ ls) =
     rows_of (joined && is_unlabelled l.names) l.statement ++ rows_from (stays_joined (joined && is_unlabelled l.names) l.statement) ls

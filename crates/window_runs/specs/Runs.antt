@@ -1,10 +1,10 @@
 -- Runs of instructions that may stand in a window.
 use Rattle.std.specs.Prelude.{ℕ, zero, suc, ◌||◌, Bool, false, List, [], ◌∷◌, Option, Some, None, if◌then◌else◌}
 use Rattle.thumb_instr.specs.declared.instr.Instr.{Instr}
-use Rattle.window_runs.specs.declared.rows.Row.{Row}
+use Rattle.window_runs.specs.declared.rows.WindowPlace.{WindowPlace}
 
 -- the letter of the first row, where a run begins there or it is joined to the row before
-abbrev pub letter_at : Bool → List Row → Option Instr
+abbrev pub letter_at : Bool → List WindowPlace → Option Instr
 letter_at begins [] = None
 letter_at begins (r ∷ rs) = if begins || r.is_joined then r.letter else None
 
@@ -13,7 +13,7 @@ before None is = []
 before (Some i) is = i ∷ is
 
 -- the letters of rows, each joined to the one before, up to the first row that has none, and at most so many
-abbrev pub run : Bool → ℕ → List Row → List Instr
+abbrev pub run : Bool → ℕ → List WindowPlace → List Instr
 run begins zero rows = []
 run begins (suc n) [] = []
 run begins (suc n) (r ∷ rs) = before (letter_at begins (r ∷ rs)) (run false n rs)

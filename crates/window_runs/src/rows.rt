@@ -4,13 +4,13 @@ ghost use Rattle.thumb_model.specs.Listing.{Words};
 ghost use Rattle.listing_parser.specs.Views.{line_view, mention_view, statement_view, value_view};
 ghost use Rattle.window_runs.specs.Rows.{is_unlabelled, letter_of, rows_from, rows_of, stays_joined};
 
-use listing_parser::{Line, Mention, Statement, Value};
+use listing_parser::{ListingLine, Mention, Statement, Value};
 use std::alloc::{AllocError, Global};
 use thumb_instr::{Instr, in_window};
 
 /// A place as windows see it.
 #[derive(Clone, Copy)]
-pub struct Row {
+pub struct WindowPlace {
     /// The instruction that stands there, where it may stand in a window.
     pub letter: Option<Instr>,
     /// Whether neither a label nor an alignment line stands between it and the place before.
@@ -18,7 +18,7 @@ pub struct Row {
 }
 
 /// The places of lines.
-pub fn rows(alloc: Global, lines: &[Line]) -> Result<Vec<Row>, AllocError>
+pub fn rows(alloc: Global, lines: &[ListingLine]) -> Result<Vec<WindowPlace>, AllocError>
     ensures { IfOk result (λ rows. rows.items ≡ rows_from false (map line_view lines.now)) }
 {
     let mut rows = Vec::with_capacity(alloc, lines.len())?;
@@ -30,7 +30,11 @@ pub fn rows(alloc: Global, lines: &[Line]) -> Result<Vec<Row>, AllocError>
 }
 
 /// Adds the places of a line. Whether what follows the line is joined to what stands before.
-fn add_line(rows: &mut Vec<Row>, line: &Line, joined: bool) -> Result<bool, AllocError>
+fn add_line(
+    rows: &mut Vec<WindowPlace>,
+    line: &ListingLine,
+    joined: bool,
+) -> Result<bool, AllocError>
     ensures rows { OnOk result (rows.new.items ≡ rows.old.items ++ rows_of (joined && is_unlabelled (line_view line.now).names) (line_view line.now).statement) }
     ensures joined { IfOk result (λ j. j ≡ stays_joined (joined && is_unlabelled (line_view line.now).names) (line_view line.now).statement) }
 {
@@ -40,13 +44,17 @@ fn add_line(rows: &mut Vec<Row>, line: &Line, joined: bool) -> Result<bool, Allo
 }
 
 /// Adds the places of a statement.
-fn add_places(rows: &mut Vec<Row>, statement: &Statement, is_joined: bool) -> Result<(), AllocError>
+fn add_places(
+    rows: &mut Vec<WindowPlace>,
+    statement: &Statement,
+    is_joined: bool,
+) -> Result<(), AllocError>
     ensures { OnOk result (rows.new.items ≡ rows.old.items ++ rows_of is_joined (statement_view statement.now)) }
 {
     match statement {
-        Statement::Runs { instr, mention } => {
+        Statement::Instruction { instr, mention } => {
             let letter = letter(instr, mention.as_ref());
-            rows.push(Row { letter, is_joined })?;
+            rows.push(WindowPlace { letter, is_joined })?;
             Ok(())
         }
         Statement::Words(values) => add_words(rows, values),
@@ -55,11 +63,11 @@ fn add_places(rows: &mut Vec<Row>, statement: &Statement, is_joined: bool) -> Re
 }
 
 /// Adds data words.
-fn add_words(rows: &mut Vec<Row>, values: &[Value]) -> Result<(), AllocError>
+fn add_words(rows: &mut Vec<WindowPlace>, values: &[Value]) -> Result<(), AllocError>
     ensures { OnOk result (rows.new.items ≡ rows.old.items ++ rows_of false (Words (map value_view values.now))) }
 {
     for _ in values {
-        rows.push(Row {
+        rows.push(WindowPlace {
             letter: None,
             is_joined: false,
         })?;
@@ -72,7 +80,7 @@ fn stays_joined(statement: &Statement, joined: bool) -> bool
     ensures { result ≡ stays_joined joined (statement_view statement.now) }
 {
     match statement {
-        Statement::Runs { .. } => true,
+        Statement::Instruction { .. } => true,
         Statement::Aligns { .. } => false,
         _ => joined,
     }

@@ -2,11 +2,11 @@
 ghost use Rattle.std.specs.Prelude.{◌≡◌, ◌≤◌, ◌<◌, ◌^◌, drop, true};
 ghost use Rattle.window_runs.specs.Runs.{letter_at, run};
 
-use crate::rows::Row;
+use crate::rows::WindowPlace;
 use thumb_instr::{Instr, Seq};
 
 /// The instruction of a place that a run goes on with, or begins with.
-fn letter_at(rows: &[Row], at: usize, begins: bool) -> Option<Instr>
+fn letter_at(rows: &[WindowPlace], at: usize, begins: bool) -> Option<Instr>
     ensures { result ≡ letter_at begins (drop at rows.now) }
 {
     match rows.get(at) {
@@ -23,7 +23,7 @@ fn letter_at(rows: &[Row], at: usize, begins: bool) -> Option<Instr>
 
 /// The instructions that stand one behind the other from a place on and may stand in a window, with no label and no alignment line between them:
 /// as many as there are, and at most so many.
-pub fn run(rows: &[Row], place: usize, most: usize) -> Seq
+pub fn run(rows: &[WindowPlace], place: usize, most: usize) -> Seq
     requires place { place < 2 ^ 32 }
     requires most { most ≤ 5 }
     ensures { result ≡ run true most (drop place rows.now) }

@@ -4,7 +4,7 @@ use Rattle.rule_model.proofs.LinesKept.{still_layable}
 use Rattle.label_layout.specs.Refusals.{fault_of, first_fault}
 use Rattle.rule_table.specs.Views.{table_of}
 use Rattle.table_audit.proofs.Sound.{accepted_sound}
-use Rattle.window_rewrite.specs.Rewriting.{replacement_of, setting}
+use Rattle.window_rewrite.specs.TableRewriting.{replacement_of, setting}
 use Rattle.audit_cli.specs.Demo.{demo_text}
 use Rattle.audit_cli.specs.Rewrite.{instruction_count}
 use Rattle.audit_cli.proofs.WellFormed.{still_reads}

@@ -5,7 +5,7 @@ use Rattle.rule_model.proofs.LinesKept.{still_layable}
 use Rattle.label_layout.specs.Refusals.{fault_of, first_fault}
 use Rattle.listing_parser.specs.Parsing.{text_of_lines}
 use Rattle.rule_table.specs.Views.{table_of}
-use Rattle.window_rewrite.specs.Rewriting.{replacement_of, setting}
+use Rattle.window_rewrite.specs.TableRewriting.{replacement_of, setting}
 use Rattle.command_runs.specs.Outcomes.{outcome_view}
 use Rattle.audit_cli.specs.Commands.{destination_of}
 use Rattle.audit_cli.specs.Rewrite.{LinesRewrite, instruction_count, unlaid, rewritten}

@@ -6,7 +6,7 @@ use Rattle.thumb_machine.specs.Naming.{naming_of}
 use Rattle.thumb_machine.specs.Outside.{answers_of, events_of}
 use Rattle.thumb_machine.specs.Running.{state_of}
 use Rattle.thumb_machine.specs.Laid.{IsLaid}
-use Rattle.audit_cli.specs.Commands.{journey_of}
+use Rattle.audit_cli.specs.Commands.{trace_arguments_of}
 use Rattle.command_runs.specs.Plans.{Outcome}
 use Rattle.audit_cli.specs.Trace.{event_lines, steps_line, LinesTrace}
 use Rattle.audit_cli.proofs.TraceLemmas.{begins, runs}
@@ -20,8 +20,8 @@ returns c =
     let start = begins c.args.listing.now c.args.trace.now.label.now c.args.place c.state-state.result c.in_ok-machine.machine c.new-answers.result c.requires.label
     c.state-state.ensures.values c.state-state.ensures.bytes c.state-state.ensures.place c.in_ok-machine.ensures.start
     (ap (λ (l : List Answer). answers_of l) c.new-answers.ensures ∙ c.in_ok-list.ensures) in
-    subst (λ (o : Outcome). LinesTrace (journey_of c.args.trace.now) c.args.listing.now o) (sym c.prints-outcome.ensures)
-    (runs (journey_of c.args.trace.now) c.args.listing.now c.args.place names (state_of c.in_ok-machine.machine c.new-answers.result) c.in_ok-taken.taken c.in_ok-taken.stage
+    subst (λ (o : Outcome). LinesTrace (trace_arguments_of c.args.trace.now) c.args.listing.now o) (sym c.prints-outcome.ensures)
+    (runs (trace_arguments_of c.args.trace.now) c.args.listing.now c.args.place names (state_of c.in_ok-machine.machine c.new-answers.result) c.in_ok-taken.taken c.in_ok-taken.stage
     (events_of c.run.new.machine.world.events.items) c.in_ok-lines.lines.items c.requires.layable c.requires.label laid start
     (c.in_ok-taken.ensures.run names code c.in_ok-machine.ensures.program) (c.in_ok-taken.ensures.events names code c.in_ok-machine.ensures.program)
     (c.in_ok-lines.ensures ∙ ap (λ (es : List Event). event_lines (events_of es) ++ steps_line c.in_ok-taken.taken c.in_ok-taken.stage) c.events.ensures))

@@ -1,7 +1,7 @@
 use Rattle.std.proofs.Common.{◌≡◌, ◌∙◌, ◌+◌, ◌<◌, ◌++◌, List, drop, length, map, take, ap, arith}
 use Rattle.std.proofs.lemmas.List.{length-map}
 use Rattle.listing_parser.specs.Views.{line_view}
-use Rattle.listing_parser.specs.declared.line.Line.{Line as Lines}
+use Rattle.listing_parser.specs.declared.line.ListingLine.{ListingLine as Lines}
 use Rattle.edited_listing.proofs.Progress.{in_its_place, swapped}
 use Rattle.edited_listing.proofs.in_place.move_down.Goals as goal
 

@@ -2,14 +2,14 @@ use Rattle.std.proofs.Common.{◌≡◌, ◌∙◌, ℕ, suc, ◌+◌, List, ◌
 use Rattle.std.specs.Prelude.{if◌then◌else◌}
 use Rattle.std.proofs.lemmas.Grind.{common_steps}
 use Rattle.std.proofs.lemmas.List.{drop_more, length-replicate}
-use Rattle.thumb_model.specs.Listing.{Line, places_in}
+use Rattle.thumb_model.specs.Listing.{ListingLine, places_in}
 use Rattle.listing_parser.specs.Views.{line_view}
 use Rattle.edited_listing.specs.Counting.{some_name}
 use Rattle.edited_listing.specs.Known.{last_labels}
 use Rattle.edited_listing.proofs.labels.labels_of.Goals as goal
 
 -- one line more
-lasts_more : (done new : List ℕ) (last now n : ℕ) (l : Line) (ls : List Line) → new ≡ done ++ replicate n now → now ≡ (if some_name l.names then suc (length done) else last) → n ≡ length (places_in l.statement) → new ++ last_labels (length new) now ls ≡ done ++ last_labels (length done) last (l ∷ ls)
+lasts_more : (done new : List ℕ) (last now n : ℕ) (l : ListingLine) (ls : List ListingLine) → new ≡ done ++ replicate n now → now ≡ (if some_name l.names then suc (length done) else last) → n ≡ length (places_in l.statement) → new ++ last_labels (length new) now ls ≡ done ++ last_labels (length done) last (l ∷ ls)
 lasts_more done new last now n l ls e m k =
     let long : length new ≡ length done + n = ap (λ (xs : List ℕ). length xs) e ∙ length-append done (replicate n now) ∙ ap (λ x. length done + x) (length-replicate n now) in
     ap (λ xs. xs ++ last_labels (length new) now ls) e ∙ append_assoc done (replicate n now) (last_labels (length new) now ls)

@@ -1,4 +1,4 @@
-use Rattle.edited_listing.proofs.Printed.{lines_give_way}
+use Rattle.edited_listing.proofs.Emitted.{lines_give_way}
 use Rattle.edited_listing.proofs.laws.lines_give_way.Goals as goal
 
 pub returns : goal.returns

@@ -5,14 +5,14 @@ use Rattle.thumb_model.specs.Listing.{places_of}
 use Rattle.thumb_model.specs.Layout.{aim_fault, lies_in}
 use Rattle.label_layout.specs.Addresses.{addresses_from}
 use Rattle.label_layout.specs.Refusals.{fault_of}
-use Rattle.label_layout.specs.declared.errors.Kind.{Kind}
+use Rattle.label_layout.specs.declared.errors.LayoutFault.{LayoutFault}
 use Rattle.label_layout.proofs.Sums.{places_counted}
 use Rattle.listing_parser.specs.Parsing.{line_mentioning}
 use Rattle.listing_parser.specs.Views.{place_view}
 use Rattle.flow_tidy.proofs.Aims.{aims_within}
 use Rattle.flow_tidy.proofs.changing.reaches.Goals as goal
 
-none_is : (o : Option Kind) (b : Bool) → is_some o ≡ not b → (b ≡ true) ↔ (option_map fault_of o ≡ None)
+none_is : (o : Option LayoutFault) (b : Bool) → is_some o ≡ not b → (b ≡ true) ↔ (option_map fault_of o ≡ None)
 none_is None true e = (λ t. refl, λ t. refl)
 none_is None false e = absurd (cc)
 none_is (Some k) true e = absurd (cc)

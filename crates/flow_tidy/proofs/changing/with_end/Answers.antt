@@ -1,5 +1,5 @@
 use Rattle.std.proofs.Common.{List, sym, ap, subst}
-use Rattle.thumb_model.specs.Listing.{Line, code_of, is_op_place}
+use Rattle.thumb_model.specs.Listing.{ListingLine, code_of, is_op_place}
 use Rattle.flow_tidy.specs.Tidying.{ToEnd, setting}
 use Rattle.flow_tidy.specs.Made.{IsWithin}
 use Rattle.listing_parser.specs.Grammar.{longest_line, most_lines}
@@ -27,4 +27,4 @@ returns c =
     let s = setting c.args.laid.now.base in
     let end = end_is_found (code_of c.args.listing.now) c.args.place c.in-Some.label.now c.in-Some-chain_end.end.now (sym c.in-Some.ensures) c.in-Some-chain_end.ensures in
     made_within s c.args.place (ToEnd c.in-Some-chain_end.end.now) c.args.listing.now c.within_limits.result end (c.reaches.ensures.0 c.if-not-reaches.false)
-    (subst (λ (ls : List Line). IsWithin most_lines longest_line ls c.within_limits.result) c.in_ok-new.ensures c.within_limits.ensures)
+    (subst (λ (ls : List ListingLine). IsWithin most_lines longest_line ls c.within_limits.result) c.in_ok-new.ensures c.within_limits.ensures)

@@ -25,7 +25,7 @@ change_idle-requires-clause-refused c =
     let d = c.args.draft.now in
     let none : c.target.result ≡ None = search rules in
     let nowhere : goes (code_of (lines_now d)) (rank d.gone c.args.place) ≡ None = sym c.target.ensures.place ∙ ap (option_map (rank d.gone)) none in
-    subst (λ (x : Drafted). (label : Name) → IsPossible (setting c.args.ground.now.base) (change (rank x.gone c.args.place) (ToEnd label)) (lines_now x) → ⊥) (sym c.target.ensures.same)
+    subst (λ (x : Drafted). (label : Name) → IsPossible (setting c.args.widest.now.base) (change (rank x.gone c.args.place) (ToEnd label)) (lines_now x) → ⊥) (sym c.target.ensures.same)
     (λ label p. nowhere_ends (code_of (lines_now d)) (rank d.gone c.args.place) nowhere (record { label = label; goes = p.cause }))
 
 pub change_idle-requires-clause-end : goal.change_idle-requires-clause-end
@@ -43,7 +43,7 @@ returns-then-is_next-clause-outcome c =
     let same = c.is_next.ensures.same ∙ c.target.ensures.same in
     let next = subst (λ (x : Drafted). GoesToNext (code_of (lines_now x)) (rank x.gone c.args.place)) c.target.ensures.same (c.is_next.ensures.next.0 c.if-is_next.true) in
     let here : IsLeft c.is_next.new.draft e c.args.place c.remove.new.due = record { given = r.given; aims = r.aims; gone = r.gone; lines = r.lines; many = r.many; due = r.due } in
-    next_left c.args.ground.now.base d e c.args.place c.remove.new.due next (left_same d c.is_next.new.draft e c.args.place c.remove.new.due same here)
+    next_left c.args.widest.now.base d e c.args.place c.remove.new.due next (left_same d c.is_next.new.draft e c.args.place c.remove.new.due same here)
 
 pub returns-then-is_next-clause-quick : goal.returns-then-is_next-clause-quick
 returns-then-is_next-clause-quick c =
@@ -64,7 +64,7 @@ returns-then-is_next-clause-safe c =
     let same = c.is_next.ensures.same ∙ c.target.ensures.same in
     let next = subst (λ (x : Drafted). GoesToNext (code_of (lines_now x)) (rank x.gone c.args.place)) c.target.ensures.same (c.is_next.ensures.next.0 c.if-is_next.true) in
     let here : IsLeft c.is_next.new.draft e c.args.place c.remove.new.due = record { given = r.given; aims = r.aims; gone = r.gone; lines = r.lines; many = r.many; due = r.due } in
-    safe_left c.args.ground.now d e c.args.place c.remove.new.due c.requires.within c.requires.kept (inl next) c.requires.safe
+    safe_left c.args.widest.now d e c.args.place c.remove.new.due c.requires.within c.requires.kept (inl next) c.requires.safe
     (left_same d c.is_next.new.draft e c.args.place c.remove.new.due same here)
 
 pub returns-then-is_next-clause-ends : goal.returns-then-is_next-clause-ends

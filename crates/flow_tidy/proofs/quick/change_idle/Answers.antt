@@ -14,7 +14,7 @@ returns-then-is_idle-clause-outcome c =
     let e = c.remove.new.draft in
     let r = c.remove.ensures in
     let here : IsLeft d e c.args.place c.remove.new.due = record { given = r.given; aims = r.aims; gone = r.gone; lines = r.lines; many = r.many; due = r.due } in
-    idle_left c.args.ground.now.base d e c.args.place c.remove.new.due c.requires.later c.requires.refused (c.is_idle.ensures.0 c.if-is_idle.true) here
+    idle_left c.args.widest.now.base d e c.args.place c.remove.new.due c.requires.later c.requires.refused (c.is_idle.ensures.0 c.if-is_idle.true) here
 
 pub returns-then-is_idle-clause-quick : goal.returns-then-is_idle-clause-quick
 returns-then-is_idle-clause-quick c =
@@ -30,7 +30,7 @@ returns-then-is_idle-clause-safe c =
     let e = c.remove.new.draft in
     let r = c.remove.ensures in
     let here : IsLeft d e c.args.place c.remove.new.due = record { given = r.given; aims = r.aims; gone = r.gone; lines = r.lines; many = r.many; due = r.due } in
-    safe_left c.args.ground.now d e c.args.place c.remove.new.due c.requires.within c.requires.kept (inr (c.is_idle.ensures.0 c.if-is_idle.true)) c.requires.safe here
+    safe_left c.args.widest.now d e c.args.place c.remove.new.due c.requires.within c.requires.kept (inr (c.is_idle.ensures.0 c.if-is_idle.true)) c.requires.safe here
 
 pub returns-then-not-is_refused-clause-quick : goal.returns-then-not-is_refused-clause-quick
 returns-then-not-is_refused-clause-quick c =

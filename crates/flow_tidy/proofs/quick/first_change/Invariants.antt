@@ -9,9 +9,9 @@ abbrev pub invariant-loop-place : goal.invariant-loop-place
 invariant-loop-place l = record {
   same : l.draft ≡ l.fn.draft;
   quick : IsQuick l.draft l.reached l.due;
-  safe : IsSafe l.ground l.draft;
+  safe : IsSafe l.widest l.draft;
   ends : AreEnds l.draft l.ends;
-  none : NoneSooner l.ground.base l.draft.gone (lines_now l.draft) l.place;
+  none : NoneSooner l.widest.base l.draft.gone (lines_now l.draft) l.place;
 }
 
 abbrev pub decreases-loop-place : goal.decreases-loop-place

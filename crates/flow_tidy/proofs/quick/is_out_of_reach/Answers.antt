@@ -1,6 +1,6 @@
 use Rattle.std.proofs.Common.{◌≡◌, ◌∙◌, ℕ, List, ap, subst, sym}
 use Rattle.thumb_instr.specs.declared.instr.Instr.{Instr}
-use Rattle.thumb_model.specs.Listing.{places_of, labels_from, Line}
+use Rattle.thumb_model.specs.Listing.{places_of, labels_from, ListingLine}
 use Rattle.thumb_model.specs.Layout.{aim_fault}
 use Rattle.thumb_model.specs.Steps.{label_place}
 use Rattle.kept_places.specs.Marks.{rank}
@@ -19,9 +19,9 @@ returns-in-BranchIf c = λ t other.
     let d = c.args.draft.now in
     let name = c.in-Some-name.name.now in
     let label : ℕ = c.in-Some-label_place.label in
-    let leads = sym (c.in-Some-label_place.ensures ∙ ap (λ (ls : List Line). label_place name (labels_from 0 ls)) c.given.ensures) in
+    let leads = sym (c.in-Some-label_place.ensures ∙ ap (λ (ls : List ListingLine). label_place name (labels_from 0 ls)) c.given.ensures) in
     let far = beyond d c.args.place label 128 c.halves_before-from.result c.halves_before-to.result c.halves_before-from.ensures.halves c.halves_before-to.ensures.halves (c.is_beyond.ensures t) in
-    never_possible c.args.ground.now d c.args.place c.args.last label 128 c.in-Some.instr c.requires.safe c.requires.end name (sym c.in-Some-name.ensures) (sym c.in-Some.ensures) leads far
+    never_possible c.args.widest.now d c.args.place c.args.last label 128 c.in-Some.instr c.requires.safe c.requires.end name (sym c.in-Some-name.ensures) (sym c.in-Some.ensures) leads far
     (λ a to. ap (λ (i : Instr). aim_fault a i to 0) c.in-BranchIf.is) other
 
 pub returns-in-Branch : goal.returns-in-Branch
@@ -29,7 +29,7 @@ returns-in-Branch c = λ t other.
     let d = c.args.draft.now in
     let name = c.in-Some-name.name.now in
     let label : ℕ = c.in-Some-label_place.label in
-    let leads = sym (c.in-Some-label_place.ensures ∙ ap (λ (ls : List Line). label_place name (labels_from 0 ls)) c.given.ensures) in
+    let leads = sym (c.in-Some-label_place.ensures ∙ ap (λ (ls : List ListingLine). label_place name (labels_from 0 ls)) c.given.ensures) in
     let far = beyond d c.args.place label 1024 c.halves_before-from.result c.halves_before-to.result c.halves_before-from.ensures.halves c.halves_before-to.ensures.halves (c.is_beyond-in-Branch.ensures t) in
-    never_possible c.args.ground.now d c.args.place c.args.last label 1024 c.in-Some.instr c.requires.safe c.requires.end name (sym c.in-Some-name.ensures) (sym c.in-Some.ensures) leads far
+    never_possible c.args.widest.now d c.args.place c.args.last label 1024 c.in-Some.instr c.requires.safe c.requires.end name (sym c.in-Some-name.ensures) (sym c.in-Some.ensures) leads far
     (λ a to. ap (λ (i : Instr). aim_fault a i to 0) c.in-Branch.is) other

@@ -28,26 +28,26 @@ goes_there base d p last name h f = subst (GoesToEnd (code_of (lines_now d)) (ra
 pub returns-in-Some-clause-redirected : goal.returns-in-Some-clause-redirected
 returns-in-Some-clause-redirected c =
     let d = c.args.draft.now in
-    let is = found c.args.ground.now.base d c.args.place c.args.last c.in_ok-label.field-0 c.in-Some.label c.in-Some.is c.in_ok-label.ensures in
-    let there = goes_there c.args.ground.now.base d c.args.place c.args.last c.in-Some.label.items c.requires.end is in
-    soonest_end c.args.ground.now.base (lines_now d) (lines_now c.aim.new.self) (rank d.gone c.args.place) c.in-Some.label.items c.requires.later there c.aim.ensures.lines
+    let is = found c.args.widest.now.base d c.args.place c.args.last c.in_ok-label.field-0 c.in-Some.label c.in-Some.is c.in_ok-label.ensures in
+    let there = goes_there c.args.widest.now.base d c.args.place c.args.last c.in-Some.label.items c.requires.end is in
+    soonest_end c.args.widest.now.base (lines_now d) (lines_now c.aim.new.self) (rank d.gone c.args.place) c.in-Some.label.items c.requires.later there c.aim.ensures.lines
 
 pub returns-in-Some-clause-quick : goal.returns-in-Some-clause-quick
 returns-in-Some-clause-quick c = λ marks dues quick.
     let d = c.args.draft.now in
-    let is = found c.args.ground.now.base d c.args.place c.args.last c.in_ok-label.field-0 c.in-Some.label c.in-Some.is c.in_ok-label.ensures in
-    let there = goes_there c.args.ground.now.base d c.args.place c.args.last c.in-Some.label.items c.requires.end is in
+    let is = found c.args.widest.now.base d c.args.place c.args.last c.in_ok-label.field-0 c.in-Some.label c.in-Some.is c.in_ok-label.ensures in
+    let there = goes_there c.args.widest.now.base d c.args.place c.args.last c.in-Some.label.items c.requires.end is in
     quick_aimed d c.aim.new.self c.args.place c.in-Some.label.items marks dues there c.aim.ensures.gone c.aim.ensures.lines quick
 
 pub returns-in-Some-clause-safe : goal.returns-in-Some-clause-safe
 returns-in-Some-clause-safe c =
     let d = c.args.draft.now in
-    let is = found c.args.ground.now.base d c.args.place c.args.last c.in_ok-label.field-0 c.in-Some.label c.in-Some.is c.in_ok-label.ensures in
-    safe_aimed c.args.ground.now d c.aim.new.self c.args.place c.in-Some.label.items c.requires.within c.requires.kept is.1 c.aim.ensures.given c.aim.ensures.gone c.aim.ensures.aims c.aim.ensures.lines c.requires.safe
+    let is = found c.args.widest.now.base d c.args.place c.args.last c.in_ok-label.field-0 c.in-Some.label c.in-Some.is c.in_ok-label.ensures in
+    safe_aimed c.args.widest.now d c.aim.new.self c.args.place c.in-Some.label.items c.requires.within c.requires.kept is.1 c.aim.ensures.given c.aim.ensures.gone c.aim.ensures.aims c.aim.ensures.lines c.requires.safe
 
 pub returns-in-Some-clause-ends : goal.returns-in-Some-clause-ends
 returns-in-Some-clause-ends c = λ known ends.
     let d = c.args.draft.now in
-    let is = found c.args.ground.now.base d c.args.place c.args.last c.in_ok-label.field-0 c.in-Some.label c.in-Some.is c.in_ok-label.ensures in
-    let there = goes_there c.args.ground.now.base d c.args.place c.args.last c.in-Some.label.items c.requires.end is in
+    let is = found c.args.widest.now.base d c.args.place c.args.last c.in_ok-label.field-0 c.in-Some.label c.in-Some.is c.in_ok-label.ensures in
+    let there = goes_there c.args.widest.now.base d c.args.place c.args.last c.in-Some.label.items c.requires.end is in
     ends_stay d c.aim.new.self c.args.place c.in-Some.label.items known there c.aim.ensures.gone c.aim.ensures.lines ends

@@ -9,9 +9,9 @@ use Rattle.flow_tidy.proofs.tidying.tidied_by_places.Given as goal
 
 abbrev pub invariant-loop-ends : goal.invariant-loop-ends
 invariant-loop-ends l = record {
-  made : AreMadeBy (setting l.ground.base) l.fn.listing (lines_now l.draft) l.count;
+  made : AreMadeBy (setting l.widest.base) l.fn.listing (lines_now l.draft) l.count;
   room : l.count + room_of (lines_now l.draft) ≤ room_of l.fn.listing;
-  safe : IsSafe l.ground l.draft;
+  safe : IsSafe l.widest l.draft;
   quick : IsQuick l.draft l.reached l.due;
   ends : AreEnds l.draft l.ends;
 }

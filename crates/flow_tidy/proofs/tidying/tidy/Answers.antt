@@ -19,7 +19,7 @@ returns-clause-cost g c = once_spent c.args.steps.now c.reached-2.new.steps c.in
 pub returns-then-branch-clause-same : goal.returns-then-branch-clause-same
 returns-then-branch-clause-same g c = λ literals.
     let done = c.in_ok-left.ensures in
-    (tidied_keep (setting c.in_ok-ground.ground.base) c.args.listing done.changes c.in_ok-left.left.listing done.are).same literals
+    (tidied_keep (setting c.in_ok-widest.widest.base) c.args.listing done.changes c.in_ok-left.left.listing done.are).same literals
 
 pub returns-then-branch-clause-verdict : goal.returns-then-branch-clause-verdict
 returns-then-branch-clause-verdict g c = sure_layable c.args.base c.args.listing (c.in_ok-is_sure.ensures c.if-branch.true)

@@ -14,7 +14,7 @@ loop-number-preserved c = λ i j s h e f. elim (cases_lt i c.loop-number.number-
   | inr l ↦
       let here : i ≡ c.loop-number.number-index = omega arith in
       let number = get_or_from_slice_get c.args.numbers.now c.loop-number.number-index j 0 (ap (slice_get c.args.numbers.now) (sym here) ∙ e) in
-      sym (c.is_literal_at.ensures s (ap (slice_get c.args.stretches.now) number ∙ f)) ∙ c.if-is_literal_at.false
+      sym (c.is_literal_at.ensures s (ap (slice_get c.args.blocks.now) number ∙ f)) ∙ c.if-is_literal_at.false
 ]
 
 pub returns : goal.returns

@@ -1,7 +1,7 @@
 use Rattle.std.proofs.Common.{◌∙◌, ◌-◌, length, refl, arith}
 use Rattle.std.proofs.lemmas.List.{length-set}
 use Rattle.std.proofs.lemmas.Option.{slice_get_read}
-use Rattle.kept_layout.specs.Stretches.{shapes_of}
+use Rattle.kept_layout.specs.Blocks.{footprints_of}
 use Rattle.kept_layout.proofs.BuildingWalls.{own_walls, walls_on}
 use Rattle.kept_layout.proofs.calm.find_walls.Goals as goal
 
@@ -9,7 +9,7 @@ pub loop-behind-init : goal.loop-behind-init
 loop-behind-init c = record {
   within = omega arith;
   count = c.in_ok-walls.ensures.count;
-  walls = own_walls c.args.stretches.now c.in_ok-walls.walls.items c.in_ok-walls.ensures.count c.in_ok-walls.ensures.each;
+  walls = own_walls c.args.blocks.now c.in_ok-walls.walls.items c.in_ok-walls.ensures.count c.in_ok-walls.ensures.each;
 }
 
 pub loop-behind-preserved : goal.loop-behind-preserved
@@ -21,5 +21,5 @@ loop-behind-preserved c =
     record {
       within = omega arith;
       count = length-set walls (c.loop-behind.behind - 1 - 1) c.index.result.now ∙ count;
-      walls = walls_on (shapes_of c.args.stretches.now) walls (c.loop-behind.behind - 1 - 1) (c.loop-behind.behind - 1) c.index.result.now c.loop-behind.invariant.walls (omega arith) is (c.is_calm.ensures c.if-not-is_calm.false);
+      walls = walls_on (footprints_of c.args.blocks.now) walls (c.loop-behind.behind - 1 - 1) (c.loop-behind.behind - 1) c.index.result.now c.loop-behind.invariant.walls (omega arith) is (c.is_calm.ensures c.if-not-is_calm.false);
     }

@@ -8,14 +8,14 @@ loop-number-init c = none_counted _ _ c.new-rooms.ensures.items
 
 pub loop-number-preserved-then-number-start : goal.loop-number-preserved-then-number-start
 loop-number-preserved-then-number-start c =
-    let ss = c.args.stretches.now in
-    let is = slice_get_read ss (length ss) c.loop-number.number c.index-stretches-number.result refl (omega arith) c.index-stretches-number.is in
-    let more : c.in_ok-room.room ≡ c.loop-number.room + c.index-stretches-number.result.places = grind arith in
-    count_on ss c.loop-number.rooms.items c.loop-number.start c.loop-number.room c.loop-number.number c.in_ok-room.room (c.loop-number.number + 1) c.index-stretches-number.result c.loop-number.invariant is more (omega arith) c.if-number-start.true
+    let ss = c.args.blocks.now in
+    let is = slice_get_read ss (length ss) c.loop-number.number c.index-blocks-number.result refl (omega arith) c.index-blocks-number.is in
+    let more : c.in_ok-room.room ≡ c.loop-number.room + c.index-blocks-number.result.places = grind arith in
+    count_on ss c.loop-number.rooms.items c.loop-number.start c.loop-number.room c.loop-number.number c.in_ok-room.room (c.loop-number.number + 1) c.index-blocks-number.result c.loop-number.invariant is more (omega arith) c.if-number-start.true
 
 pub loop-number-preserved : goal.loop-number-preserved
 loop-number-preserved c =
-    let ss = c.args.stretches.now in
-    let is = slice_get_read ss (length ss) c.loop-number.number c.index-stretches-number.result refl (omega arith) c.index-stretches-number.is in
-    let more : c.in_ok-room.room ≡ c.loop-number.room + c.index-stretches-number.result.places = grind arith in
-    count_full ss c.loop-number.rooms.items c.push.new.self.items c.loop-number.start c.loop-number.room c.loop-number.number c.in_ok-room.room (c.loop-number.number + 1) c.index-stretches-number.result c.loop-number.invariant is more (omega arith) c.if-number-start.false c.in_ok-push.ensures.items
+    let ss = c.args.blocks.now in
+    let is = slice_get_read ss (length ss) c.loop-number.number c.index-blocks-number.result refl (omega arith) c.index-blocks-number.is in
+    let more : c.in_ok-room.room ≡ c.loop-number.room + c.index-blocks-number.result.places = grind arith in
+    count_full ss c.loop-number.rooms.items c.push.new.self.items c.loop-number.start c.loop-number.room c.loop-number.number c.in_ok-room.room (c.loop-number.number + 1) c.index-blocks-number.result c.loop-number.invariant is more (omega arith) c.if-number-start.false c.in_ok-push.ensures.items

@@ -2,11 +2,11 @@ use Rattle.std.proofs.Common.{◌∙◌, ◌+◌, ◌++◌, ◌^◌, ℕ, List, 
 use Rattle.std.proofs.lemmas.List.{append-nil}
 use Rattle.std.proofs.Math.ListN.{drop_of_length-le}
 use Rattle.std.specs.Map.{lookup}
-use Rattle.thumb_model.specs.Listing.{Line}
+use Rattle.thumb_model.specs.Listing.{ListingLine}
 use Rattle.thumb_model.specs.Layout.{size_at, end_of, label_address, is_among, or_else}
 use Rattle.label_layout.specs.Addresses.{is_key}
 use Rattle.listing_parser.specs.Views.{line_view, statement_view, names_view}
-use Rattle.listing_parser.specs.declared.line.Line.{Line as Lines}
+use Rattle.listing_parser.specs.declared.line.ListingLine.{ListingLine as Lines}
 use Rattle.label_layout.specs.Addresses.{addresses_in, addresses_from}
 use Rattle.label_layout.proofs.Labels.{label_more, or_none}
 use Rattle.label_layout.proofs.Sums.{next_line, stepped, in_code}
@@ -27,13 +27,13 @@ loop-line-preserved c =
           ap (λ (xs : List ℕ). xs ++ addresses_from c.in-Some.next rest) c.in_ok-add_places.ensures
           ∙ append_assoc c.loop-line.places.items (addresses_in at here) (addresses_from c.in-Some.next rest)
           ∙ ap (λ (n : ℕ). c.loop-line.places.items ++ (addresses_in at here ++ addresses_from n rest)) step.0
-          ∙ ap (λ (ls : List Line). c.loop-line.places.items ++ addresses_from at ls) (sym split)
+          ∙ ap (λ (ls : List ListingLine). c.loop-line.places.items ++ addresses_from at ls) (sym split)
           ∙ c.loop-line.invariant.places;
       label = λ q.
           ap (λ (o : Option ℕ). or_else o (label_address q c.in-Some.next rest)) (rw c.deref.ensures.value at (c.in_ok-add_labels.ensures q))
           ∙ label_more (lookup (is_key q) c.loop-line.labels.entries) (is_among q (names_view line)) at (label_address q c.in-Some.next rest)
           ∙ ap (λ (n : ℕ). or_else (lookup (is_key q) c.loop-line.labels.entries) (if is_among q (names_view line) then Some at else label_address q n rest)) step.0
-          ∙ ap (λ (ls : List Line). or_else (lookup (is_key q) c.loop-line.labels.entries) (label_address q at ls)) (sym split)
+          ∙ ap (λ (ls : List ListingLine). or_else (lookup (is_key q) c.loop-line.labels.entries) (label_address q at ls)) (sym split)
           ∙ c.loop-line.invariant.label q;
     }
 

@@ -1,5 +1,5 @@
 use Rattle.std.proofs.Common.{◌∙◌, ap}
-use Rattle.listing_draft.specs.Held.{names_of}
+use Rattle.listing_draft.specs.Invariant.{names_of}
 use Rattle.listing_draft.proofs.Drafts.{none_more}
 use Rattle.listing_draft.proofs.draft.none_aimed.Goals as goal
 

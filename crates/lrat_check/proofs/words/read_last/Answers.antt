@@ -5,4 +5,4 @@ use Rattle.lrat_check.proofs.words.read_last.Goals as goal
 pub returns-else-is_none : goal.returns-else-is_none
 returns-else-is_none g c = λ xs h n e.
     let read = rw c.in-Some.is at c.in_ok-entries.ensures in
-    read_on g.E.Entry.can_stand g.E.Entry.text (words_left c.args.rest) (words_left c.in-Some.rest) c.in-Some.entries.items xs read.1 read.2 (words_follow c.in-Some.rest c.if-is_none.ensures) n e
+    read_on g.E.ProofNumber.can_stand g.E.ProofNumber.text (words_left c.args.rest) (words_left c.in-Some.rest) c.in-Some.entries.items xs read.1 read.2 (words_follow c.in-Some.rest c.if-is_none.ensures) n e

@@ -4,7 +4,7 @@ use Rattle.lrat_check.proofs.Reading.{IsRead}
 use Rattle.lrat_check.proofs.words.read_list.Given as goal
 
 abbrev pub invariant-words : goal.invariant-words
-invariant-words g l = IsRead g.E.Entry.can_stand g.E.Entry.text (words_left l.initial.rest) l.entries.items (words_left l.rest)
+invariant-words g l = IsRead g.E.ProofNumber.can_stand g.E.ProofNumber.text (words_left l.initial.rest) l.entries.items (words_left l.rest)
 
 abbrev pub decreases-words : goal.decreases-words
 decreases-words g l = length (words_left l.rest)

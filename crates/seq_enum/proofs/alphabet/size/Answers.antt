@@ -1,8 +1,8 @@
 use Rattle.std.proofs.Common.{◌≡◌, ap, ◌∙◌, arith, length}
 use Rattle.std.specs.List.{flat_map}
-use Rattle.seq_enum.specs.Alphabet.{held_in, alphabet, members}
+use Rattle.seq_enum.specs.Alphabet.{those_within, alphabet, members}
 use Rattle.seq_enum.proofs.Mnemonics.{size_formula, size_bound}
-use Rattle.seq_enum.proofs.Bounds.{whole_pool, held_few}
+use Rattle.seq_enum.proofs.Bounds.{whole_pool, within_few}
 use Rattle.seq_enum.proofs.alphabet.size.Goals as goal
 
 pub returns-clause-value : goal.returns-clause-value
@@ -26,6 +26,6 @@ returns-clause-small c =
     omega (
       arith,
       is,
-      size_bound c.args.k (length (held_in 0 8 ns)) (length (held_in 0 256 ns)) (length (held_in 1 32 ns)) (length (held_in 1 33 ns)) c.requires.few
-          (held_few 0 8 ns valid) (held_few 0 256 ns valid) (held_few 1 32 ns valid) (held_few 1 33 ns valid),
+      size_bound c.args.k (length (those_within 0 8 ns)) (length (those_within 0 256 ns)) (length (those_within 1 32 ns)) (length (those_within 1 33 ns)) c.requires.few
+          (within_few 0 8 ns valid) (within_few 0 256 ns valid) (within_few 1 32 ns valid) (within_few 1 33 ns valid),
     )

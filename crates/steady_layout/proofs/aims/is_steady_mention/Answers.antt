@@ -1,5 +1,5 @@
 use Rattle.std.proofs.Common.{◌≡◌, ◌∙◌, ◌<◌, false, List, ℕ, Option, Some, None, length, get_or, ap, sym, arith}
-use Rattle.thumb_model.specs.Listing.{Name, Line}
+use Rattle.thumb_model.specs.Listing.{Name, ListingLine}
 use Rattle.listing_parser.specs.TableWords.{label_line}
 use Rattle.listing_parser.proofs.LabelLemmas.{label_within}
 use Rattle.steady_layout.specs.declared.starts.Start.{Start}
@@ -8,13 +8,13 @@ use Rattle.steady_layout.specs.Starts.{AreStarts}
 use Rattle.steady_layout.proofs.Lines.{as_many, label_at, no_label, aim_at_label}
 use Rattle.steady_layout.proofs.aims.is_steady_mention.Goals as goal
 
-within : (base : ℕ) (name : Name) (ls : List Line) (starts : List Start) (m : ℕ) → AreStarts base ls starts → Some m ≡ label_line name 0 ls → m < length starts
+within : (base : ℕ) (name : Name) (ls : List ListingLine) (starts : List Start) (m : ℕ) → AreStarts base ls starts → Some m ≡ label_line name 0 ls → m < length starts
 within base name ls starts m h e =
     let below = label_within name ls m (sym e) in
     let many = as_many (first base) ls in
     omega (arith, below, many, ap length h.each)
 
-found : (base : ℕ) (name : Name) (ls : List Line) (starts : List Start) (m : ℕ) (other : Start) → AreStarts base ls starts → Some m ≡ label_line name 0 ls → Some (get_or starts m other) ≡ labels_in base ls name
+found : (base : ℕ) (name : Name) (ls : List ListingLine) (starts : List Start) (m : ℕ) (other : Start) → AreStarts base ls starts → Some m ≡ label_line name 0 ls → Some (get_or starts m other) ≡ labels_in base ls name
 found base name ls starts m other h e =
     ap (λ (ss : List Start). Some (get_or ss m other)) h.each ∙ sym (label_at name 0 m m (first base) other ls (sym e) (omega arith))
 

@@ -1,7 +1,7 @@
 use Rattle.std.proofs.Common.{◌≡◌, ◌∙◌, ◌+◌, ◌&&◌, ℕ, Bool, false, List, length, map, drop, ap, sym, arith}
-use Rattle.thumb_model.specs.Listing.{Line}
+use Rattle.thumb_model.specs.Listing.{ListingLine}
 use Rattle.thumb_model.proofs.Lists.{length_map}
-use Rattle.listing_parser.specs.declared.line.Line.{Line as Lines}
+use Rattle.listing_parser.specs.declared.line.ListingLine.{ListingLine as Lines}
 use Rattle.listing_parser.specs.Views.{line_view}
 use Rattle.steady_layout.specs.declared.starts.Start.{Start}
 use Rattle.steady_layout.specs.Steady.{first, all_steady, labels_in, sets_in}
@@ -9,13 +9,13 @@ use Rattle.steady_layout.specs.Starts.{AreStarts}
 use Rattle.steady_layout.proofs.Lines.{as_many, each_at_start, each_next, each_end, steady_each}
 use Rattle.steady_layout.proofs.judging.all_steady.Goals as goal
 
-same_length : (base : ℕ) (ls : List Line) (starts : List Start) (lines : List Lines) → AreStarts base ls starts → map line_view lines ≡ ls → length starts ≡ length lines
+same_length : (base : ℕ) (ls : List ListingLine) (starts : List Start) (lines : List Lines) → AreStarts base ls starts → map line_view lines ≡ ls → length starts ≡ length lines
 same_length base ls starts lines h e =
     let many = as_many (first base) ls in
     let mapped = length_map line_view lines in
     omega (arith, many, mapped, ap length h.each, ap length e)
 
-whole : (base : ℕ) (ls : List Line) (starts : List Start) → AreStarts base ls starts → steady_each (labels_in base ls) (sets_in ls) base starts ls ≡ all_steady (labels_in base ls) (sets_in ls) base (first base) ls
+whole : (base : ℕ) (ls : List ListingLine) (starts : List Start) → AreStarts base ls starts → steady_each (labels_in base ls) (sets_in ls) base starts ls ≡ all_steady (labels_in base ls) (sets_in ls) base (first base) ls
 whole base ls starts h = ap (λ (ss : List Start). steady_each (labels_in base ls) (sets_in ls) base ss ls) h.each ∙ each_at_start (labels_in base ls) (sets_in ls) base (first base) ls
 
 pub bounds-starts-n : goal.bounds-starts-n

@@ -1,5 +1,5 @@
 use Rattle.std.proofs.Common.{◌∙◌, ◌+◌, ◌^◌, List, map, drop, sym, ap, arith}
-use Rattle.thumb_model.specs.Listing.{Line}
+use Rattle.thumb_model.specs.Listing.{ListingLine}
 use Rattle.listing_parser.specs.Views.{line_view, statement_view}
 use Rattle.steady_layout.specs.declared.starts.Start.{Start}
 use Rattle.steady_layout.specs.Steady.{behind, first, widest_end}
@@ -18,6 +18,6 @@ returns-in_default c = λ e.
     let s = statement_view c.line-item.result.statement in
     let rest = map line_view (drop (c.loop-line.line-index + 1) c.args.lines.now) in
     let split = next_line c.args.lines.now c.loop-line.line-index c.line-item.result c.loop-line-test.true c.line-item.is in
-    let whole = ap (λ (ls : List Line). (widest_end here ls).at) split in
+    let whole = ap (λ (ls : List ListingLine). (widest_end here ls).at) split in
     let h = at_end (behind here s) rest in
     fits here s (2 ^ 29) (sym c.in_default.is ∙ c.next_start.ensures) (omega (arith, whole, ap (λ (s : Start). s.at) c.loop-line.invariant.end, e))

@@ -1,5 +1,5 @@
 use Rattle.std.proofs.Common.{◌≡◌, ◌∙◌, ◌+◌, ◌≤◌, ℕ, List, length, map, sym, ap, subst, arith, None}
-use Rattle.thumb_model.specs.Listing.{Line}
+use Rattle.thumb_model.specs.Listing.{ListingLine}
 use Rattle.thumb_model.specs.Layout.{fault_at, lies_in, end_of}
 use Rattle.listing_parser.specs.Parsing.{text_of_lines}
 use Rattle.listing_parser.specs.Views.{line_view, statement_view}
@@ -50,7 +50,7 @@ overflow_add-at c =
 pub overflow_add-number : goal.overflow_add-number
 overflow_add-number c =
     let few = few_lines (text_of_lines c.args.listing.now) c.args.listing.now c.requires.listed in
-    let same = ap (λ (ls : List Line). length ls) c.lines-line-items.ensures in
+    let same = ap (λ (ls : List ListingLine). length ls) c.lines-line-items.ensures in
     let views = length_map line_view c.lines-line-items.result.now in
     omega arith
 

@@ -1,7 +1,7 @@
 use Rattle.std.proofs.Common.{◌≡◌, ◌∙◌, ◌++◌, [], ℕ, List, Option, None, map, nat_eq, sym, ap, append-nil}
 use Rattle.std.specs.Map.{lookup}
 use Rattle.std.specs.HashMap.{get}
-use Rattle.thumb_model.specs.Listing.{Line, labels_from, places_of}
+use Rattle.thumb_model.specs.Listing.{ListingLine, labels_from, places_of}
 use Rattle.thumb_model.specs.Naming.{points_of, returns_from}
 use Rattle.thumb_model.specs.Steps.{point_among}
 use Rattle.listing_parser.specs.Views.{line_view}
@@ -21,4 +21,4 @@ returns c = λ w.
     ∙ ap (λ (xs : List (ℕ × ℕ)). merged (get nat_eq c.add_labels.new.points w) (point_among w xs)) (append-nil returns)
     ∙ c.in_ok-add_labels.ensures w returns
     ∙ ap (λ (o : Option ℕ). merged o (point_among w (points_of names places (labels_from 0 (map line_view c.lines.result.now)) ++ returns))) none
-    ∙ ap (λ (ls : List Line). point_among w (points_of names places (labels_from 0 ls) ++ returns)) c.lines.ensures
+    ∙ ap (λ (ls : List ListingLine). point_among w (points_of names places (labels_from 0 ls) ++ returns)) c.lines.ensures

@@ -12,7 +12,7 @@ use Rattle.step_ledger.proofs.Rises.{at_least-fewer, at_least-goes_on, at_least-
 use Rattle.window_rewrite.specs.declared.choice.Replacement.{Replacement as Made}
 use Rattle.window_rewrite.specs.Choices.{setting_of, sides_of}
 use Rattle.window_rewrite.specs.Due.{before_least, Completes}
-use Rattle.window_rewrite.specs.Rewriting.{replacement_of, IsWhole}
+use Rattle.window_rewrite.specs.TableRewriting.{replacement_of, IsWhole}
 use Rattle.window_rewrite.specs.Scenes.{lines_of}
 use Rattle.window_rewrite.proofs.DueMarks.{least_is, least_on, none_marked}
 use Rattle.window_rewrite.proofs.DueScenes.{none_due_before, none_left, tried_at_first, tried_but, tried_gone, whole_many}

@@ -2,7 +2,7 @@ use Rattle.std.proofs.Common.{◌≡◌, ◌+◌, ◌-◌, ◌*◌, ◌≤◌, A
 use Rattle.step_ledger.specs.Counts.{RisesByAtLeast}
 use Rattle.window_rewrite.specs.Choices.{setting_of, sides_of}
 use Rattle.window_rewrite.specs.Due.{before_least, AreTried, Completes}
-use Rattle.window_rewrite.specs.Rewriting.{IsWhole}
+use Rattle.window_rewrite.specs.TableRewriting.{IsWhole}
 use Rattle.window_rewrite.specs.Scenes.{lines_of, IsOver}
 use Rattle.window_rewrite.proofs.Rounds.{paid}
 use Rattle.window_rewrite.proofs.due.go_through.Given as goal

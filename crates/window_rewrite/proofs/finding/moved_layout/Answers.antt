@@ -4,7 +4,7 @@ use Rattle.std.specs.Option.{IfSome}
 use Rattle.std.proofs.lemmas.Option.{IfSome_then}
 use Rattle.std.proofs.lemmas.Result.{IfOk-weaker}
 use Rattle.thumb_model.specs.Layout.{Layable}
-use Rattle.thumb_model.specs.Listing.{Line}
+use Rattle.thumb_model.specs.Listing.{ListingLine}
 use Rattle.thumb_model.specs.Replaced.{replaced_lines}
 use Rattle.listing_parser.specs.Parsing.{own_line}
 use Rattle.window_runs.specs.Windows.{IsWindow}
@@ -38,7 +38,7 @@ returns-in-None-clause-allowed c = (
   λ _. refl,
 )
 
-told : (b steady : Bool) (base other : ℕ) (left : List Line) → steady ≡ false → base ≡ other → ((b ≡ true) ↔ Layable base left) → ((b ≡ true) ↔ (steady ≡ false → Layable other left))
+told : (b steady : Bool) (base other : ℕ) (left : List ListingLine) → steady ≡ false → base ≡ other → ((b ≡ true) ↔ Layable base left) → ((b ≡ true) ↔ (steady ≡ false → Layable other left))
 told b steady base other left f e h = (λ t _. subst (λ k. Layable k left) e (h.0 t), λ q. h.1 (subst (λ k. Layable k left) (sym e) (q f)))
 
 pub may_give_way-requires-clause-stands : goal.may_give_way-requires-clause-stands
@@ -49,14 +49,14 @@ may_give_way-requires-clause-stands c =
 
 pub returns-in-Some-clause-allowed : goal.returns-in-Some-clause-allowed
 returns-in-Some-clause-allowed c =
-    let lines : List Line = lines_seen c.args.look.now in
+    let lines : List ListingLine = lines_seen c.args.look.now in
     let place : ℕ = number_seen c.args.look.now in
     let laid : (c.in-Some.kept.base ≡ c.args.look.now.rules.now.base) × Lays c.in-Some.kept lines = rw c.in-Some.is at c.requires.look.over.over.layout in
     let near : IsNear c.in-Some.kept place = rw c.in-Some.is at c.requires.look.near in
-    let left : List Line = replaced_lines own_line place (length c.args.window.now) c.args.new.now lines in
+    let left : List ListingLine = replaced_lines own_line place (length c.args.window.now) c.args.new.now lines in
     let few = c.has_room.ensures.0 c.if-not-has_room.false in
     IfOk-weaker _ _ _
-    (λ (o : Option Move) (t : (ls : List Line) (p : ℕ) → Lays c.in-Some.kept ls → IsNear c.in-Some.kept p → IsWindow ls p c.args.window.now → (is_some o ≡ true) ↔ Layable c.in-Some.kept.base (replaced_lines own_line p (length c.args.window.now) c.args.new.now ls)).
+    (λ (o : Option Move) (t : (ls : List ListingLine) (p : ℕ) → Lays c.in-Some.kept ls → IsNear c.in-Some.kept p → IsWindow ls p c.args.window.now → (is_some o ≡ true) ↔ Layable c.in-Some.kept.base (replaced_lines own_line p (length c.args.window.now) c.args.new.now ls)).
     let own = told (is_some o) (is_steady c.args.look.now.scene.now.layout) c.in-Some.kept.base c.args.look.now.rules.now.base left (ap (λ k. not (is_some k)) c.in-Some.is) laid.0 (t lines place laid.1 near c.requires.window) in
     (λ b. record { few = few; layable = own.0 b }, λ m. own.1 m.layable))
     c.may_give_way.ensures.layable

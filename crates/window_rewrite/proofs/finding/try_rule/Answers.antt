@@ -7,7 +7,7 @@ use Rattle.thumb_instr.specs.declared.instr.Instr.{Instr}
 use Rattle.thumb_instr.specs.Window.{Low, renamed, is_in_window}
 use Rattle.thumb_instr.specs.Items.{has}
 use Rattle.thumb_model.specs.Layout.{Layable}
-use Rattle.thumb_model.specs.Listing.{Line, code_of, labels_from, places_of}
+use Rattle.thumb_model.specs.Listing.{ListingLine, code_of, labels_from, places_of}
 use Rattle.rule_model.specs.Rules.{Rule, rule_registers}
 use Rattle.rule_model.specs.Rewriting.{Replacement}
 use Rattle.thumb_model.specs.Replaced.{replaced_lines}
@@ -16,7 +16,7 @@ use Rattle.listing_parser.specs.Parsing.{own_line}
 use Rattle.seq_enum.specs.Costs.{weight_under}
 use Rattle.table_audit.proofs.Names.{has_one}
 use Rattle.window_rewrite.specs.Settled.{IsSettled}
-use Rattle.window_rewrite.specs.Rewriting.{registers_of, setting_by}
+use Rattle.window_rewrite.specs.TableRewriting.{registers_of, setting_by}
 use Rattle.window_rewrite.specs.Rules.{entry_rule, with_open}
 use Rattle.window_rewrite.specs.Fitting.{left_registers}
 use Rattle.window_rewrite.specs.Scenes.{lines_left, lines_seen, number_seen, MayBeLeft}
@@ -116,7 +116,7 @@ copied-requires g c =
 
 pub returns-clause-some : goal.returns-clause-some
 returns-clause-some g c =
-    let lines : List Line = lines_seen c.args.sight.now.look.now in
+    let lines : List ListingLine = lines_seen c.args.sight.now.look.now in
     let place : ℕ = number_seen c.args.sight.now.look.now in
     let rule : Rule = entry_rule c.args.rule.now in
     let registers : List Low = registers_of c.in-Some.map in

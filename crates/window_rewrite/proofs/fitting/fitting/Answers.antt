@@ -4,7 +4,7 @@ use Rattle.thumb_instr.specs.Items.{has}
 use Rattle.thumb_instr.specs.Window.{Low}
 use Rattle.table_audit.specs.Soundness.{items_in}
 use Rattle.rule_model.specs.Rules.{Rule}
-use Rattle.window_rewrite.specs.Rewriting.{registers_of}
+use Rattle.window_rewrite.specs.TableRewriting.{registers_of}
 use Rattle.window_rewrite.specs.Rules.{entry_rule}
 use Rattle.window_rewrite.specs.Fitting.{left_registers, is_allowed, Fits}
 use Rattle.window_rewrite.proofs.Sides.{stands_once}

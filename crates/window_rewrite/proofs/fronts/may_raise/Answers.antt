@@ -4,4 +4,4 @@ use Rattle.window_rewrite.proofs.Heads.{none_raised}
 use Rattle.window_rewrite.proofs.fronts.may_raise.Goals as goal
 
 pub returns : goal.returns
-returns c = λ f. none_raised c.args.rules.now.costs.now (map rule_of c.args.rules.now.entries.now) (map family_of c.args.rules.now.families.now) c.args.rules.now.index.now c.requires.ready.index c.args.window.now c.shape_of.result c.shape_of.ensures.value (sym c.has_whole.ensures ∙ f)
+returns c = λ f. none_raised c.args.rules.now.costs.now (map rule_of c.args.rules.now.entries.now) (map family_of c.args.rules.now.families.now) c.args.rules.now.index.now c.requires.ready.index c.args.window.now c.hash_of.result c.hash_of.ensures.value (sym c.has_whole.ensures ∙ f)

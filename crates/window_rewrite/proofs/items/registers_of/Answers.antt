@@ -1,5 +1,5 @@
 use Rattle.std.proofs.Common.{arith}
-use Rattle.window_rewrite.specs.Rewriting.{registers_of}
+use Rattle.window_rewrite.specs.TableRewriting.{registers_of}
 use Rattle.window_rewrite.proofs.Maps.{next_registers}
 use Rattle.window_rewrite.proofs.items.registers_of.Goals as goal
 

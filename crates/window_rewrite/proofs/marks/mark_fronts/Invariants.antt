@@ -1,6 +1,6 @@
 use Rattle.std.proofs.Common.{◌≡◌, ◌<◌, ℕ, true, length, take}
 use Rattle.window_rewrite.specs.Rules.{is_marked, AreMarked}
-use Rattle.window_rewrite.specs.Shapes.{shape_of}
+use Rattle.window_rewrite.specs.Hashes.{hash_of}
 use Rattle.window_rewrite.proofs.marks.mark_fronts.Given as goal
 
 abbrev pub invariant-loop-instr : goal.invariant-loop-instr
@@ -8,6 +8,6 @@ invariant-loop-instr l = record {
   many : length l.marks.items ≡ 65536;
   kept : (q : ℕ) → is_marked l.initial.marks.items q ≡ true → is_marked l.marks.items q ≡ true;
   fronts : AreMarked l.marks.items l.left l.instr-index;
-  shape : l.shape ≡ shape_of (take l.instr-index l.left);
-  small : l.shape < 65536;
+  hash : l.hash ≡ hash_of (take l.instr-index l.left);
+  small : l.hash < 65536;
 }

@@ -8,7 +8,7 @@ use Rattle.rule_table.specs.declared.table.Family.{Family}
 use Rattle.rule_table.specs.declared.table.Table.{Table}
 use Rattle.rule_table.specs.Views.{family_of, rule_of, table_of}
 use Rattle.table_audit.specs.Soundness.{numbers_in, numbers_of}
-use Rattle.window_rewrite.specs.Rewriting.{setting, setting_by, replacement_of, rewriting_cost}
+use Rattle.window_rewrite.specs.TableRewriting.{setting, setting_by, replacement_of, rewriting_cost}
 use Rattle.window_rewrite.specs.Rules.{AreFit, AreRaised}
 use Rattle.window_rewrite.proofs.Accepted.{are_fit, are_raised}
 use Rattle.window_rewrite.proofs.Joined.{sides_many}

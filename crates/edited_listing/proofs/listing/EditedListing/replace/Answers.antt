@@ -1,5 +1,5 @@
 use Rattle.std.proofs.Common.{◌<◌, ◌∙◌, ap, refl, length, arith, sym, List, ℕ}
-use Rattle.thumb_model.specs.Listing.{Line}
+use Rattle.thumb_model.specs.Listing.{ListingLine}
 use Rattle.std.proofs.lemmas.Option.{slice_get_read}
 use Rattle.edited_listing.specs.Changes.{giving_from}
 use Rattle.edited_listing.specs.Edited.{Edited}
@@ -20,7 +20,7 @@ invariant_of-self c =
     let w = window_at (record { given = c.self.inside.listing; stands = c.self.inside.stands.items }) c.args.self.now c.args.place c.args.count c.args.new.now c.index.result.now c.self.view_is at c.requires.kept c.requires.some c.requires.few c.requires.window c.requires.unlabelled in
     holds_after c.self.inside.listing c.self.inside.stands.items c.self.inside.kept c.self.inside.is_changed c.self.inside.labelled.items c.self.inside.line_count c.args.place c.args.count c.args.new.now c.index.result.now c.give_way.new.stands.items c.give_way.new.kept c.lines_after-line_count.result c.self.invariant w
     (c.give_way.ensures.stands ∙ ap (λ (h : ℕ). giving_from c.args.place c.args.count c.args.new.now h c.self.inside.stands.items) c.home-home.ensures) c.give_way.ensures.marks
-    (c.lines_after-line_count.ensures c.args.new.now refl ∙ ap (λ (ls : List Line). length ls) (sym (lines_after c.self.inside.listing c.self.inside.stands.items c.self.inside.kept c.self.inside.is_changed c.self.inside.labelled.items c.self.inside.line_count c.args.place c.args.count c.args.new.now c.index.result.now c.give_way.new.stands.items c.args.self.now c.self.invariant w
+    (c.lines_after-line_count.ensures c.args.new.now refl ∙ ap (λ (ls : List ListingLine). length ls) (sym (lines_after c.self.inside.listing c.self.inside.stands.items c.self.inside.kept c.self.inside.is_changed c.self.inside.labelled.items c.self.inside.line_count c.args.place c.args.count c.args.new.now c.index.result.now c.give_way.new.stands.items c.args.self.now c.self.invariant w
     (c.give_way.ensures.stands ∙ ap (λ (h : ℕ). giving_from c.args.place c.args.count c.args.new.now h c.self.inside.stands.items) c.home-home.ensures) c.self.view_is)))
 
 pub returns-clause-lines : goal.returns-clause-lines

@@ -2,12 +2,12 @@ use Rattle.std.proofs.Common.{◌≡◌, ◌∙◌, ◌-◌, ◌*◌, ◌<◌, �
 use Rattle.std.specs.List.{list_all}
 use Rattle.thumb_instr.specs.declared.instr.Instr.{Instr}
 use Rattle.thumb_instr.specs.Window.{is_in_window}
-use Rattle.thumb_model.specs.Listing.{Line}
+use Rattle.thumb_model.specs.Listing.{ListingLine}
 use Rattle.thumb_model.specs.Replaced.{replaced_lines}
 use Rattle.listing_parser.specs.Parsing.{own_line}
 use Rattle.window_runs.specs.Windows.{IsWindow}
 use Rattle.kept_layout.specs.declared.kept.KeptLayout.{KeptLayout}
-use Rattle.kept_layout.specs.Stretches.{lessen, shapes_of, AllReach}
+use Rattle.kept_layout.specs.Blocks.{lessen, footprints_of, AllReach}
 use Rattle.kept_layout.specs.Kept.{AreCut, IsLaid, IsNear, Lays}
 use Rattle.kept_layout.proofs.Giving.{bytes_few, bytes_within, cut_after, gives, gives_way, places_within, reach_after}
 use Rattle.kept_layout.proofs.kept.KeptLayout.give_way.Goals as goal
@@ -31,16 +31,16 @@ pub shrink-requires-clause-reach : goal.shrink-requires-clause-reach
 shrink-requires-clause-reach c =
     let r = c.requires in
     let k = c.args.self.now in
-    subst (λ n. AllReach k.base (lessen k.here n (length c.args.window.now - length c.args.new.now) (shapes_of k.stretches.items))) (sym c.bytes_gone-bytes.ensures)
+    subst (λ n. AllReach k.base (lessen k.here n (length c.args.window.now - length c.args.new.now) (footprints_of k.blocks.items))) (sym c.bytes_gone-bytes.ensures)
     (reach_after own_line k _ _ c.args.window.now c.args.new.now (gives_way r.leaves.stands r.some r.fewer r.letters) r.leaves.layable)
 
--- the layout of the lines, once the stretch has shrunk
+-- the layout of the lines, once the block has shrunk
 lays_after : (old new : KeptLayout) (window is : List Instr) (bytes : ℕ) → 0 < length window → length is ≤ length window → list_all is_in_window is ≡ true → bytes ≡ 2 * (length window - length is) → IsLaid new
-    → shapes_of new.stretches.items ≡ lessen old.here bytes (length window - length is) (shapes_of old.stretches.items)
-    → (lines : List Line) (place : ℕ) → Lays old lines → IsNear old place → IsWindow lines place window → Lays new (replaced_lines own_line place (length window) is lines)
-lays_after old new window is bytes some fewer letters e laid shapes lines place lays near is_window = record {
+    → footprints_of new.blocks.items ≡ lessen old.here bytes (length window - length is) (footprints_of old.blocks.items)
+    → (lines : List ListingLine) (place : ℕ) → Lays old lines → IsNear old place → IsWindow lines place window → Lays new (replaced_lines own_line place (length window) is lines)
+lays_after old new window is bytes some fewer letters e laid footprints lines place lays near is_window = record {
   laid = laid;
-  cut = subst (AreCut (replaced_lines own_line place (length window) is lines)) (sym (shapes ∙ ap (λ n. lessen old.here n (length window - length is) (shapes_of old.stretches.items)) e))
+  cut = subst (AreCut (replaced_lines own_line place (length window) is lines)) (sym (footprints ∙ ap (λ n. lessen old.here n (length window - length is) (footprints_of old.blocks.items)) e))
       (cut_after own_line old lines place window is (gives lays near is_window some fewer letters));
 }
 
@@ -51,4 +51,4 @@ both (Err e) f p q = tt
 pub returns-clause-lays : goal.returns-clause-lays
 returns-clause-lays c =
     let r = c.requires in
-    both c.shrink.result (lays_after c.args.self.now c.shrink.new.self c.args.window.now c.args.new.now c.bytes_gone-bytes.result r.some r.fewer r.letters c.bytes_gone-bytes.ensures) c.shrink.ensures.laid c.shrink.ensures.shapes
+    both c.shrink.result (lays_after c.args.self.now c.shrink.new.self c.args.window.now c.args.new.now c.bytes_gone-bytes.result r.some r.fewer r.letters c.bytes_gone-bytes.ensures) c.shrink.ensures.laid c.shrink.ensures.footprints

@@ -10,7 +10,7 @@ overflow_sub-self c =
     let stays = ap (λ (x : KeptLayout). x.first) (c.leap_back.ensures.stays c.if-leap_back.false) in
     let some = not_first k c.leap_back.ensures.laid (omega arith) in
     let within = c.leap_back.ensures.laid.here in
-    let before = slice_get_read k.stretches.items (length k.stretches.items) (k.here - 1) c.index.result.now refl (omega arith) c.index.ensures in
+    let before = slice_get_read k.blocks.items (length k.blocks.items) (k.here - 1) c.index.result.now refl (omega arith) c.index.ensures in
     (back_one k c.index.result.now c.leap_back.ensures.laid (omega arith) before).0
 
 pub loop-self-preserved : goal.loop-self-preserved
@@ -19,9 +19,9 @@ loop-self-preserved c =
     let stays = ap (λ (x : KeptLayout). x.first) (c.leap_back.ensures.stays c.if-leap_back.false) in
     let some = not_first k c.leap_back.ensures.laid (omega arith) in
     let within = c.leap_back.ensures.laid.here in
-    let before = slice_get_read k.stretches.items (length k.stretches.items) (k.here - 1) c.index.result.now refl (omega arith) c.index.ensures in
+    let before = slice_get_read k.blocks.items (length k.blocks.items) (k.here - 1) c.index.result.now refl (omega arith) c.index.ensures in
     record {
       laid = (back_one k c.index.result.now c.leap_back.ensures.laid (omega arith) before).1;
-      stretches = c.leap_back.ensures.stretches ∙ c.loop-self.invariant.stretches;
+      blocks = c.leap_back.ensures.blocks ∙ c.loop-self.invariant.blocks;
       base = c.leap_back.ensures.base ∙ c.loop-self.invariant.base;
     }

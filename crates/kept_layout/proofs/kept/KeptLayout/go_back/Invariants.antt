@@ -5,7 +5,7 @@ use Rattle.kept_layout.proofs.kept.KeptLayout.go_back.Given as goal
 abbrev pub invariant-loop-self : goal.invariant-loop-self
 invariant-loop-self l = record {
   laid : IsLaid l.self;
-  stretches : l.self.stretches.items ≡ l.initial.self.stretches.items;
+  blocks : l.self.blocks.items ≡ l.initial.self.blocks.items;
   base : l.self.base ≡ l.initial.self.base;
 }
 

@@ -5,12 +5,12 @@ use Rattle.std.proofs.lemmas.Result.{IfOk-weaker}
 use Rattle.thumb_instr.specs.declared.instr.Instr.{Instr}
 use Rattle.thumb_instr.specs.Window.{is_in_window}
 use Rattle.thumb_model.specs.Layout.{Layable}
-use Rattle.thumb_model.specs.Listing.{Line}
+use Rattle.thumb_model.specs.Listing.{ListingLine}
 use Rattle.thumb_model.specs.Replaced.{replaced_lines}
 use Rattle.listing_parser.specs.Parsing.{own_line}
 use Rattle.window_runs.specs.Windows.{IsWindow}
 use Rattle.kept_layout.specs.declared.kept.KeptLayout.{KeptLayout}
-use Rattle.kept_layout.specs.Stretches.{lessen, shapes_of, AllReach}
+use Rattle.kept_layout.specs.Blocks.{lessen, footprints_of, AllReach}
 use Rattle.kept_layout.specs.Kept.{IsNear, Lays}
 use Rattle.kept_layout.proofs.Giving.{bytes_few, bytes_within, gives, gives_way, layable_after, reach_after, GivesWay}
 use Rattle.kept_layout.proofs.ShrinkingWide.{cut_wide}
@@ -26,19 +26,19 @@ move_within_reach-requires-clause-few c = λ s e.
     let r = c.requires in
     subst (λ n. n ≤ s.bytes) (sym c.bytes_gone-bytes.ensures) (bytes_within _ _ _ _ _ s e (gives_way r.stands r.some r.fewer r.letters))
 
--- what is told of a stretch that shrinks, told of lines
-told : (k : KeptLayout) (lines : List Line) (place : ℕ) (window new : List Instr) (bytes : ℕ) (b : Bool) → GivesWay k lines place window new → bytes ≡ 2 * (length window - length new)
-    → ((gone : ℕ) → (b ≡ true) ↔ AllReach k.base (lessen k.here bytes gone (shapes_of k.stretches.items))) → (b ≡ true) ↔ Layable k.base (replaced_lines own_line place (length window) new lines)
+-- what is told of a block that shrinks, told of lines
+told : (k : KeptLayout) (lines : List ListingLine) (place : ℕ) (window new : List Instr) (bytes : ℕ) (b : Bool) → GivesWay k lines place window new → bytes ≡ 2 * (length window - length new)
+    → ((gone : ℕ) → (b ≡ true) ↔ AllReach k.base (lessen k.here bytes gone (footprints_of k.blocks.items))) → (b ≡ true) ↔ Layable k.base (replaced_lines own_line place (length window) new lines)
 told k lines place window new bytes b g e h =
     let gone : ℕ = length window - length new in (
-      λ t. layable_after own_line k lines place window new g (subst (λ n. AllReach k.base (lessen k.here n gone (shapes_of k.stretches.items))) e ((h gone).0 t)),
-      λ l. (h gone).1 (subst (λ n. AllReach k.base (lessen k.here n gone (shapes_of k.stretches.items))) (sym e) (reach_after own_line k lines place window new g l)),
+      λ t. layable_after own_line k lines place window new g (subst (λ n. AllReach k.base (lessen k.here n gone (footprints_of k.blocks.items))) e ((h gone).0 t)),
+      λ l. (h gone).1 (subst (λ n. AllReach k.base (lessen k.here n gone (footprints_of k.blocks.items))) (sym e) (reach_after own_line k lines place window new g l)),
     )
 
 -- and so of all lines of which this is the layout
 told_all : (k : KeptLayout) (window new : List Instr) (bytes : ℕ) (b : Bool) → 0 < length window → length new ≤ length window → list_all is_in_window new ≡ true → bytes ≡ 2 * (length window - length new)
-    → ((gone : ℕ) → (b ≡ true) ↔ AllReach k.base (lessen k.here bytes gone (shapes_of k.stretches.items)))
-    → (lines : List Line) (place : ℕ) → Lays k lines → IsNear k place → IsWindow lines place window → (b ≡ true) ↔ Layable k.base (replaced_lines own_line place (length window) new lines)
+    → ((gone : ℕ) → (b ≡ true) ↔ AllReach k.base (lessen k.here bytes gone (footprints_of k.blocks.items)))
+    → (lines : List ListingLine) (place : ℕ) → Lays k lines → IsNear k place → IsWindow lines place window → (b ≡ true) ↔ Layable k.base (replaced_lines own_line place (length window) new lines)
 told_all k window new bytes b some fewer letters e h lines place lays near is_window = told k lines place window new bytes b (gives lays near is_window some fewer letters) e h
 
 pub returns-clause-layable : goal.returns-clause-layable

@@ -1,15 +1,15 @@
 use Rattle.std.proofs.Common.{◌≡◌, ◌∙◌, ◌↔◌, ℕ, Bool, true, false, sym, refl}
 use Rattle.kept_layout.specs.declared.kept.KeptLayout.{KeptLayout}
 use Rattle.kept_layout.specs.declared.shrinking.Move.{Move}
-use Rattle.kept_layout.specs.Stretches.{lessen, shapes_of, AllReach, AreWide}
+use Rattle.kept_layout.specs.Blocks.{lessen, footprints_of, AllReach, AreWide}
 use Rattle.kept_layout.specs.Kept.{IsLaid}
 use Rattle.kept_layout.specs.Moves.{IsLookedAt, IsMovedTo, IsRight, moved_starts, news}
 use Rattle.kept_layout.proofs.ShrinkingReach.{reach_from, right_all, right_from, Moves}
 use Rattle.kept_layout.proofs.kept.KeptLayout.move_within_reach.Goals as goal
 
 -- all is within reach exactly where it is told so, whatever is moved is looked at
-told : (k : KeptLayout) (bytes gone : ℕ) (m : Move) (b : Bool) → IsLaid k → AreWide (shapes_of k.stretches.items) → IsMovedTo k bytes (news k bytes m.at.items) m.by → (b ≡ true → IsLookedAt k (news k bytes m.at.items) m.by)
-    → (((j : ℕ) → IsRight (moved_starts k (news k bytes m.at.items) m.by) k.stretches.items j) → b ≡ true) → (b ≡ true) ↔ AllReach k.base (lessen k.here bytes gone (shapes_of k.stretches.items))
+told : (k : KeptLayout) (bytes gone : ℕ) (m : Move) (b : Bool) → IsLaid k → AreWide (footprints_of k.blocks.items) → IsMovedTo k bytes (news k bytes m.at.items) m.by → (b ≡ true → IsLookedAt k (news k bytes m.at.items) m.by)
+    → (((j : ℕ) → IsRight (moved_starts k (news k bytes m.at.items) m.by) k.blocks.items j) → b ≡ true) → (b ≡ true) ↔ AllReach k.base (lessen k.here bytes gone (footprints_of k.blocks.items))
 told k bytes gone m b laid wide moved all none =
     let moves : Moves k (news k bytes m.at.items) m.by bytes = record { laid = laid; wide = wide; move = moved.move; starts = moved.starts } in (
       λ t. reach_from k (news k bytes m.at.items) m.by bytes gone moves (right_all k (news k bytes m.at.items) m.by bytes moves (all t)),

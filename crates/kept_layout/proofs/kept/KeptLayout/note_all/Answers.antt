@@ -12,7 +12,7 @@ pub note_range-requires-then-keeps_gap-clause-within : goal.note_range-requires-
 note_range-requires-then-keeps_gap-clause-within c =
     let k = c.args.self.now in
     let m = c.args.moved.now in
-    let same = map_length unplaced c.note_range.new.self.stretches.items k.stretches.items c.in_ok-note_range.ensures.noted.same in
+    let same = map_length unplaced c.note_range.new.self.blocks.items k.blocks.items c.in_ok-note_range.ensures.noted.same in
     let end = end_news k c.args.bytes m.at.items c.requires.laid in
     let within = c.requires.is.within in
     let border = c.requires.laid.border in
@@ -44,8 +44,8 @@ returns-in_ok-note_range-clause-noted c =
     let keeps : keeps_gap k ≡ true = sym c.keeps_gap.ensures ∙ c.if-keeps_gap.true in
     let calm : (j : ℕ) → c.min-then-keeps_gap.result ≤ j → j < wall_of k → (k.here < j) × (k.lag.from ≤ j) = λ j h w. (omega arith, omega arith) in
     on c.note_range-then-keeps_gap.result
-    (λ rest. noted_few k middle c.args.bytes m.at.items m.by c.args.lag.now c.min.result c.min-then-keeps_gap.result c.max-end.result c.note_range-then-keeps_gap.new.self.stretches.items c.requires.laid c.requires.is c.requires.few c.requires.lag keeps (omega arith) (omega arith) (omega arith) calm (omega arith) (omega arith)
-    c.in_ok-note_range.ensures.fields c.in_ok-note_range.ensures.noted (subst (λ w. AreNotedIn middle c.args.bytes m.at.items m.by c.args.lag.now w c.max-end.result c.note_range-then-keeps_gap.new.self.stretches.items) wall rest))
+    (λ rest. noted_few k middle c.args.bytes m.at.items m.by c.args.lag.now c.min.result c.min-then-keeps_gap.result c.max-end.result c.note_range-then-keeps_gap.new.self.blocks.items c.requires.laid c.requires.is c.requires.few c.requires.lag keeps (omega arith) (omega arith) (omega arith) calm (omega arith) (omega arith)
+    c.in_ok-note_range.ensures.fields c.in_ok-note_range.ensures.noted (subst (λ w. AreNotedIn middle c.args.bytes m.at.items m.by c.args.lag.now w c.max-end.result c.note_range-then-keeps_gap.new.self.blocks.items) wall rest))
     c.note_range-then-keeps_gap.ensures.noted
 
 pub returns-else-keeps_gap-clause-noted : goal.returns-else-keeps_gap-clause-noted
@@ -57,5 +57,5 @@ returns-else-keeps_gap-clause-noted c =
     let low = c.min-else-keeps_gap.ensures in
     let least = c.min-else-keeps_gap-2.ensures in
     on c.note_range-else-keeps_gap.result
-    (λ noted. noted_most k c.args.bytes m.at.items m.by c.args.lag.now c.min-else-keeps_gap-2.result c.max-end.result c.note_range-else-keeps_gap.new.self.stretches.items c.requires.laid c.requires.is c.requires.lag (omega arith) (omega arith) (omega arith) (omega arith) (omega arith) noted)
+    (λ noted. noted_most k c.args.bytes m.at.items m.by c.args.lag.now c.min-else-keeps_gap-2.result c.max-end.result c.note_range-else-keeps_gap.new.self.blocks.items c.requires.laid c.requires.is c.requires.lag (omega arith) (omega arith) (omega arith) (omega arith) (omega arith) noted)
     c.note_range-else-keeps_gap.ensures.noted

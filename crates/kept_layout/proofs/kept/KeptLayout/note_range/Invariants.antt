@@ -4,6 +4,6 @@ use Rattle.kept_layout.proofs.kept.KeptLayout.note_range.Given as goal
 
 abbrev pub invariant-loop-number : goal.invariant-loop-number
 invariant-loop-number l = record {
-  fields : l.self ≡ record l.initial.self { stretches = l.self.stretches };
-  noting : AreNotedIn l.initial.self l.bytes l.moved.at.items l.moved.by l.lag l.from l.number l.self.stretches.items;
+  fields : l.self ≡ record l.initial.self { blocks = l.self.blocks };
+  noting : AreNotedIn l.initial.self l.bytes l.moved.at.items l.moved.by l.lag l.from l.number l.self.blocks.items;
 }

@@ -47,9 +47,9 @@ loop-next-init c =
 pub returns-then-is_together-clause-moved : goal.returns-then-is_together-clause-moved
 returns-then-is_together-clause-moved c =
     let k = c.args.self.now in
-    let is = slice_get_read k.stretches.items (length k.stretches.items) c.loop-next.next c.index-stretch.result.now refl (omega arith) c.index-stretch.ensures in
+    let is = slice_get_read k.blocks.items (length k.blocks.items) c.loop-next.next c.index-block.result.now refl (omega arith) c.index-block.ensures in
     let told = c.is_together.ensures c.if-is_together.true in
-    walk_together k c.args.bytes (news k c.args.bytes c.loop-next.moved.at.items) c.loop-next.at c.loop-next.next c.address-old.result c.index-stretch.result.now c.requires.laid c.loop-next.invariant.walked is (address_is k c.loop-next.next c.address-old.result c.requires.laid (omega arith) c.address-old.ensures) told.0 told.1
+    walk_together k c.args.bytes (news k c.args.bytes c.loop-next.moved.at.items) c.loop-next.at c.loop-next.next c.address-old.result c.index-block.result.now c.requires.laid c.loop-next.invariant.walked is (address_is k c.loop-next.next c.address-old.result c.requires.laid (omega arith) c.address-old.ensures) told.0 told.1
 
 pub returns-then-is_together-clause-right : goal.returns-then-is_together-clause-right
 returns-then-is_together-clause-right c = known_shifted c.args.self.now (news c.args.self.now c.args.bytes c.loop-next.moved.at.items) (c.address-old.result - c.loop-next.at) c.requires.laid.here c.loop-next.invariant.known
@@ -57,8 +57,8 @@ returns-then-is_together-clause-right c = known_shifted c.args.self.now (news c.
 pub is_met-requires-clause-is : goal.is_met-requires-clause-is
 is_met-requires-clause-is c =
     let k = c.args.self.now in
-    let is = slice_get_read k.stretches.items (length k.stretches.items) c.loop-next.next c.index-stretch.result.now refl (omega arith) c.index-stretch.ensures in
-    let on = walk_on k c.args.bytes (news k c.args.bytes c.loop-next.moved.at.items) c.loop-next.at c.loop-next.next c.index-stretch.result.now c.in_ok-at-2.at (c.loop-next.next + 1) c.loop-next.invariant.walked is (omega arith) c.in_ok-at-2.ensures.value c.in_ok-at-2.ensures.in_code (omega arith) in
+    let is = slice_get_read k.blocks.items (length k.blocks.items) c.loop-next.next c.index-block.result.now refl (omega arith) c.index-block.ensures in
+    let on = walk_on k c.args.bytes (news k c.args.bytes c.loop-next.moved.at.items) c.loop-next.at c.loop-next.next c.index-block.result.now c.in_ok-at-2.at (c.loop-next.next + 1) c.loop-next.invariant.walked is (omega arith) c.in_ok-at-2.ensures.value c.in_ok-at-2.ensures.in_code (omega arith) in
     let walked = subst (λ new. IsWalked k c.args.bytes new c.in_ok-at-2.at (c.loop-next.next + 1)) (news_on k c.args.bytes c.loop-next.moved.at.items c.push.new.self.items c.loop-next.at c.in_ok-push.ensures.items) on in
     let count = walked.count in
     let within = walked.within in
@@ -67,8 +67,8 @@ is_met-requires-clause-is c =
 pub returns-then-not-is_met-clause-none : goal.returns-then-not-is_met-clause-none
 returns-then-not-is_met-clause-none c = λ gone reach.
     let k = c.args.self.now in
-    let is = slice_get_read k.stretches.items (length k.stretches.items) c.loop-next.next c.index-stretch.result.now refl (omega arith) c.index-stretch.ensures in
-    let on = walk_on k c.args.bytes (news k c.args.bytes c.loop-next.moved.at.items) c.loop-next.at c.loop-next.next c.index-stretch.result.now c.in_ok-at-2.at (c.loop-next.next + 1) c.loop-next.invariant.walked is (omega arith) c.in_ok-at-2.ensures.value c.in_ok-at-2.ensures.in_code (omega arith) in
+    let is = slice_get_read k.blocks.items (length k.blocks.items) c.loop-next.next c.index-block.result.now refl (omega arith) c.index-block.ensures in
+    let on = walk_on k c.args.bytes (news k c.args.bytes c.loop-next.moved.at.items) c.loop-next.at c.loop-next.next c.index-block.result.now c.in_ok-at-2.at (c.loop-next.next + 1) c.loop-next.invariant.walked is (omega arith) c.in_ok-at-2.ensures.value c.in_ok-at-2.ensures.in_code (omega arith) in
     let walked = subst (λ new. IsWalked k c.args.bytes new c.in_ok-at-2.at (c.loop-next.next + 1)) (news_on k c.args.bytes c.loop-next.moved.at.items c.push.new.self.items c.loop-next.at c.in_ok-push.ensures.items) on in
     let met : c.is_met.result ≡ true = c.is_met.ensures.none (refused_by k c.args.bytes gone (news k c.args.bytes c.push.new.self.items) c.loop-next.moved.by c.in_ok-at-2.at (c.loop-next.next + 1) c.requires.laid.here walked c.loop-next.invariant.by reach) in
     let not : c.is_met.result ≡ false = c.if-not-is_met.true in
@@ -78,12 +78,12 @@ returns-then-not-is_met-clause-none c = λ gone reach.
 pub loop-next-preserved : goal.loop-next-preserved
 loop-next-preserved c =
     let k = c.args.self.now in
-    let is = slice_get_read k.stretches.items (length k.stretches.items) c.loop-next.next c.index-stretch.result.now refl (omega arith) c.index-stretch.ensures in
-    let on = walk_on k c.args.bytes (news k c.args.bytes c.loop-next.moved.at.items) c.loop-next.at c.loop-next.next c.index-stretch.result.now c.in_ok-at-2.at (c.loop-next.next + 1) c.loop-next.invariant.walked is (omega arith) c.in_ok-at-2.ensures.value c.in_ok-at-2.ensures.in_code (omega arith) in
+    let is = slice_get_read k.blocks.items (length k.blocks.items) c.loop-next.next c.index-block.result.now refl (omega arith) c.index-block.ensures in
+    let on = walk_on k c.args.bytes (news k c.args.bytes c.loop-next.moved.at.items) c.loop-next.at c.loop-next.next c.index-block.result.now c.in_ok-at-2.at (c.loop-next.next + 1) c.loop-next.invariant.walked is (omega arith) c.in_ok-at-2.ensures.value c.in_ok-at-2.ensures.in_code (omega arith) in
     let met : c.is_met.result ≡ true = c.if-not-is_met.false in
     record {
       walked = subst (λ new. IsWalked k c.args.bytes new c.in_ok-at-2.at (c.loop-next.next + 1)) (news_on k c.args.bytes c.loop-next.moved.at.items c.push.new.self.items c.loop-next.at c.in_ok-push.ensures.items) on;
-      known = seen_on k (news k c.args.bytes c.loop-next.moved.at.items) (news k c.args.bytes c.push.new.self.items) c.loop-next.moved.by c.loop-next.at c.loop-next.next c.index-stretch.result.now c.requires.laid c.loop-next.invariant.walked.count is c.loop-next.invariant.known (sym (news_on k c.args.bytes c.loop-next.moved.at.items c.push.new.self.items c.loop-next.at c.in_ok-push.ensures.items)) c.loop-next.invariant.by (c.is_met.ensures.own met) (c.is_met.ensures.callers met);
+      known = seen_on k (news k c.args.bytes c.loop-next.moved.at.items) (news k c.args.bytes c.push.new.self.items) c.loop-next.moved.by c.loop-next.at c.loop-next.next c.index-block.result.now c.requires.laid c.loop-next.invariant.walked.count is c.loop-next.invariant.known (sym (news_on k c.args.bytes c.loop-next.moved.at.items c.push.new.self.items c.loop-next.at c.in_ok-push.ensures.items)) c.loop-next.invariant.by (c.is_met.ensures.own met) (c.is_met.ensures.callers met);
       by = c.loop-next.invariant.by;
     }
 

@@ -10,4 +10,4 @@ invariant-loop-next l = record {
 }
 
 abbrev pub decreases-loop-next : goal.decreases-loop-next
-decreases-loop-next l = length l.self.stretches.items - l.next
+decreases-loop-next l = length l.self.blocks.items - l.next

@@ -1,13 +1,13 @@
 use Rattle.std.proofs.Common.{◌∙◌, Some, ap}
 use Rattle.std.specs.Prelude.{slice_set}
 use Rattle.listing_draft.specs.Drafted.{Drafted}
-use Rattle.listing_draft.specs.Held.{names_of}
-use Rattle.listing_draft.proofs.Drafts.{held_aimed, lines_held_aimed, names_set}
+use Rattle.listing_draft.specs.Invariant.{names_of}
+use Rattle.listing_draft.proofs.Drafts.{draft_after_aim, lines_after_aim, names_set}
 use Rattle.listing_draft.proofs.draft.Draft.aim.Goals as goal
 
 pub invariant_of-self : goal.invariant_of-self
 invariant_of-self c = record {
-  draft = held_aimed c.self.inside.listing c.self.inside.kept (names_of c.self.inside.aims.items) _ c.args.self.now c.args.place c.args.name.items c.self.view_is c.self.invariant.draft c.requires.within c.requires.kept c.requires.op
+  draft = draft_after_aim c.self.inside.listing c.self.inside.kept (names_of c.self.inside.aims.items) _ c.args.self.now c.args.place c.args.name.items c.self.view_is c.self.invariant.draft c.requires.within c.requires.kept c.requires.op
       (names_set c.self.inside.aims.items c.args.place c.args.name);
   same = λ e. absurd (cc);
 }
@@ -17,5 +17,5 @@ returns-clause-aims c = names_set c.self.inside.aims.items c.args.place c.args.n
 
 pub returns-clause-lines : goal.returns-clause-lines
 returns-clause-lines c =
-    lines_held_aimed c.self.inside.listing c.self.inside.kept (names_of c.self.inside.aims.items) _ c.args.self.now c.args.place c.args.name.items c.self.view_is c.self.invariant.draft c.requires.within c.requires.kept c.requires.op
+    lines_after_aim c.self.inside.listing c.self.inside.kept (names_of c.self.inside.aims.items) _ c.args.self.now c.args.place c.args.name.items c.self.view_is c.self.invariant.draft c.requires.within c.requires.kept c.requires.op
     (names_set c.self.inside.aims.items c.args.place c.args.name)

@@ -3,7 +3,7 @@ use Rattle.std.specs.Prelude.{slice_get}
 use Rattle.kept_places.specs.Marks.{IsNode}
 use Rattle.thumb_model.specs.Listing.{is_op_place, places_of}
 use Rattle.listing_draft.specs.Drafted.{name_in, stands, Drafted}
-use Rattle.listing_draft.specs.Held.{IsDraft}
+use Rattle.listing_draft.specs.Invariant.{IsDraft}
 use Rattle.listing_draft.proofs.Drafts.{found_within, leads_nowhere, leads_on, op_within}
 use Rattle.listing_draft.proofs.draft.Draft.goes_to.Goals as goal
 

@@ -1,6 +1,6 @@
 use Rattle.std.proofs.Common.{subst}
 use Rattle.listing_parser.specs.Targets.{DefineOnce}
-use Rattle.listing_draft.specs.Held.{names_of}
+use Rattle.listing_draft.specs.Invariant.{names_of}
 use Rattle.listing_draft.proofs.Drafts.{new_draft, new_lines}
 use Rattle.listing_draft.proofs.draft.Draft.new.Goals as goal
 

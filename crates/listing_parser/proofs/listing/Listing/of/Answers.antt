@@ -1,5 +1,5 @@
 use Rattle.std.proofs.Common.{List, map, subst, sym}
-use Rattle.listing_parser.specs.declared.line.Line.{Line as Lines}
+use Rattle.listing_parser.specs.declared.line.ListingLine.{ListingLine as Lines}
 use Rattle.listing_parser.specs.Targets.{DefineOnce}
 use Rattle.listing_parser.specs.Views.{line_view}
 use Rattle.listing_parser.proofs.listing.Listing.of.Goals as goal

@@ -1,13 +1,13 @@
 use Rattle.std.proofs.Common.{◌≡◌, ◌∙◌, Bool, true, false, ℕ, List, [], Option, Some, None, sym, ap, refl, subst}
 use Rattle.std.specs.Prelude.{slice_get}
-use Rattle.thumb_model.specs.Listing.{Name, Line, Place, code_of, place_of, places_of, labels_from, is_op_place}
+use Rattle.thumb_model.specs.Listing.{Name, ListingLine, Place, code_of, place_of, places_of, labels_from, is_op_place}
 use Rattle.thumb_model.specs.Steps.{label_place}
 use Rattle.listing_parser.specs.Targets.{DefineOnce}
 use Rattle.listing_parser.proofs.TwiceLemmas.{once_none}
 use Rattle.listing_parser.proofs.LabelLemmas.{one_label, code_place}
 use Rattle.listing_parser.proofs.listing.Listing.place_of.Goals as goal
 
-told : (name : Name) (ls all : List Line) (o : Option ℕ) → ls ≡ all → DefineOnce ls → o ≡ label_place name (labels_from 0 all) → code_place (places_of all) o ≡ place_of (code_of all) name
+told : (name : Name) (ls all : List ListingLine) (o : Option ℕ) → ls ≡ all → DefineOnce ls → o ≡ label_place name (labels_from 0 all) → code_place (places_of all) o ≡ place_of (code_of all) name
 told name ls all o same once e =
     ap (code_place (places_of all)) e ∙ sym (one_label name (places_of all) 1 0 [] all (once_none all (subst DefineOnce same once)))
 

@@ -1,6 +1,6 @@
 use Rattle.std.proofs.Common.{◌≡◌, ◌∙◌, ◌+◌, ◌++◌, ◌∷◌, ◌&&◌, ℕ, true, List, drop, length, map, sym, ap, ap₂, append_assoc, arith, rules}
 use Rattle.std.proofs.lemmas.Grind.{common_steps}
-use Rattle.thumb_model.specs.Listing.{Line, call_count, labels_at, places_in, places_of}
+use Rattle.thumb_model.specs.Listing.{ListingLine, call_count, labels_at, places_in, places_of}
 use Rattle.thumb_model.specs.Naming.{points_of, returns_from}
 use Rattle.listing_parser.specs.Views.{line_view}
 use Rattle.thumb_machine.specs.Naming.{naming_of}
@@ -13,7 +13,7 @@ loop-line-preserved g c =
     let names = naming_of c.args.self.now in
     let places = places_of c.args.listing.now in
     let line = line_view c.line-item.result in
-    let behind : List Line = map line_view (drop (c.loop-line.line-index + 1) c.lines-line-items.result.now) in
+    let behind : List ListingLine = map line_view (drop (c.loop-line.line-index + 1) c.lines-line-items.result.now) in
     let tail : map line_view (drop c.loop-line.line-index c.lines-line-items.result.now) ≡ line_view c.line-item.result ∷ behind = grind (arith, common_steps) in
     let size : c.places-place.result ≡ length (places_in (line_view c.line-item.result).statement) = search rules in
     let call : c.next_call-call.result ≡ c.loop-line.call + call_count (places_in (line_view c.line-item.result).statement) = search rules in
@@ -34,6 +34,6 @@ loop-line-preserved g c =
           ∙ sym second
           ∙ sym first
           ∙ ap (all_pass g.T.PointTest.passes g.T.PointTest.after c.loop-line.test) (sym (append_assoc labels returns rest))
-          ∙ ap (λ (ls : List Line). all_pass g.T.PointTest.passes g.T.PointTest.after c.loop-line.test (points_from names places c.loop-line.call c.loop-line.place ls)) (sym tail)
+          ∙ ap (λ (ls : List ListingLine). all_pass g.T.PointTest.passes g.T.PointTest.after c.loop-line.test (points_from names places c.loop-line.call c.loop-line.place ls)) (sym tail)
           ∙ c.loop-line.invariant.passes;
     }

@@ -6,12 +6,12 @@ use Rattle.rule_model.specs.Rules.{Rule}
 use Rattle.rule_model.specs.Rewriting.{lines_after, IsFirst}
 use Rattle.kept_places.specs.Marks.{rank}
 use Rattle.edited_listing.specs.Edited.{Edited, lines_now, marks}
-use Rattle.window_runs.specs.declared.rows.Row.{Row}
+use Rattle.window_runs.specs.declared.rows.WindowPlace.{WindowPlace}
 use Rattle.window_runs.specs.Rows.{rows_from}
 use Rattle.window_runs.specs.Runs.{run}
 use Rattle.window_rewrite.specs.Choices.{setting_of, table_in, NoneAt}
 use Rattle.window_rewrite.specs.Fitting.{NoneReaches}
-use Rattle.window_rewrite.specs.Rewriting.{replacement_of, IsWhole}
+use Rattle.window_rewrite.specs.TableRewriting.{replacement_of, IsWhole}
 use Rattle.window_rewrite.specs.Scenes.{lines_of}
 use Rattle.window_rewrite.proofs.Chosen.{none_there}
 use Rattle.window_rewrite.proofs.DueScenes.{tried_idle, tried_same}
@@ -21,7 +21,7 @@ pub returns-then-not-may_begin-clause-tried : goal.returns-then-not-may_begin-cl
 returns-then-not-may_begin-clause-tried g c =
     let table : List (List Rule) = table_in c.args.rules.now in
     let at : ℕ = rank (marks c.args.scene.now.listing) c.args.place in
-    let rows : List Row = drop at (rows_from false (lines_of c.args.scene.now)) in
+    let rows : List WindowPlace = drop at (rows_from false (lines_of c.args.scene.now)) in
     tried_idle (setting_of c.args.rules.now) c.args.scene.now c.args.scene.now c.args.self.now c.args.place c.requires.tried refl
     (none_there false c.args.rules.now.costs.now c.args.rules.now.base c.args.rules.now.longest table (lines_of c.args.scene.now) at (run true c.args.rules.now.longest rows) (run true c.args.rules.now.longest rows)
     c.requires.ready.fit refl refl (c.may_begin.ensures c.if-not-may_begin.true rows c.first_letter.ensures c.args.rules.now.longest))

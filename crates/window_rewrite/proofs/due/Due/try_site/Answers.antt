@@ -7,7 +7,7 @@ use Rattle.window_rewrite.specs.declared.choice.Replacement.{Replacement as Made
 use Rattle.window_rewrite.specs.declared.due.Due.{Due}
 use Rattle.window_rewrite.specs.Choices.{choice_of, setting_of, IsBest, NoneAt}
 use Rattle.window_rewrite.specs.Due.{AreTried}
-use Rattle.window_rewrite.specs.Rewriting.{replacement_of, IsWhole}
+use Rattle.window_rewrite.specs.TableRewriting.{replacement_of, IsWhole}
 use Rattle.window_rewrite.specs.Scenes.{lines_of}
 use Rattle.window_rewrite.proofs.DueScenes.{first_here, tried_idle, tried_refused}
 use Rattle.window_rewrite.proofs.due.Due.try_site.Goals as goal

@@ -7,7 +7,7 @@ use Rattle.rule_table.specs.Views.{family_of, rule_of}
 use Rattle.table_audit.specs.Families.{entry_at}
 use Rattle.table_audit.specs.Soundness.{rewriting_rule}
 use Rattle.window_rewrite.specs.Rules.{is_lighter, IsNoted}
-use Rattle.window_rewrite.specs.Shapes.{blind}
+use Rattle.window_rewrite.specs.Hashes.{blind}
 use Rattle.window_rewrite.proofs.Heads.{family_noted}
 use Rattle.window_rewrite.proofs.marks.Marks.add_family.Goals as goal
 
