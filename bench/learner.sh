@@ -95,5 +95,5 @@ if command -v perf > /dev/null; then
     for listing in "${listings[@]}"; do perf record -q -e cpu-clock -o "$work/perf.$((number += 1))" "$proved" < "$work/given/$(basename "$listing")" > "$work/proved.table" 2> "$work/told" || true; done
     for n in $(seq "$number"); do perf report -i "$work/perf.$n" --no-children --stdio -n 2> "$work/told"; done | grep -v '^#' | awk 'NF > 3 { $1 = $2; print }' > "$work/counts"
     awk 'NR == FNR { all += $1; next } { $1 = 100 * $1 / all; print }' "$work/counts" "$work/counts" > "$work/seen"
-    echo "proved: outcomes $(share 'outcomes'), states $(share 'window_exec|word_bits'), formulas $(share 'bit_blast|cnf_gates'), solver $(share 'cdcl_core|unit_propagation|clause_arena|clause_model')"
+    echo "proved: outcomes $(share 'fingerprints'), states $(share 'window_exec|word_bits'), formulas $(share 'bit_blast|cnf_gates'), solver $(share 'cdcl_core|unit_propagation|clause_arena|clause_model')"
 fi

@@ -10,5 +10,11 @@ pub mod Letters
 pub mod PrintLemmas
 pub mod SequenceLemmas
 pub mod StateLemmas
-pub mod Candidates
+pub mod PrintCandidates
 pub mod Alike
+pub mod Tried
+pub mod KeptRegisters
+pub mod Holding
+pub mod Looking
+pub mod Growing
+pub mod Choosing

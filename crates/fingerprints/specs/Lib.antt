@@ -1,9 +1,15 @@
+pub mod Candidates
 pub mod Columns
 pub mod Index
 pub mod Lanes
 pub mod Laws
+pub mod Looks
+pub mod OutcomeColumns
+pub mod Outcomes
 pub mod Print
 pub mod Seeded
 pub mod Sequences
+pub mod Tables
+pub mod Trials
 pub mod WordLanes
 pub mod Words

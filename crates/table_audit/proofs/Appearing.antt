@@ -12,7 +12,7 @@ use Rattle.rule_table.specs.Canonical.{firsts, has, with_first, numbers_of, appe
 use Rattle.rule_table.proofs.Orders.{low-step, instr-step, firsts-grows}
 use Rattle.table_audit.specs.Shorter.{named_count}
 use Rattle.table_audit.specs.Orders.{IsAstray, IsInOrder}
-use Rattle.fingerprints.proofs.Candidates.{numbers_split}
+use Rattle.fingerprints.proofs.PrintCandidates.{numbers_split}
 
 -- ---- r0, r1 and so on ----
 

@@ -6,13 +6,13 @@ use Rattle.thumb_instr.specs.declared.instr.Instr.{Instr}
 use Rattle.thumb_instr.specs.Items.{has, is_in_masks}
 use Rattle.seq_enum.specs.Costs.{AreCosts, weight_under}
 use Rattle.seq_enum.specs.Alphabet.{alphabet}
-use Rattle.outcomes.specs.declared.trials.Trial.{Trial}
-use Rattle.outcomes.specs.Trials.{AreTrials}
-use Rattle.outcomes.specs.Outcomes as table
-use Rattle.outcomes.specs.Outcomes.{Extent}
-use Rattle.outcomes.specs.Candidates.{AreCandidates, added_for}
-use Rattle.outcomes.proofs.Choosing.{told_or_candidate, few_added}
-use Rattle.outcomes.proofs.Growing.{below_more}
+use Rattle.fingerprints.specs.declared.trials.Trial.{Trial}
+use Rattle.fingerprints.specs.Trials.{AreTrials}
+use Rattle.fingerprints.specs.Outcomes as table
+use Rattle.fingerprints.specs.Outcomes.{Extent}
+use Rattle.fingerprints.specs.Candidates.{AreCandidates, added_for}
+use Rattle.fingerprints.proofs.Choosing.{told_or_candidate, few_added}
+use Rattle.fingerprints.proofs.Growing.{below_more}
 use Rattle.rule_table.specs.Header.{Header}
 use Rattle.rule_table.specs.Table.{Rule, Table}
 use Rattle.table_audit.specs.Shorter.{alphabet_registers, sequences_below, weight_in, IsBelow, is_lighter, below}

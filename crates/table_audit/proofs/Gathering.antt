@@ -12,10 +12,10 @@ use Rattle.seq_enum.specs.Alphabet.{numbers_from, ascends_from, words, sequences
 use Rattle.seq_enum.specs.Costs.{cost_under, weight_under}
 use Rattle.seq_enum.proofs.Numbered.{get_front, get_back, get-flat_map, get-flat_map-digits, length-numbers, numbers_at}
 use Rattle.seq_enum.proofs.Words.{length-words, word_length, power_small}
-use Rattle.outcomes.specs.Outcomes.{sequences_below}
-use Rattle.outcomes.proofs.Growing.{below_none, below_more, below_longest}
-use Rattle.outcomes.proofs.Looking.{filter_has, filter_in, filter_does, filter_ascends, numbers_ascend}
-use Rattle.fingerprints.proofs.Candidates.{numbers_split}
+use Rattle.fingerprints.specs.Outcomes.{sequences_below}
+use Rattle.fingerprints.proofs.Growing.{below_none, below_more, below_longest}
+use Rattle.fingerprints.proofs.Looking.{filter_has, filter_in, filter_does, filter_ascends, numbers_ascend}
+use Rattle.fingerprints.proofs.PrintCandidates.{numbers_split}
 use Rattle.table_audit.specs.Shorter.{is_lighter}
 use Rattle.table_audit.specs.Lighter.{AreLighter, is_light_letter, is_light_at}
 use Rattle.table_audit.proofs.Below.{weight_push, few_numbers}

@@ -12,7 +12,7 @@ use Rattle.seq_enum.specs.Alphabet.{numbers_from, alphabet, words, sequences, se
 use Rattle.seq_enum.specs.Places.{sum_below}
 use Rattle.seq_enum.proofs.Numbered.{get_front, get_back, flat_map_from, get-flat_map}
 use Rattle.seq_enum.proofs.Words.{length-words, words_parts}
-use Rattle.fingerprints.proofs.Candidates.{numbers_split, length_within}
+use Rattle.fingerprints.proofs.PrintCandidates.{numbers_split, length_within}
 use Rattle.table_audit.specs.Shorter.{sequences_below}
 
 -- all sequences are those below n instructions and the longer ones behind them

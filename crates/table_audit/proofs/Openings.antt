@@ -12,8 +12,8 @@ use Rattle.rule_table.specs.Table.{Opened, Rule, Table, numbers_of}
 use Rattle.proof_logs.specs.Proofs.{IsSpentLog}
 use Rattle.proof_logs.specs.Costs.{spent_cost}
 use Rattle.table_audit.specs.Shorter.{alphabet_registers, formula_against, IsTold, below, lighter_at, below_at}
-use Rattle.outcomes.specs.Trials.{start_of, AreTrials}
-use Rattle.outcomes.specs.declared.trials.Trial.{Trial}
+use Rattle.fingerprints.specs.Trials.{start_of, AreTrials}
+use Rattle.fingerprints.specs.declared.trials.Trial.{Trial}
 use Rattle.table_audit.specs.Naming.{told_cost}
 use Rattle.table_audit.specs.Acceptance.{IsRightlyOpen}
 use Rattle.table_audit.specs.Costs.{log_cost, open_cost}

@@ -9,12 +9,12 @@ use Rattle.thumb_instr.specs.declared.instr.Instr.{Instr}
 use Rattle.window_exec.specs.declared.state.WState.{WState}
 use Rattle.window_exec.specs.State.{seen, Seen}
 use Rattle.seq_enum.specs.Alphabet.{ascends_from, alphabet, sequences, sequences_of}
-use Rattle.outcomes.specs.declared.trials.Trial.{Trial}
-use Rattle.outcomes.specs.Trials.{AreTrials, start_of}
-use Rattle.outcomes.specs.Outcomes as table
-use Rattle.outcomes.specs.Outcomes.{Extent}
-use Rattle.outcomes.specs.Candidates.{BeginsAt, grown_for}
-use Rattle.outcomes.specs.Tables.{IsFor}
+use Rattle.fingerprints.specs.declared.trials.Trial.{Trial}
+use Rattle.fingerprints.specs.Trials.{AreTrials, start_of}
+use Rattle.fingerprints.specs.Outcomes as table
+use Rattle.fingerprints.specs.Outcomes.{Extent}
+use Rattle.fingerprints.specs.Candidates.{BeginsAt, grown_for}
+use Rattle.fingerprints.specs.Tables.{IsFor}
 use Rattle.rule_table.specs.Table.{Rule, Table}
 use Rattle.table_audit.specs.declared.errors.EntryFault.TheVariants.{Untold}
 use Rattle.table_audit.specs.declared.errors.AuditError.TheVariants.{Entry}

@@ -10,9 +10,9 @@ use Rattle.thumb_instr.specs.declared.instr.Instr.{Instr}
 use Rattle.thumb_model.specs.Effect.{after_all}
 use Rattle.window_exec.specs.State.{values_of, seen, Seen, Differ, Tells}
 use Rattle.proof_logs.proofs.Turns.{got}
-use Rattle.outcomes.specs.declared.trials.Trial.{Trial}
+use Rattle.fingerprints.specs.declared.trials.Trial.{Trial}
 use Rattle.table_audit.specs.Shorter.{values_in, IsTold}
-use Rattle.outcomes.specs.Trials.{start_of, AreTrials}
+use Rattle.fingerprints.specs.Trials.{start_of, AreTrials}
 
 -- what a list's element becomes stands at its place
 pub listed : {X Y : Type 0} (f : X → Y) (xs : List X) (i : ℕ) (x : X) → i < length xs → x ≡ get_or xs i x → slice_get (map f xs) i ≡ Some (f x)

@@ -5,7 +5,7 @@ use Rattle.std.specs.List.Sorted.{IsNonDecreasingBy}
 use Rattle.std.proofs.lemmas.Bool.{and_parts, and_from, leb-true, ltb-true, ltb-false, ne_eqb}
 use Rattle.std.proofs.lemmas.Option.{same_Some}
 use Rattle.seq_enum.specs.Alphabet.{ascends_from}
-use Rattle.outcomes.proofs.Looking.{ascends_lower}
+use Rattle.fingerprints.proofs.Looking.{ascends_lower}
 use Rattle.rule_table.specs.declared.table.Open as code
 use Rattle.rule_table.specs.Views.{opened_of}
 use Rattle.rule_table.specs.Table.{Opened, numbers_of}

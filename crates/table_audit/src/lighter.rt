@@ -3,11 +3,11 @@
 ghost use Rattle.std.specs.Prelude.{◌≡◌, ◌<◌, ◌≤◌, ◌+◌, ◌*◌, ◌^◌, ◌++◌, None, IfOk, IsTrue, OnOk, MatchOption, filter, length};
 ghost use Rattle.seq_enum.specs.Alphabet.{numbers_from};
 ghost use Rattle.seq_enum.specs.Costs.{cost_under};
-ghost use Rattle.outcomes.specs.Outcomes.{sequences_below};
+ghost use Rattle.fingerprints.specs.Outcomes.{sequences_below};
 ghost use Rattle.table_audit.specs.Shorter.{is_lighter};
 ghost use Rattle.table_audit.specs.Lighter.{is_light_at, AreLighter};
 
-use outcomes::Outcomes;
+use fingerprints::Outcomes;
 use seq_enum::{Costs, weight};
 use std::alloc::{AllocError, Global};
 use thumb_instr::Instr;

@@ -7,7 +7,7 @@ ghost use Rattle.rule_table.specs.Views.{header_in, opened_of, rule_of, table_of
 ghost use Rattle.proof_logs.specs.Proofs.{Answers};
 ghost use Rattle.table_audit.specs.Shorter.{alphabet_registers, below};
 ghost use Rattle.table_audit.specs.Canonical.{HasFormula};
-ghost use Rattle.outcomes.specs.Trials.{AreTrials};
+ghost use Rattle.fingerprints.specs.Trials.{AreTrials};
 ghost use Rattle.table_audit.specs.Acceptance.{IsRightlyOpen, OpensVerdict};
 ghost use Rattle.table_audit.specs.Costs.{open_cost};
 ghost use Rattle.table_audit.specs.Naming.{told_cost};
@@ -16,7 +16,7 @@ use crate::errors::{AuditError, EntryFault};
 use crate::sides::formula_against;
 use crate::widths::below_at;
 use cnf_gates::Memory;
-use outcomes::{Trial, is_told};
+use fingerprints::{Trial, is_told};
 use proof_logs::is_spent;
 use rule_table::{Entry, Open, Table};
 use std::alloc::Global;

@@ -10,7 +10,7 @@ ghost use Rattle.table_audit.specs.Acceptance.{lengths_below, WideVerdict};
 
 use crate::errors::AuditError;
 use crate::sides::with_scratch;
-use outcomes::count_below;
+use fingerprints::count_below;
 use rule_table::Table;
 use seq_enum::{Costs, Pool, seq_at, size, weight};
 use thumb_instr::Seq;

@@ -11,12 +11,12 @@ use Rattle.window_exec.specs.State.{values_of, seen, Differ}
 use Rattle.seq_enum.specs.Alphabet.{ascends_from, alphabet, sequences, sequences_of}
 use Rattle.seq_enum.specs.Costs.{AreCosts, weight_under}
 use Rattle.bit_blast.specs.Exactness.{IsMask}
-use Rattle.outcomes.specs.declared.trials.Trial.{Trial}
-use Rattle.outcomes.specs.Outcomes as table
-use Rattle.outcomes.specs.Outcomes.{Extent, grown_to}
-use Rattle.outcomes.specs.Candidates.{TellsFrom}
-use Rattle.outcomes.specs.Candidates as found
-use Rattle.outcomes.proofs.Choosing.{told_or_candidate}
+use Rattle.fingerprints.specs.declared.trials.Trial.{Trial}
+use Rattle.fingerprints.specs.Outcomes as table
+use Rattle.fingerprints.specs.Outcomes.{Extent, grown_to}
+use Rattle.fingerprints.specs.Candidates.{TellsFrom}
+use Rattle.fingerprints.specs.Candidates as found
+use Rattle.fingerprints.proofs.Choosing.{told_or_candidate}
 use Rattle.table_audit.specs.Shorter.{alphabet_registers, sequences_below}
 use Rattle.table_audit.specs.Acceptance.{lengths_below}
 use Rattle.table_audit.proofs.Numbering.{below_in, below_from}

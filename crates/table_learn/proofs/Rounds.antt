@@ -22,9 +22,9 @@ use Rattle.table_learn.specs.Searching.{width_at, AreCandidates, IsGrown, Earned
 use Rattle.table_learn.specs.Lengths.{lines_length, rules_length}
 use Rattle.table_learn.specs.Progress.{Progress, HasLearnt, table_with, states_in, rules_in, search_cost, drop_cost}
 use Rattle.table_learn.specs.Dropping.{IsSided, runs_on}
-use Rattle.outcomes.specs.declared.tables.Tables.{Tables}
-use Rattle.outcomes.specs.Outcomes.{Extent}
-use Rattle.outcomes.specs.Tables.{AreTables, IsFor}
+use Rattle.fingerprints.specs.declared.tables.Tables.{Tables}
+use Rattle.fingerprints.specs.Outcomes.{Extent}
+use Rattle.fingerprints.specs.Tables.{AreTables, IsFor}
 use Rattle.seq_enum.specs.Alphabet.{alphabet}
 use Rattle.seq_enum.proofs.Numbered.{get_front}
 use Rattle.table_learn.specs.Keeping.{AreKept, IsOfFirst}

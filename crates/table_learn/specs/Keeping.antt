@@ -2,9 +2,9 @@
 use Rattle.std.specs.Prelude.{ℕ, ◌≡◌, List, Some, slice_get}
 use Rattle.window_exec.specs.declared.state.WState.{WState}
 use Rattle.window_exec.specs.State.{seen, Seen}
-use Rattle.outcomes.specs.declared.tables.Tables.{Tables}
-use Rattle.outcomes.specs.Outcomes.{Extent}
-use Rattle.outcomes.specs.Tables.{AreTables, IsFor}
+use Rattle.fingerprints.specs.declared.tables.Tables.{Tables}
+use Rattle.fingerprints.specs.Outcomes.{Extent}
+use Rattle.fingerprints.specs.Tables.{AreTables, IsFor}
 
 -- they are of the pool's numbers and the first of the states
 abbrev pub AreKept : List ℕ → List Seen → Tables → Type 0

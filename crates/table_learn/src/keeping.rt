@@ -16,7 +16,7 @@ ghost use Rattle.table_learn.specs.Keeping.{AreKept, IsOfFirst};
 use crate::ordering::in_order;
 use crate::settings::{Settings, hold};
 use crate::window::Window;
-use outcomes::{Outcomes, Tables, Trial};
+use fingerprints::{Outcomes, Tables, Trial};
 use std::alloc::{AllocError, Global};
 use step_ledger::{Ledger, Steps};
 use window_exec::{WState, run_seq};
@@ -59,7 +59,14 @@ pub(crate) fn candidates<L: Ledger>(
     };
     let mut outcomes = tables.take(alloc, window.k, &settings.pool, start)?;
     let longest = window.longest_below(settings);
-    let found = outcomes::candidates(alloc, &mut outcomes, longest, &[trial], window.mask, steps)?;
+    let found = fingerprints::candidates(
+        alloc,
+        &mut outcomes,
+        longest,
+        &[trial],
+        window.mask,
+        steps,
+    )?;
     let numbers = in_order(alloc, settings, window, &outcomes, found)?;
     Ok(ShortList { numbers, outcomes })
 }

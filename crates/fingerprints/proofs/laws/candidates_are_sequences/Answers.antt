@@ -1,4 +1,4 @@
-use Rattle.fingerprints.proofs.Candidates.{candidate_is_sequence, sequence_is_candidate}
+use Rattle.fingerprints.proofs.PrintCandidates.{candidate_is_sequence, sequence_is_candidate}
 use Rattle.fingerprints.proofs.laws.candidates_are_sequences.Goals as goal
 
 pub returns : goal.returns

@@ -1,6 +1,6 @@
 use Rattle.std.proofs.Common.{◌≤◌, ◌<◌, ◌+◌, ◌-◌, ◌/◌, ◌∙◌, length, refl, sym, ap, subst, arith}
 use Rattle.seq_enum.specs.Costs.{weight_under}
-use Rattle.outcomes.specs.Outcomes.{sequences_below}
+use Rattle.fingerprints.specs.Outcomes.{sequences_below}
 use Rattle.table_audit.specs.Lighter.{AreLighter}
 use Rattle.table_audit.proofs.Gathering.{Queue, queue_begun, queue_there, queue_light, queue_small, queue_step, queue_done, few_enough, all_lighter}
 use Rattle.table_audit.proofs.lighter.few_lighter.Goals as goal

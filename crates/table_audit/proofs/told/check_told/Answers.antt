@@ -2,7 +2,7 @@ use Rattle.std.proofs.Common.{◌≡◌, ◌∙◌, ap, subst, arith}
 use Rattle.std.proofs.lemmas.Option.{MatchOption-at_none}
 use Rattle.window_exec.specs.declared.state.WState.{WState}
 use Rattle.seq_enum.specs.Alphabet.{alphabet}
-use Rattle.outcomes.specs.Tables.{AreTables}
+use Rattle.fingerprints.specs.Tables.{AreTables}
 use Rattle.table_audit.specs.Naming.{first_of}
 use Rattle.table_audit.proofs.Settling.{is_for_own}
 use Rattle.table_audit.proofs.told.check_told.Goals as goal

@@ -1,7 +1,7 @@
 use Rattle.std.proofs.Common.{◌≤◌, ◌+◌, drop, map, take, sum_by}
 use Rattle.rule_table.specs.Views.{rule_of, table_of}
 use Rattle.proof_logs.proofs.Turns.{Rest}
-use Rattle.outcomes.specs.Tables.{AreTables}
+use Rattle.fingerprints.specs.Tables.{AreTables}
 use Rattle.table_audit.specs.Naming.{first_of}
 use Rattle.table_audit.specs.Acceptance.{EntryVerdict, EntriesVerdict}
 use Rattle.table_audit.specs.Costs.{entry_cost}

@@ -3,11 +3,11 @@ use Rattle.std.proofs.lemmas.Option.{slice_get-get_or, slice_get-map, same_Some}
 use Rattle.std.specs.Option.{option_map}
 use Rattle.window_exec.specs.declared.state.WState.{WState}
 use Rattle.window_exec.specs.State.{seen, Seen}
-use Rattle.outcomes.specs.declared.trials.Trial.{Trial}
-use Rattle.outcomes.specs.Outcomes as table
-use Rattle.outcomes.specs.Outcomes.{Extent}
-use Rattle.outcomes.specs.Tables.{AreTables, IsFor}
-use Rattle.outcomes.proofs.Choosing.{few_added, grown_for_same}
+use Rattle.fingerprints.specs.declared.trials.Trial.{Trial}
+use Rattle.fingerprints.specs.Outcomes as table
+use Rattle.fingerprints.specs.Outcomes.{Extent}
+use Rattle.fingerprints.specs.Tables.{AreTables, IsFor}
+use Rattle.fingerprints.proofs.Choosing.{few_added, grown_for_same}
 use Rattle.table_learn.specs.Given.{settings_of}
 use Rattle.table_learn.specs.Found.{window_in}
 use Rattle.table_audit.specs.Acceptance.{lengths_below}

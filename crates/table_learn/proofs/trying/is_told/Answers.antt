@@ -4,7 +4,7 @@ use Rattle.std.proofs.lemmas.List.Folds.{list_any_at, list_any_none}
 use Rattle.std.proofs.lemmas.List.{get_or_default}
 use Rattle.window_exec.specs.declared.state.WState.{WState}
 use Rattle.window_exec.specs.State.{seen}
-use Rattle.outcomes.proofs.Tried.{one_more_passed}
+use Rattle.fingerprints.proofs.Tried.{one_more_passed}
 use Rattle.table_learn.specs.Tellings.{tells_apart}
 use Rattle.table_learn.proofs.Telling.{test_is}
 use Rattle.table_learn.proofs.Costs.{next_share}

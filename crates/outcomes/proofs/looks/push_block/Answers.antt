@@ -1,6 +1,0 @@
-use Rattle.std.proofs.Common.{◌==◌, ◌∙◌, sym, get_or}
-use Rattle.outcomes.proofs.Looking.{kept_none}
-use Rattle.outcomes.proofs.looks.push_block.Goals as goal
-
-pub returns : goal.returns
-returns c = c.requires.before ∙ sym (kept_none (λ q. get_or c.args.column.now q 0 == c.args.word) c.args.first 16 (c.is_in_block.ensures c.if-is_in_block.false))

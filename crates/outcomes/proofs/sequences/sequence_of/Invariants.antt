@@ -1,7 +1,0 @@
-use Rattle.std.proofs.Common.{◌≡◌, drop, slice_get}
-use Rattle.std.specs.List.{flat_map}
-use Rattle.seq_enum.specs.Alphabet.{numbers_from, words, sequences_of}
-use Rattle.outcomes.proofs.sequences.sequence_of.Given as goal
-
-abbrev pub invariant-loop-n : goal.invariant-loop-n
-invariant-loop-n l = slice_get (flat_map (words l.letters) (drop l.n (numbers_from 0 6))) l.left ≡ slice_get (sequences_of l.letters) l.number
