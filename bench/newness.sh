@@ -4,9 +4,9 @@
 # clauses that the plain solver learns of pigeons. Use: bench/newness.sh [LINES [TURNS]]
 . "$(dirname "$0")/common.sh"
 lines=${1:-50000} turns=${2:-5}
-take_crates proof_logs
+take_crates lrat_check
 prove_clause newness_times
-proved=$(build_proved newness_times "$top/bench/newness/proved.rs" proof_logs cnf_gates lrat_check step_ledger anyhow)
+proved=$(build_proved newness_times "$top/bench/newness/proved.rs" lrat_check cnf_gates step_ledger anyhow)
 solver=$(build_plain "$top/bench/solver/plain.rs") && mv "$solver" "$work/solver"
 plain=$(build_plain "$top/bench/newness/plain.rs")
 

@@ -8,8 +8,7 @@ ghost use Rattle.cnf_gates.specs.Cnf.{IsLiteral, AreLiterals};
 
 use anyhow::Context;
 use cnf_gates::Formula;
-use lrat_check::{Line, read_line};
-use proof_logs::is_spent;
+use lrat_check::{Line, is_spent, read_line};
 use std::alloc::{AllocError, Global};
 use std::io::Read;
 use std::time::Instant;

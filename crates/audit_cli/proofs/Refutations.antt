@@ -10,9 +10,9 @@ use Rattle.lrat_check.specs.Live.{found_in}
 use Rattle.lrat_check.specs.Checking.{State, live_at, Starts, Accepts as Leads}
 use Rattle.lrat_check.specs.Runs.{AcceptsAll, IsRefutation}
 use Rattle.clause_model.specs.Clauses.{numbered}
-use Rattle.proof_logs.specs.Proofs.{Known, started, without_all, Accepts, AllAccepted, added, additions, LinesVerdict, ProofVerdict}
-use Rattle.proof_logs.specs.Checked.{known_of}
-use Rattle.proof_logs.proofs.Checks.{begun_known, led_known, led_accepts, passed_accepted, refuted_next}
+use Rattle.lrat_check.specs.Proofs.{Known, started, without_all, Accepts, AllAccepted, added, additions, LinesVerdict, ProofVerdict}
+use Rattle.lrat_check.specs.Checked.{known_of}
+use Rattle.lrat_check.proofs.Checks.{begun_known, led_known, led_accepts, passed_accepted, refuted_next}
 
 -- ---- the state at the beginning ----
 

@@ -5,7 +5,7 @@ use Rattle.clause_model.specs.Clauses.{codes_of}
 use Rattle.lrat_check.specs.Runs.{IsRefutation}
 use Rattle.rule_table.specs.Header.{Header}
 use Rattle.rule_table.specs.Table.{Rule, Family, Table}
-use Rattle.proof_logs.proofs.Turns.{turn_each}
+use Rattle.lrat_check.proofs.Turns.{turn_each}
 use Rattle.table_audit.specs.declared.errors.EntryFault.TheVariants.{Proof, Unfinished}
 use Rattle.table_audit.specs.declared.errors.FamilyKind.TheVariants as kind
 use Rattle.table_audit.specs.declared.errors.AuditError.TheVariants.{Entry}

@@ -8,7 +8,7 @@ use Rattle.rule_table.specs.declared.header.Field.TheVariants.{Version, Regs, Le
 use Rattle.rule_table.specs.declared.header.HeaderLine.TheVariants.{Number, Costs}
 use Rattle.rule_table.specs.Header.{Header, IsHeader, IsWithin, number_in, has_line, since, blank}
 use Rattle.rule_table.specs.Table.{Opened, Rule, Table}
-use Rattle.proof_logs.specs.Proofs.{Tests, Then, InTurn}
+use Rattle.lrat_check.specs.Proofs.{Tests, Then, InTurn}
 use Rattle.table_audit.specs.declared.errors.AuditError.{AuditError}
 use Rattle.table_audit.specs.declared.errors.AuditError.TheVariants as audit
 use Rattle.table_audit.specs.declared.errors.EntryFault.TheVariants as fault

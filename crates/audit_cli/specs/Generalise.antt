@@ -4,7 +4,7 @@ use Rattle.thumb_model.specs.Effect.{AreWords, Equal}
 use Rattle.window_exec.specs.State.{values_of, Tells}
 use Rattle.clause_model.specs.Clauses.{codes_of}
 use Rattle.lrat_check.specs.Text.{Content, content_of}
-use Rattle.proof_logs.specs.Proofs.{IsSpentLog}
+use Rattle.lrat_check.specs.Proofs.{IsSpentLog}
 use Rattle.bit_blast.specs.Slots.{Byte, IsValue, instance}
 use Rattle.rule_table.specs.Table.{Rule, Family, Table, IsTable}
 use Rattle.table_audit.specs.Acceptance.{IsAccepted}

@@ -2,8 +2,7 @@
 use crate::rule_part::Given;
 use crate::texts::tell;
 use cdcl_core::Verdict;
-use lrat_check::{Checker, read_line};
-use proof_logs::check_proof;
+use lrat_check::{Checker, check_proof, read_line};
 use std::alloc::Global;
 use step_ledger::{Counted, Steps};
 

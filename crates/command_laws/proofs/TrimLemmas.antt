@@ -15,7 +15,7 @@ use Rattle.rule_table.specs.Header.{Header}
 use Rattle.rule_table.specs.Table.{Opened, Rule, Family, Table, IsRule, IsFamily, IsTable}
 use Rattle.rule_table.specs.Text.{Item, State, Entry, Left, Right, Mask, Proof, Logged, End, line_of, text_of_items, open_items, rule_items, family_items, header_items, items_of}
 use Rattle.rule_table.specs.Text as item
-use Rattle.proof_logs.specs.Proofs.{InTurn}
+use Rattle.lrat_check.specs.Proofs.{InTurn}
 use Rattle.table_audit.specs.declared.errors.EntryFault.TheVariants as fault
 use Rattle.table_audit.specs.declared.errors.AuditError.TheVariants as audit
 use Rattle.table_audit.specs.Shorter.{SidesFit, formula_of}

@@ -22,3 +22,12 @@ pub mod Spending
 pub mod Marking
 pub mod Backward
 pub mod Showing
+pub mod Turns
+pub mod Determined
+pub mod ClauseMembers
+pub mod Additions
+pub mod Newness
+pub mod Checks
+pub mod Sound
+pub mod Renamed
+pub mod Listed

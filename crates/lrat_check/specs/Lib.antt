@@ -1,10 +1,14 @@
+pub mod Checked
 pub mod Checking
 pub mod Costs
 pub mod Ending
 pub mod Faults
+pub mod Lists
 pub mod Live
 pub mod Meant
 pub mod Numbers
+pub mod ProofCosts
+pub mod Proofs
 pub mod Reading
 pub mod Runs
 pub mod Shown

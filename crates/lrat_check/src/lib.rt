@@ -1,13 +1,20 @@
-//! Proofs in the text format LRAT, and a checker that accepts only clauses that follow.
+//! Proofs in the text format LRAT, and a checker that accepts only clauses that follow; whole proofs
+//! that formulas have no model, and logs of searches that spent their budgets.
 #![tactic(auto)]
 
 mod checker;
+mod clause;
 mod deletion;
 mod entry;
 mod fault;
+mod kept_clauses;
 pub mod laws;
 mod line;
+mod lists;
+mod logs;
 mod meanings;
+mod proof_fault;
+mod proofs;
 mod propagation;
 mod shown;
 mod text;
@@ -17,5 +24,8 @@ mod words;
 pub use checker::Checker;
 pub use fault::LineFault;
 pub use line::{Addition, Deletion, Hint, Id, Line, VARIABLES};
+pub use logs::is_spent;
+pub use proof_fault::ProofFault;
+pub use proofs::check_proof;
 pub use text::{length_of_line, read_line, write_line};
 pub use trimming::trim;

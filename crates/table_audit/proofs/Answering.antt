@@ -9,10 +9,10 @@ use Rattle.bit_blast.specs.Differences.{sides_formula}
 use Rattle.bit_blast.proofs.Exact.{itself_ends_in_empty}
 use Rattle.std.specs.Result.{IsErrAnd}
 use Rattle.lrat_check.specs.Text.{Content}
-use Rattle.proof_logs.specs.declared.faults.ProofFault.{ProofFault}
-use Rattle.proof_logs.specs.declared.faults.ProofFault.TheVariants as proof
-use Rattle.proof_logs.specs.Proofs.{Answers, ProofVerdict}
-use Rattle.proof_logs.proofs.Renamed.{proof_renamed}
+use Rattle.lrat_check.specs.declared.proof_fault.ProofFault.{ProofFault}
+use Rattle.lrat_check.specs.declared.proof_fault.ProofFault.TheVariants as proof
+use Rattle.lrat_check.specs.Proofs.{Answers, ProofVerdict}
+use Rattle.lrat_check.proofs.Renamed.{proof_renamed}
 use Rattle.table_audit.specs.declared.errors.AuditError.{AuditError}
 use Rattle.table_audit.specs.declared.errors.AuditError.TheVariants.{Memory}
 

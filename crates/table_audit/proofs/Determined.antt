@@ -1,8 +1,8 @@
 -- The audit of a table has one answer.
 use Rattle.std.proofs.Common.{ℕ, ◌≡◌, ◌<◌, ◌≤◌, ◌⊎◌, inl, inr, Option, Some, None, Result, IfErr, refl, sym, ◌∙◌, ap, arith}
 use Rattle.rule_table.specs.Table.{Rule, Family, Table}
-use Rattle.proof_logs.specs.Proofs.{Answers}
-use Rattle.proof_logs.proofs.Determined.{IsOne, tests_one, then_one, turn_one, proof_one, passing_answers}
+use Rattle.lrat_check.specs.Proofs.{Answers}
+use Rattle.lrat_check.proofs.Determined.{IsOne, tests_one, then_one, turn_one, proof_one, passing_answers}
 use Rattle.table_audit.specs.declared.errors.AuditError.{AuditError}
 use Rattle.table_audit.specs.declared.errors.AuditError.TheVariants.{Entry, Memory}
 use Rattle.table_audit.specs.declared.errors.EntryFault.TheVariants.{Untold}

@@ -2,7 +2,7 @@
 use Rattle.std.proofs.Common.{◌≡◌, ℕ, ◌+◌, List, [], ◌∷◌, ◌++◌, Option, None, length, subst, arith}
 use Rattle.thumb_instr.specs.declared.instr.Instr.{Instr}
 use Rattle.rule_table.specs.Table.{Opened, Rule, Family, Table}
-use Rattle.proof_logs.specs.Proofs.{InTurn}
+use Rattle.lrat_check.specs.Proofs.{InTurn}
 use Rattle.table_audit.specs.declared.errors.AuditError.{AuditError}
 use Rattle.table_audit.specs.Shorter.{SidesFit}
 use Rattle.table_audit.specs.Acceptance.{IsUntold, IsRightlyOpen, OpenTest, EntryVerdict, FamilyVerdict, TableVerdict}

@@ -21,7 +21,7 @@ use Rattle.seq_enum.proofs.Numbered.{numbers_at, get_front, get_back}
 use Rattle.seq_enum.proofs.Fields.{numbers, within_numbers, number_by}
 use Rattle.rule_table.specs.Canonical.{appearing}
 use Rattle.rule_table.specs.Table.{Rule, Family, Table}
-use Rattle.proof_logs.proofs.Turns.{turn_each}
+use Rattle.lrat_check.proofs.Turns.{turn_each}
 use Rattle.table_audit.specs.Shorter.{IsCanonicalSide, SidesFit}
 use Rattle.table_audit.specs.Families.{entry_at, symbol_of, values_of, raised}
 use Rattle.table_audit.specs.Acceptance.{EntryVerdict, IsAccepted}

@@ -10,7 +10,7 @@ use Rattle.seq_enum.specs.Places.{sum_below}
 use Rattle.seq_enum.proofs.Mnemonics.{size_formula}
 use Rattle.rule_table.specs.declared.header.Field.TheVariants.{Regs, Left}
 use Rattle.rule_table.specs.Table.{Table, IsTable}
-use Rattle.proof_logs.proofs.Turns.{turn_each}
+use Rattle.lrat_check.proofs.Turns.{turn_each}
 use Rattle.table_audit.specs.Shorter.{sequences_below}
 use Rattle.table_audit.specs.Acceptance.{StateTest, StatesVerdict, lengths_below, WideVerdict}
 use Rattle.table_audit.proofs.Numbering.{length-sequences_below}

@@ -9,8 +9,8 @@ use Rattle.lrat_check.specs.Text.{Content}
 use Rattle.window_exec.specs.State.{Seen}
 use Rattle.seq_enum.specs.Alphabet.{ascends_from}
 use Rattle.rule_table.specs.Table.{Opened, Rule, Table, numbers_of}
-use Rattle.proof_logs.specs.Proofs.{IsSpentLog}
-use Rattle.proof_logs.specs.Costs.{spent_cost}
+use Rattle.lrat_check.specs.Proofs.{IsSpentLog}
+use Rattle.lrat_check.specs.ProofCosts.{spent_cost}
 use Rattle.table_audit.specs.Shorter.{alphabet_registers, formula_against, IsTold, below, lighter_at, below_at}
 use Rattle.fingerprints.specs.Trials.{start_of, AreTrials}
 use Rattle.fingerprints.specs.declared.trials.Trial.{Trial}

@@ -5,8 +5,8 @@ use Rattle.std.specs.List.{HoldsAt}
 use Rattle.std.specs.Option.{option_map}
 use Rattle.std.proofs.lemmas.Option.{slice_get-map, slice_get_past, slice_get-get_or}
 use Rattle.rule_table.specs.Table.{Rule, Family, Table}
-use Rattle.proof_logs.specs.Proofs.{Answers}
-use Rattle.proof_logs.proofs.Turns.{turn_each}
+use Rattle.lrat_check.specs.Proofs.{Answers}
+use Rattle.lrat_check.proofs.Turns.{turn_each}
 use Rattle.table_audit.specs.declared.errors.AuditError.{AuditError}
 use Rattle.table_audit.specs.declared.errors.AuditError.TheVariants.{Memory}
 use Rattle.table_audit.specs.declared.errors.AuditError.TheVariants as error

@@ -18,8 +18,8 @@ use Rattle.bit_blast.proofs.Holes.{side_itself}
 use Rattle.rule_table.specs.declared.header.Field.TheVariants.{Scratch}
 use Rattle.rule_table.specs.Header.{Header}
 use Rattle.rule_table.specs.Table.{Rule, Family, Table, IsState, IsRule, IsTable}
-use Rattle.proof_logs.proofs.Turns.{turn_each}
-use Rattle.proof_logs.proofs.Sound.{proved_unsatisfied}
+use Rattle.lrat_check.proofs.Turns.{turn_each}
+use Rattle.lrat_check.proofs.Sound.{proved_unsatisfied}
 use Rattle.table_audit.specs.declared.errors.EntryFault.TheVariants.{Proof, Unfinished}
 use Rattle.table_audit.specs.declared.errors.AuditError.TheVariants.{Entry}
 use Rattle.table_audit.specs.declared.errors.AuditError.TheVariants as error

@@ -9,7 +9,7 @@ use Rattle.std.proofs.lemmas.Option.{slice_get_cases, slice_get-map}
 use Rattle.thumb_instr.specs.declared.instr.Instr.{Instr}
 use Rattle.thumb_model.specs.Effect.{after_all}
 use Rattle.window_exec.specs.State.{values_of, seen, Seen, Differ, Tells}
-use Rattle.proof_logs.proofs.Turns.{got}
+use Rattle.lrat_check.proofs.Turns.{got}
 use Rattle.fingerprints.specs.declared.trials.Trial.{Trial}
 use Rattle.table_audit.specs.Shorter.{values_in, IsTold}
 use Rattle.fingerprints.specs.Trials.{start_of, AreTrials}

@@ -6,7 +6,7 @@ use Rattle.window_exec.specs.State.{Seen}
 use Rattle.fingerprints.specs.Seeded.{seeded_states}
 use Rattle.rule_table.specs.Header.{Header}
 use Rattle.rule_table.specs.Table.{Opened, Rule, Family, Table}
-use Rattle.proof_logs.specs.Proofs.{Tests, Then, InTurn, ProofVerdict, IsSpentLog}
+use Rattle.lrat_check.specs.Proofs.{Tests, Then, InTurn, ProofVerdict, IsSpentLog}
 use Rattle.table_audit.specs.declared.errors.EntryFault.TheVariants.{Sides, Proof, Unfinished, Untold, Open}
 use Rattle.table_audit.specs.declared.errors.AuditError.{AuditError}
 use Rattle.table_audit.specs.declared.errors.FamilyKind.TheVariants as family

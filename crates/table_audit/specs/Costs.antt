@@ -3,8 +3,8 @@ use Rattle.std.specs.Prelude.{ℕ, ◌+◌, ◌*◌, List, Option, Some, None, l
 use Rattle.thumb_instr.specs.declared.instr.Instr.{Instr}
 use Rattle.clause_model.specs.Clauses.{codes_of}
 use Rattle.rule_table.specs.Table.{Opened, Rule, Family, Table}
-use Rattle.proof_logs.specs.Proofs.{started}
-use Rattle.proof_logs.specs.Costs.{lines_cost, spent_cost}
+use Rattle.lrat_check.specs.Proofs.{started}
+use Rattle.lrat_check.specs.ProofCosts.{lines_cost, spent_cost}
 use Rattle.table_audit.specs.Shorter.{formula_against, formula_of, below, below_at}
 use Rattle.table_audit.specs.Families.{entry_of, raised_formula}
 

@@ -1,7 +1,7 @@
 -- The fault of a proof as that of an entry or a family, which has this number.
 use Rattle.std.specs.Prelude.{ℕ}
-use Rattle.proof_logs.specs.declared.faults.ProofFault.{ProofFault}
-use Rattle.proof_logs.specs.declared.faults.ProofFault.TheVariants as proof
+use Rattle.lrat_check.specs.declared.proof_fault.ProofFault.{ProofFault}
+use Rattle.lrat_check.specs.declared.proof_fault.ProofFault.TheVariants as proof
 use Rattle.table_audit.specs.declared.errors.EntryFault.TheVariants.{Proof, Unfinished}
 use Rattle.table_audit.specs.declared.errors.AuditError.{AuditError}
 use Rattle.table_audit.specs.declared.errors.FamilyKind.TheVariants as family

@@ -4,7 +4,7 @@ ghost use Rattle.std.specs.List.{list_any};
 ghost use Rattle.thumb_model.specs.Effect.{one_of};
 ghost use Rattle.bit_blast.specs.Slots.{filled, slot, instance};
 ghost use Rattle.rule_table.specs.Views.{family_of, header_in, rule_of, table_of};
-ghost use Rattle.proof_logs.specs.Proofs.{Answers};
+ghost use Rattle.lrat_check.specs.Proofs.{Answers};
 ghost use Rattle.table_audit.specs.declared.errors.AuditError.TheVariants.{Memory};
 ghost use Rattle.table_audit.specs.Canonical.{HasFormula};
 ghost use Rattle.table_audit.specs.Families.{entry_at, entry_of, family_at, is_hole, IsRaisable, raised_formula};
@@ -16,7 +16,7 @@ use crate::errors::{AuditError, FamilyKind};
 use crate::sides::alphabet_registers;
 use bit_blast::Symbol;
 use cnf_gates::{Formula, Memory as OfGates};
-use proof_logs::ProofFault;
+use lrat_check::ProofFault;
 use rule_table::{Entry, Family, Table};
 use seq_enum::Pool;
 use std::alloc::Global;
@@ -184,7 +184,7 @@ fn check_proof<L: Ledger>(
     ensures cost { steps.new ≤ steps.old + raised_cost (table_of table.now) (family_of family.now) (Some (rule_of entry.now)) }
 {
     let formula = family_formula(alloc, table, family, entry)?;
-    match proof_logs::check_proof(alloc, &formula, &family.proof, steps) {
+    match lrat_check::check_proof(alloc, &formula, &family.proof, steps) {
         Ok(()) => Ok(()),
         Err(fault) => Err(raised_fault(number, fault)),
     }

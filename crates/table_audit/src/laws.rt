@@ -2,7 +2,7 @@
 ghost use Rattle.std.specs.Prelude.{◌≡◌, Option, Result, IfErr};
 ghost use Rattle.rule_table.specs.declared.table.Table as code;
 ghost use Rattle.rule_table.specs.Table.{Table, IsTable};
-ghost use Rattle.proof_logs.specs.Proofs.{Answers};
+ghost use Rattle.lrat_check.specs.Proofs.{Answers};
 ghost use Rattle.table_audit.specs.declared.errors.AuditError.{AuditError};
 ghost use Rattle.table_audit.specs.Acceptance.{TableVerdict, IsAccepted};
 ghost use Rattle.table_audit.specs.Soundness.{IsSound, CheapestIsShortest};

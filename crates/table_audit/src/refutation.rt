@@ -1,7 +1,7 @@
 //! The proof of an entry.
 ghost use Rattle.std.specs.Prelude.{◌≡◌, ◌≤◌, ◌+◌, [], IsTrue};
 ghost use Rattle.rule_table.specs.Views.{header_in, rule_of, table_of};
-ghost use Rattle.proof_logs.specs.Proofs.{Answers};
+ghost use Rattle.lrat_check.specs.Proofs.{Answers};
 ghost use Rattle.table_audit.specs.declared.errors.AuditError.TheVariants.{Memory};
 ghost use Rattle.table_audit.specs.Canonical.{HasFormula};
 ghost use Rattle.table_audit.specs.Acceptance.{EntryProofVerdict};
@@ -10,7 +10,7 @@ ghost use Rattle.table_audit.specs.Costs.{proof_cost};
 
 use crate::errors::{AuditError, EntryFault};
 use crate::sides::entry_formula;
-use proof_logs::ProofFault;
+use lrat_check::ProofFault;
 use rule_table::{Entry, Table};
 use seq_enum::{Pool, number_of};
 use std::alloc::Global;
@@ -73,7 +73,7 @@ pub(crate) fn check_proof<L: Ledger>(
         return Ok(());
     }
     let formula = entry_formula(alloc, table, entry)?;
-    match proof_logs::check_proof(alloc, &formula, &entry.proof, steps) {
+    match lrat_check::check_proof(alloc, &formula, &entry.proof, steps) {
         Ok(()) => Ok(()),
         Err(fault) => Err(fault_of(number, fault)),
     }

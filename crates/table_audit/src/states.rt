@@ -3,7 +3,7 @@ ghost use Rattle.std.specs.Prelude.{◌≡◌, ◌↔◌, IsTrue, Some, slice_ge
 ghost use Rattle.window_exec.specs.State.{seen};
 ghost use Rattle.rule_table.specs.Views.{table_of};
 ghost use Rattle.table_audit.specs.declared.errors.AuditError.TheVariants.{Memory};
-ghost use Rattle.proof_logs.specs.Proofs.{Answers};
+ghost use Rattle.lrat_check.specs.Proofs.{Answers};
 ghost use Rattle.table_audit.specs.Acceptance.{StatesVerdict};
 
 use crate::errors::AuditError;

@@ -9,7 +9,7 @@ ghost use Rattle.fingerprints.specs.Trials.{AreTrials};
 ghost use Rattle.fingerprints.specs.Tables.{AreTables, IsFor};
 ghost use Rattle.rule_table.specs.Table.{IsTable, numbers_of};
 ghost use Rattle.rule_table.specs.Views.{header_in, opened_of, rule_of, table_of};
-ghost use Rattle.proof_logs.specs.Proofs.{Answers};
+ghost use Rattle.lrat_check.specs.Proofs.{Answers};
 ghost use Rattle.table_audit.specs.declared.errors.AuditError.TheVariants.{Memory, Entry as OfEntry};
 ghost use Rattle.table_audit.specs.declared.errors.EntryFault.TheVariants.{Untold};
 ghost use Rattle.table_audit.specs.Canonical.{HasFormula};

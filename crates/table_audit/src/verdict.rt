@@ -3,7 +3,7 @@ ghost use Rattle.std.specs.Prelude.{◌≡◌, ◌≤◌, ◌+◌, IfOk, true, l
 ghost use Rattle.seq_enum.specs.Alphabet.{ascends_from};
 ghost use Rattle.rule_table.specs.Table.{IsTable, numbers_of};
 ghost use Rattle.rule_table.specs.Views.{header_in, opened_of, rule_of, table_of};
-ghost use Rattle.proof_logs.specs.Proofs.{Answers, Then};
+ghost use Rattle.lrat_check.specs.Proofs.{Answers, Then};
 ghost use Rattle.fingerprints.specs.Tables.{AreTables};
 ghost use Rattle.table_audit.specs.Naming.{first_of};
 ghost use Rattle.table_audit.specs.Canonical.{HasFormula};

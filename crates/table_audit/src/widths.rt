@@ -3,7 +3,7 @@ ghost use Rattle.std.specs.Prelude.{◌≡◌, ◌<◌, ◌≤◌, IfSome, lengt
 ghost use Rattle.thumb_model.specs.Effect.{AreOver};
 ghost use Rattle.rule_table.specs.Table.{IsTable};
 ghost use Rattle.rule_table.specs.Views.{table_of};
-ghost use Rattle.proof_logs.specs.Proofs.{Answers};
+ghost use Rattle.lrat_check.specs.Proofs.{Answers};
 ghost use Rattle.table_audit.specs.declared.errors.AuditError.TheVariants.{Memory};
 ghost use Rattle.table_audit.specs.Shorter.{lighter_at, sequences_below};
 ghost use Rattle.table_audit.specs.Acceptance.{lengths_below, WideVerdict};

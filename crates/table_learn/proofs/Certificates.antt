@@ -22,8 +22,8 @@ use Rattle.lrat_check.specs.declared.line.Line.TheVariants.{Addition as Adding, 
 use Rattle.lrat_check.specs.declared.line.Addition.{Addition}
 use Rattle.lrat_check.specs.Numbers.{is_negative, IsHint}
 use Rattle.lrat_check.specs.Text.{Content, content_of, IsLine}
-use Rattle.proof_logs.specs.Proofs.{Known, started, with_clause, after_line, Accepts, AllAccepted, additions, IsSpentLog, EachIsNew, ProofVerdict}
-use Rattle.proof_logs.proofs.Checks.{same_known, accepted_passed}
+use Rattle.lrat_check.specs.Proofs.{Known, started, with_clause, after_line, Accepts, AllAccepted, additions, IsSpentLog, EachIsNew, ProofVerdict}
+use Rattle.lrat_check.proofs.Checks.{same_known, accepted_passed}
 use Rattle.cdcl_core.specs.Solved.{RefutesTidily, Adds, literals_in, with_log, Teaches, Refutes, IsLog}
 use Rattle.cdcl_core.proofs.Logs.{asserting_some, with_more}
 use Rattle.table_learn.specs.Learnt.{IsRefutation as IsRefutationOf, IsSpentSearch}

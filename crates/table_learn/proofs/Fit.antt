@@ -5,7 +5,7 @@ use Rattle.seq_enum.specs.Alphabet.{ascends_from}
 use Rattle.thumb_instr.specs.declared.instr.Instr.{Instr}
 use Rattle.window_exec.specs.State.{Seen}
 use Rattle.rule_table.specs.Table.{Opened, Rule, Table, numbers_of}
-use Rattle.proof_logs.specs.Proofs.{InTurn}
+use Rattle.lrat_check.specs.Proofs.{InTurn}
 use Rattle.table_audit.specs.declared.errors.EntryFault.TheVariants.{Proof, Unfinished}
 use Rattle.table_audit.specs.declared.errors.AuditError.TheVariants.{Entry}
 use Rattle.table_audit.specs.Shorter.{formula_of, formula_against, weight_in, below_at, is_named}

@@ -10,7 +10,7 @@ use Rattle.thumb_model.specs.Effect.{AreOver}
 use Rattle.window_exec.specs.State.{Seen}
 use Rattle.lrat_check.specs.declared.line.Line.{Line}
 use Rattle.lrat_check.specs.Text.{content_of, IsLine}
-use Rattle.proof_logs.proofs.Turns.{drop_got}
+use Rattle.lrat_check.proofs.Turns.{drop_got}
 use Rattle.bit_blast.specs.Differences.{sides_formula}
 use Rattle.bit_blast.specs.Exactness.{IsMask}
 use Rattle.rule_table.specs.Table.{Opened, Rule}

@@ -5,7 +5,7 @@ use Rattle.rule_table.specs.Table.{Table, IsTable}
 use Rattle.rule_table.specs.Text.{text_of}
 use Rattle.rule_table.specs.Views.{table_of}
 use Rattle.rule_table.specs.Reading.{Reads}
-use Rattle.proof_logs.specs.Proofs.{Answers}
+use Rattle.lrat_check.specs.Proofs.{Answers}
 use Rattle.table_audit.specs.declared.errors.AuditError.{AuditError}
 use Rattle.table_audit.specs.declared.errors.AuditError.TheVariants.{Memory}
 use Rattle.table_audit.specs.Acceptance.{TableVerdict}

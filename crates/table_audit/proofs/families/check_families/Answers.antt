@@ -1,6 +1,6 @@
 use Rattle.std.proofs.Common.{subst, ◌≡◌, slice_get, Some, map}
 use Rattle.rule_table.specs.Views.{family_of, table_of}
-use Rattle.proof_logs.proofs.Turns.{turn_step, turn_failed}
+use Rattle.lrat_check.proofs.Turns.{turn_step, turn_failed}
 use Rattle.table_audit.specs.declared.errors.AuditError.TheVariants.{Memory}
 use Rattle.table_audit.specs.Acceptance.{FamilyVerdict}
 use Rattle.table_audit.specs.Costs.{family_cost}

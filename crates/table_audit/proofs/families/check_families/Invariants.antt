@@ -1,6 +1,6 @@
 use Rattle.std.proofs.Common.{◌≤◌, ◌+◌, drop, map, take, sum_by}
 use Rattle.rule_table.specs.Views.{family_of, table_of}
-use Rattle.proof_logs.proofs.Turns.{Rest}
+use Rattle.lrat_check.proofs.Turns.{Rest}
 use Rattle.table_audit.specs.Acceptance.{FamilyVerdict, FamiliesVerdict}
 use Rattle.table_audit.specs.Costs.{family_cost}
 use Rattle.table_audit.proofs.families.check_families.Given as goal

@@ -1,7 +1,7 @@
 use Rattle.std.proofs.Common.{arith, inr, refl, sym, subst, ◌∙◌, ◌≡◌, slice_get, Some, map}
 use Rattle.std.proofs.lemmas.Bool.{false≢true}
 use Rattle.rule_table.specs.Views.{opened_of, rule_of, table_of}
-use Rattle.proof_logs.proofs.Turns.{turn_step, turn_fault}
+use Rattle.lrat_check.proofs.Turns.{turn_step, turn_fault}
 use Rattle.table_audit.specs.Acceptance.{OpenTest}
 use Rattle.table_audit.proofs.Tellings.{listed}
 use Rattle.table_audit.proofs.Counting.{entries_next, entries_stop, entries_end}

@@ -1,7 +1,7 @@
 use Rattle.std.proofs.Common.{◌≤◌, ◌+◌, drop, map, take, sum_by}
 use Rattle.rule_table.specs.Table.{Opened}
 use Rattle.rule_table.specs.Views.{opened_of, rule_of, table_of}
-use Rattle.proof_logs.proofs.Turns.{Rest}
+use Rattle.lrat_check.proofs.Turns.{Rest}
 use Rattle.table_audit.specs.Acceptance.{OpenTest, OpensVerdict}
 use Rattle.table_audit.specs.Costs.{open_cost}
 use Rattle.table_audit.specs.Naming.{told_cost}

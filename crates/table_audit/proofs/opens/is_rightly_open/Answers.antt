@@ -5,7 +5,7 @@ use Rattle.thumb_model.specs.Effect.{AreOver}
 use Rattle.clause_model.specs.Clauses.{codes_of}
 use Rattle.lrat_check.specs.Text.{content_of}
 use Rattle.rule_table.specs.Views.{opened_of, rule_of, table_of}
-use Rattle.proof_logs.specs.Costs.{spent_cost}
+use Rattle.lrat_check.specs.ProofCosts.{spent_cost}
 use Rattle.table_audit.specs.Shorter.{formula_against, IsTold, below_at}
 use Rattle.table_audit.proofs.Tellings.{told_is}
 use Rattle.table_audit.proofs.Walking.{over_more}

@@ -2,7 +2,7 @@ use Rattle.std.proofs.Common.{inr, refl, sym, ◌∙◌, rules, ◌<◌, length}
 use Rattle.std.proofs.lemmas.Bool.{false≢true}
 use Rattle.rule_table.specs.Views.{table_of}
 use Rattle.table_audit.specs.Acceptance.{StateTest}
-use Rattle.proof_logs.proofs.Turns.{turn_step, turn_fault}
+use Rattle.lrat_check.proofs.Turns.{turn_step, turn_fault}
 use Rattle.table_audit.proofs.Seeds.{seen_at}
 use Rattle.table_audit.proofs.states.check_states.Goals as goal
 

@@ -1,7 +1,7 @@
 use Rattle.std.proofs.Common.{drop, map}
 use Rattle.window_exec.specs.State.{seen}
 use Rattle.rule_table.specs.Views.{table_of}
-use Rattle.proof_logs.proofs.Turns.{Rest}
+use Rattle.lrat_check.proofs.Turns.{Rest}
 use Rattle.table_audit.specs.Acceptance.{StatesVerdict, StateTest}
 use Rattle.table_audit.proofs.states.check_states.Given as goal
 

@@ -2,7 +2,7 @@ use Rattle.std.proofs.Common.{subst, ◌≡◌, slice_get, Some, map}
 use Rattle.std.proofs.lemmas.Option.{get_or_from_slice_get, slice_get_within}
 use Rattle.rule_table.specs.Table.{IsRule}
 use Rattle.rule_table.specs.Views.{rule_of, table_of}
-use Rattle.proof_logs.proofs.Turns.{turn_step, turn_failed}
+use Rattle.lrat_check.proofs.Turns.{turn_step, turn_failed}
 use Rattle.table_audit.specs.declared.errors.AuditError.TheVariants.{Memory}
 use Rattle.table_audit.specs.Acceptance.{EntryVerdict}
 use Rattle.table_audit.specs.Costs.{entry_cost}

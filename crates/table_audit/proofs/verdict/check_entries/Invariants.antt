@@ -1,6 +1,6 @@
 use Rattle.std.proofs.Common.{◌≤◌, ◌+◌, drop, map, take, sum_by}
 use Rattle.rule_table.specs.Views.{rule_of, table_of}
-use Rattle.proof_logs.proofs.Turns.{Rest}
+use Rattle.lrat_check.proofs.Turns.{Rest}
 use Rattle.fingerprints.specs.Tables.{AreTables}
 use Rattle.table_audit.specs.Naming.{first_of}
 use Rattle.table_audit.specs.Acceptance.{EntryVerdict, EntriesVerdict}

@@ -1,0 +1,47 @@
+-- A loop over a list has the answer of a verdict on the elements in turn, where what is left has it.
+use Rattle.std.proofs.Common.{ℕ, ◌≡◌, ◌<◌, ◌≤◌, ◌+◌, ◌∷◌, ◌⊎◌, inl, inr, List, Option, Some, None, length, get_or, slice_get, drop, sym, ◌∙◌, ap, subst, add-one, refl, [], zero, suc, arith}
+use Rattle.std.proofs.Math.Seq.{drop-cons}
+use Rattle.std.proofs.lemmas.List.{drop_all}
+use Rattle.std.proofs.lemmas.Option.{slice_get-get_or, get_or_from_slice_get, slice_get_within}
+use Rattle.lrat_check.specs.Proofs.{Then, InTurn}
+
+-- the answer of the elements still to come is the whole's
+pub record Rest {X F : Type 0} (test : ℕ → X → Option F → Type 0) (m : ℕ) (xs : List X) (whole : Option F → Type 0) : Type 0 where
+  pub leads : (o : Option F) → InTurn test m xs o → whole o
+
+pub got : {X : Type 0} (xs : List X) (i : ℕ) (x : X) → i < length xs → x ≡ get_or xs i x → slice_get xs i ≡ Some x
+got xs i x h e = slice_get-get_or xs i x h ∙ ap (λ y. Some y) (sym e)
+
+pub drop_got : {X : Type 0} (xs : List X) (i : ℕ) (x : X) → slice_get xs i ≡ Some x → drop i xs ≡ x ∷ drop (i + 1) xs
+drop_got xs i x e =
+    let w : i < length xs = slice_get_within xs i x e in
+    let g : get_or xs i x ≡ x = get_or_from_slice_get xs i x x e in
+    rw (add-one, drop-cons xs i x, g) refl
+
+pub then_passed : {F : Type 0} (a b : Option F → Type 0) (o : Option F) → a None → b o → Then a b o
+then_passed a b None p q = (p, q)
+then_passed a b (Some f) p q = inr (p, q)
+
+pub turn_at : {X F : Type 0} (test : ℕ → X → Option F → Type 0) (m : ℕ) (xs : List X) (i : ℕ) (x : X) (o : Option F) → slice_get xs i ≡ Some x → Then (test m x) (InTurn test (m + 1) (drop (i + 1) xs)) o → InTurn test m (drop i xs) o
+turn_at test m xs i x o e p = subst (λ ys. InTurn test m ys o) (sym (drop_got xs i x e)) p
+
+pub turn_step : {X F : Type 0} (test : ℕ → X → Option F → Type 0) (m : ℕ) (xs : List X) (i : ℕ) (x : X) (whole : Option F → Type 0) → slice_get xs i ≡ Some x → Rest test m (drop i xs) whole → test m x None → Rest test (m + 1) (drop (i + 1) xs) whole
+turn_step test m xs i x whole e rest p = record { leads = λ o later. rest.leads o (turn_at test m xs i x o e (then_passed (test m x) (InTurn test (m + 1) (drop (i + 1) xs)) o p later)) }
+
+pub turn_fault : {X F : Type 0} (test : ℕ → X → Option F → Type 0) (m : ℕ) (xs : List X) (i : ℕ) (x : X) (whole : Option F → Type 0) (f : F) → slice_get xs i ≡ Some x → Rest test m (drop i xs) whole → test m x (Some f) → whole (Some f)
+turn_fault test m xs i x whole f e rest p = rest.leads (Some f) (turn_at test m xs i x (Some f) e (inl p))
+
+pub turn_end : {X F : Type 0} (test : ℕ → X → Option F → Type 0) (m : ℕ) (xs : List X) (i : ℕ) (whole : Option F → Type 0) → length xs ≤ i → Rest test m (drop i xs) whole → whole None
+turn_end test m xs i whole h rest = rest.leads None (subst (λ ys. InTurn test m ys None) (sym (drop_all i xs h)) tt)
+
+pub turn_failed : {X F : Type 0} (test : ℕ → X → Option F → Type 0) (m : ℕ) (xs : List X) (i : ℕ) (x : X) (whole : Option F → Type 0) (f g : F) → slice_get xs i ≡ Some x → Rest test m (drop i xs) whole → (f ≡ g) ⊎ test m x (Some f) → (f ≡ g) ⊎ whole (Some f)
+turn_failed test m xs i x whole f g e rest (inl p) = inl p
+turn_failed test m xs i x whole f g e rest (inr p) = inr (turn_fault test m xs i x whole f e rest p)
+
+-- where all pass, each does
+pub turn_each : {X F : Type 0} (test : ℕ → X → Option F → Type 0) (m : ℕ) (xs : List X) (i : ℕ) (x : X) → InTurn test m xs None → slice_get xs i ≡ Some x → test (m + i) x None
+turn_each test m [] i x p e = absurd (cc)
+turn_each test m (y ∷ xs) zero x p e =
+    let q : y ≡ x = cc in let k : m ≡ m + 0 = omega arith in subst (λ j. test j x None) k (subst (λ z. test m z None) q p.0)
+turn_each test m (y ∷ xs) (suc i) x p e =
+    let k : m + 1 + i ≡ m + suc i = omega arith in subst (λ j. test j x None) k (turn_each test (m + 1) xs i x p.1 e)

@@ -1,7 +1,0 @@
-use Rattle.std.proofs.Common.{take}
-use Rattle.clause_model.specs.Clauses.{codes_of}
-use Rattle.proof_logs.specs.Lists.{Holds}
-use Rattle.proof_logs.proofs.clauses.Clauses.of.Given as goal
-
-abbrev pub invariant-loop-i : goal.invariant-loop-i
-invariant-loop-i l = Holds l.lists (take l.i (codes_of l.formula.clauses))

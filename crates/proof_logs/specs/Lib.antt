@@ -1,4 +1,0 @@
-pub mod Checked
-pub mod Costs
-pub mod Lists
-pub mod Proofs
