@@ -12,3 +12,20 @@ pub mod Visits
 pub mod Waits
 pub mod Jumps
 pub mod Settles
+mod Stacks
+mod Recounts
+mod Counts
+mod Passings
+mod Aheads
+mod Walks
+mod Callers
+mod Clearings
+mod Stepping
+mod Windows
+mod Growings
+mod Exchanges
+mod Graphs
+mod Shrinkings
+mod Startings
+mod Losts
+mod Replacings

@@ -22,7 +22,7 @@ use Rattle.window_runs.specs.Windows.{IsWindow}
 use Rattle.window_runs.proofs.Joined.{window_in_run}
 use Rattle.edited_listing.specs.Edited.{Edited, lines_now, marks, padded}
 use Rattle.edited_listing.specs.Changes.{is_none}
-use Rattle.kept_live.specs.KeptLive.{LosesAt}
+use Rattle.liveness.specs.KeptLive.{LosesAt}
 use Rattle.window_rewrite.specs.declared.choice.Choice.{Choice}
 use Rattle.window_rewrite.specs.declared.due.Due.{Due}
 use Rattle.window_rewrite.specs.declared.finding.Rules.{Rules}

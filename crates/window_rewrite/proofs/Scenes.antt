@@ -39,9 +39,9 @@ use Rattle.edited_listing.specs.Changes.{is_none, marks_of}
 use Rattle.edited_listing.specs.Edited.{Edited, lines_now, marks, padded, standing_places, unchanged}
 use Rattle.edited_listing.specs.Known.{HasLabelAt}
 use Rattle.kept_layout.specs.Kept.{Lays}
-use Rattle.kept_live.specs.Parts.{Parts}
-use Rattle.kept_live.specs.KeptLive.{IsKeptLive}
-use Rattle.kept_live.specs.Window.{GivesWay}
+use Rattle.liveness.specs.Parts.{Parts}
+use Rattle.liveness.specs.KeptLive.{IsKeptLive}
+use Rattle.liveness.specs.Window.{GivesWay}
 use Rattle.window_rewrite.specs.declared.choice.Choice.{Choice}
 use Rattle.window_rewrite.specs.declared.finding.Rules.{Rules}
 use Rattle.window_rewrite.specs.declared.known_layout.KnownLayout.{KnownLayout}

@@ -24,7 +24,7 @@ use Rattle.padded_code.proofs.Padded.{label_in}
 use Rattle.padded_code.proofs.Exchanged.{stays_padded}
 use Rattle.padded_code.proofs.Windows.{windows_stand}
 use Rattle.padded_code.proofs.Spread.{exchange_is_straight, spreads_end}
-use Rattle.kept_live.specs.Window.{AreAscending, GivesWay}
+use Rattle.liveness.specs.Window.{AreAscending, GivesWay}
 
 -- ---- letters ----
 

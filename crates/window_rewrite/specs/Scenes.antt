@@ -13,7 +13,7 @@ use Rattle.window_runs.specs.Rows.{rows_from}
 use Rattle.window_runs.specs.Runs.{run}
 use Rattle.edited_listing.specs.Edited.{lines_now, marks, padded}
 use Rattle.edited_listing.specs.declared.looks.Run.{Run}
-use Rattle.kept_live.specs.KeptLive.{IsKeptLive}
+use Rattle.liveness.specs.KeptLive.{IsKeptLive}
 use Rattle.window_rewrite.specs.declared.finding.Rules.{Rules}
 use Rattle.window_rewrite.specs.declared.finding.Look.{Look}
 use Rattle.window_rewrite.specs.declared.finding.Sight.{Sight}
