@@ -137,7 +137,7 @@ pub ruleset firsts = (lines_at, lines_none, first_some, content_short, length_fi
 whole_first : (b : ℕ) (l : List ℕ) (n start : ℕ) → (b == 10) ≡ false → whole (placed n start (b ∷ l)) ≡ b ∷ whole (placed n (suc start) l)
 whole_first b l n start e = rw e (elim (is_ended l) as (λ v. cond v (b ∷ content_of l ++ 10 ∷ []) (b ∷ content_of l) ≡ b ∷ cond v (content_of l ++ 10 ∷ []) (content_of l)) [ true ↦ refl | false ↦ refl ])
 
-same_parts : {X : Type 0} (x y : X) (xs ys : List X) → x ∷ xs ≡ y ∷ ys → (x ≡ y) × (xs ≡ ys)
+pub same_parts : {X : Type 0} (x y : X) (xs ys : List X) → x ∷ xs ≡ y ∷ ys → (x ≡ y) × (xs ≡ ys)
 same_parts x y xs ys e = (cc, cc)
 
 AreWhole : List (List ℕ) → Type 0

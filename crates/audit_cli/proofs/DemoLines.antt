@@ -33,7 +33,7 @@ use Rattle.listing_parser.proofs.JoinedLines.{Ends, AreEnded, inside_ends, text,
 use Rattle.listing_parser.proofs.OldLines.{content_newline}
 use Rattle.audit_cli.specs.Demo.{own, pair, window_text, windows_text, demo_text}
 use Rattle.audit_cli.proofs.MuteLines.{AreMute, all_aimed}
-use Rattle.listing_parser.proofs.ReplacedLines.{own_ends, own_inside, whole_ended}
+use Rattle.listing_parser.proofs.ReplacedLines.{own_ends, own_inside, whole_ended, own_is}
 
 -- ---- instructions ----
 
@@ -218,10 +218,6 @@ unfolding demo_instrs
 instrs_free n = both_free (windows_instrs n) (back ∷ []) (windows_free n) refl
 
 -- ---- lines of their own are read ----
-
-own_is : (i : Instr) → own_line i ≡ (9 ∷ text_of (shown_of i None)) ++ 10 ∷ []
-unfolding own_line
-own_is i = refl
 
 abbrev read_own : Instr → Read
 read_own i = unnamed (told_of i) (own_line i)

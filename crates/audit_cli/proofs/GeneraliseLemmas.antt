@@ -29,13 +29,14 @@ use Rattle.table_audit.specs.Soundness.{items_in}
 use Rattle.table_audit.proofs.Growing.{family_added}
 use Rattle.table_audit.proofs.Names.{one_has, of_four}
 use Rattle.table_audit.proofs.Raising.{entry_stands}
-use Rattle.table_audit.proofs.Walking.{over_more, mask_more, own_within}
+use Rattle.table_audit.proofs.Walking.{mask_more, own_within}
 use Rattle.table_learn.specs.Learnt.{IsRefutation}
 use Rattle.table_learn.proofs.Asking.{state_words}
 use Rattle.table_learn.proofs.Certificates.{refutation_passes}
 use Rattle.audit_cli.specs.declared.refusal.Refusal.TheVariants as refusal
 use Rattle.audit_cli.specs.Generalise.{with_family, HasNone, IsUnraisable, IsRaisableFor, IsGeneralised, DifferAt, IsSpentOn, IsUnraised, differ, spent}
 use Rattle.audit_cli.proofs.VersionLemmas.{header_raised, in_version, verdict}
+use Rattle.rule_model.proofs.Table.{over_wider}
 
 -- ---- the words of a state ----
 
@@ -81,7 +82,7 @@ differs t f e k model s value has masks raisable is few holds four same shown =
     let registers = alphabet_registers t.header e.left in
     let m = assigned model in
     let within : own ≤ registers = own_within t.header e.left has.canonical in
-    let left = over_more own registers e.left within has.left in
+    let left = over_wider own registers e.left within has.left in
     let mask = mask_more own registers e.mask within has.mask in
     let low : f.low < 256 = (let a = raisable.raisable.from in let b = raisable.raisable.to in let c = raisable.raisable.bytes in omega (arith, a, b, c)) in
     let small : registers ≤ 4 = omega (arith, is, few) in

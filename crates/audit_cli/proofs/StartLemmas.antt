@@ -8,6 +8,7 @@ use Rattle.thumb_model.specs.States as model
 use Rattle.thumb_machine.specs.declared.answers.Answer.{Answer}
 use Rattle.thumb_machine.specs.Outside.{answer_of, answers_of}
 use Rattle.audit_cli.specs.Trace.{answers_from, numbered_answer, start_values}
+use Rattle.kept_places.proofs.Bits.{zero_in}
 
 -- one more answer than before
 pub answers_more : (before after : List Answer) (a : Answer) (n : ℕ) → n < 257 → after ≡ before ++ a ∷ [] → answer_of a ≡ numbered_answer n
@@ -27,11 +28,6 @@ no_answers n = refl
 
 -- ---- the items at the start ----
 
-zeros : (n x : ℕ) → slice_index (replicate n 0) x ≡ 0
-zeros zero x = refl
-zeros (suc n) zero = refl
-zeros (suc n) (suc x) = zeros n x
-
 -- every item but sp and lr holds 0
 pub items_at : (x : ℕ) → ◌≡◌ {A = ℕ} (if x == n_flag then 0 else if x == z_flag then 0 else if x == c_flag then 0 else if x == v_flag then 0 else if x == sp then 536875008 else if x == lr then 4294967295
     else if nat_lt x 13 then slice_index (replicate 13 0) x else 0) (start_values x)
@@ -44,7 +40,7 @@ items_at x = elim (cases_Bool (x == n_flag)) [
       | inr c ↦ elim (cases_Bool (x == v_flag)) [
         | inl h ↦ let e : x ≡ v_flag = eqb-true x v_flag h in rw e refl
         | inr v ↦ rw (n, z, c, v) (ap (λ (r : ℕ). if x == sp then 536875008 else if x == lr then 4294967295 else r) (elim (cases_Bool (nat_lt x 13)) [
-          | inl h ↦ rw h (zeros 13 x)
+          | inl h ↦ rw h (zero_in 13 x)
           | inr h ↦ rw h refl
         ]))
       ]

@@ -16,8 +16,8 @@ use Rattle.audit_cli.specs.Ready.{IsRaised}
 use Rattle.table_audit.specs.Canonical.{HasFormula}
 use Rattle.table_audit.specs.Shorter.{formula_of}
 use Rattle.table_audit.proofs.Fitting.{formula_fits}
-use Rattle.table_learn.proofs.Gains.{all_of}
 use Rattle.audit_cli.proofs.Refutations.{passed_refutes}
+use Rattle.seq_enum.proofs.Weighing.{All-from_slice_get}
 
 pub record IsReady (h : Header) (e : Rule) : Type 0 where
   pub formula : HasFormula h e
@@ -28,7 +28,7 @@ unfolding EntryVerdict
 entry_ready t n e v = record { formula = formula_fits t e v.0; refutes = passed_refutes (λ line. Entry n (Proof line)) (Entry n Unfinished) (codes_of (formula_of t.header e).clauses) e.proof v.1.0 }
 
 pub all_ready : (t : Table) → IsAccepted t → All (IsReady t.header) t.rules
-all_ready t a = all_of (IsReady t.header) t.rules (λ i e at. entry_ready t (1 + i) e (turn_each (EntryVerdict t) 1 t.rules i e a.1.1.0 at))
+all_ready t a = All-from_slice_get (IsReady t.header) t.rules (λ i e at. entry_ready t (1 + i) e (turn_each (EntryVerdict t) 1 t.rules i e a.1.1.0 at))
 
 entry_among : (t : Table) → IsAccepted t → (n : ℕ) (e : Rule) → entry_at t.rules n ≡ Some e → IsReady t.header e
 entry_among t a zero e at = absurd (let bad : None ≡ Some e = at in cc)
@@ -49,4 +49,4 @@ unfolding FamilyVerdict
 family_raised t a n f v = of_entry t a n f (entry_of t f) refl v
 
 pub all_raised : (t : Table) → IsAccepted t → All (IsRaised t.header t.rules) t.families
-all_raised t a = all_of (IsRaised t.header t.rules) t.families (λ i f at. family_raised t a (1 + i) f (turn_each (FamilyVerdict t) 1 t.families i f a.1.1.1 at))
+all_raised t a = All-from_slice_get (IsRaised t.header t.rules) t.families (λ i f at. family_raised t a (1 + i) f (turn_each (FamilyVerdict t) 1 t.families i f a.1.1.1 at))

@@ -20,6 +20,7 @@ use Rattle.rule_table.specs.Table.{Table}
 use Rattle.table_audit.specs.Soundness.{numbers_of}
 use Rattle.window_rewrite.specs.TableRewriting.{setting}
 use Rattle.thumb_assembler.proofs.Fairness.{few_lines}
+use Rattle.padded_code.proofs.Lines.{plain_op}
 
 -- ---- one replacement ----
 
@@ -36,18 +37,13 @@ all_unlabelled : (registers : List Low) (k : ℕ) (is : List Instr) → AreOver 
 all_unlabelled registers k [] over = refl
 all_unlabelled registers k (i ∷ is) over = rw (unlabelled registers i over.0) (all_unlabelled registers k is over.2)
 
-plain_at : (is : List Instr) (k : ℕ) → k < length is → is_op_place (slice_get (map plain is) k) ≡ true
-plain_at [] k lt = absurd (omega arith)
-plain_at (i ∷ is) zero lt = refl
-plain_at (i ∷ is) (suc k) lt = plain_at is k (omega arith)
-
 -- instructions stand where an entry applies
 stand_there : (rule : Rule) (r : Replacement) (ls : List ListingLine) → Applies rule r.registers (code_of ls) r.place → (k : ℕ) → k < length rule.left → is_op_place (slice_get (places_of ls) (r.place + k)) ≡ true
 stand_there rule r ls a k lt =
     let n = window_length rule r.registers (code_of ls) r.place a in
     let there : slice_get (places_of ls) (r.place + k) ≡ slice_get (map plain a.window) k =
     sym (get_drop r.place (places_of ls) k (r.place + k) refl) ∙ sym (get_take (length rule.left) (drop r.place (places_of ls)) k lt) ∙ ap (λ (ps : List Place). slice_get ps k) a.stands in
-    ap is_op_place there ∙ plain_at a.window k (omega arith)
+    ap is_op_place there ∙ plain_op a.window k (omega arith)
 
 reads_after : (base : ℕ) (t : Table) (r : Replacement) (bytes : List ℕ) (ls : List ListingLine) → AreSound (numbers_of t) → AppliesIn (setting base t) r ls → IsListing bytes ls
     → IsListing (text_of_lines (lines_after (setting base t) r ls)) (lines_after (setting base t) r ls)

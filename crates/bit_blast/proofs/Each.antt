@@ -10,14 +10,15 @@ use Rattle.cnf_gates.specs.Meaning.{bit_value}
 use Rattle.cnf_gates.specs.Growth.{BitBelow, AllBelow, Ready, Gives}
 use Rattle.cnf_gates.proofs.Giving.{and_gives, or_gives, xor_gives, ite_gives, later, all_later, BitBelow-not_of}
 use Rattle.cnf_gates.proofs.Values.{bit_value-not_of}
-use Rattle.cnf_gates.proofs.Tables.{and_true, or_false}
+use Rattle.cnf_gates.proofs.Tables.{and_true}
 use Rattle.bit_blast.specs.declared.circuits.Connective.{Connective}
 use Rattle.bit_blast.specs.declared.circuits.Connective.TheVariants.{And, Or, Xor}
 use Rattle.bit_blast.specs.Circuits.{connected, each_of, choose_each, none_of, any_of}
 use Rattle.bit_blast.specs.Exactness.{number_of}
 use Rattle.bit_blast.proofs.Extends.{Extends, and_extends, or_extends, xor_extends, ite_extends}
 use Rattle.bit_blast.proofs.Steps.{Goes-none, Goes-gives, Goes-map, Goes-then, BitGives, WordGives}
-use Rattle.bit_blast.proofs.Numbers.{from_bool-lt}
+use Rattle.common_lemmas.proofs.Booleans.{or_false}
+use Rattle.thumb_model.proofs.Held.{bool_small}
 
 -- ---- a gate of each two bits
 
@@ -69,7 +70,7 @@ of_places gate x y a b =
     let turned : from_bool (of_bits gate x y) + 2 * of_numbers gate a b ≡ of_numbers gate a b * 2 + from_bool (of_bits gate x y) = omega arith in
     turned
     ∙ ap (λ v. of_numbers gate a b * 2 + v) (sym (of_one_bit gate x y))
-    ∙ sym (of_blocks gate a b (from_bool x) (from_bool y) (from_bool-lt x) (from_bool-lt y))
+    ∙ sym (of_blocks gate a b (from_bool x) (from_bool y) (bool_small x) (bool_small y))
     ∙ ap (λ v. of_numbers gate v (b * 2 + from_bool y)) (sym p) ∙ ap (λ v. of_numbers gate (from_bool x + 2 * a) v) (sym q)
 
 of_nothing : (gate : Connective) → let z : ℕ = 0 in z ≡ of_numbers gate 0 0

@@ -13,16 +13,13 @@ use Rattle.cnf_gates.proofs.Giving.{BitBelow-not_of}
 use Rattle.thumb_model.specs.Effect.{complement}
 use Rattle.bit_blast.specs.Words.{bit_of, copies, number_bits, inverted}
 use Rattle.bit_blast.specs.Exactness.{number_of}
+use Rattle.thumb_model.proofs.Held.{bool_small}
 
 -- ---- numbers of bits
 
-pub from_bool-lt : (b : Bool) → from_bool b < 2
-from_bool-lt true = omega arith
-from_bool-lt false = omega arith
-
 pub number_of-lt : (m : ℕ → Bool) (xs : List Bit) → number_of m xs < 2 ^ length xs
 number_of-lt m [] = omega arith
-number_of-lt m (x ∷ xs) = let h : from_bool (bit_value m x) < 2 = from_bool-lt (bit_value m x) in let k : number_of m xs < 2 ^ length xs = number_of-lt m xs in rw (pow-suc 2 (length xs)) (omega arith)
+number_of-lt m (x ∷ xs) = let h : from_bool (bit_value m x) < 2 = bool_small (bit_value m x) in let k : number_of m xs < 2 ^ length xs = number_of-lt m xs in rw (pow-suc 2 (length xs)) (omega arith)
 
 pub number_lt : (m : ℕ → Bool) (xs : List Bit) → length xs ≡ 32 → number_of m xs < 2 ^ 32
 number_lt m xs wide = subst (λ n. number_of m xs < 2 ^ n) wide (number_of-lt m xs)
@@ -37,9 +34,9 @@ low_places x a p h k =
 -- a bit of a word is that bit of its number
 pub number_at : (m : ℕ → Bool) (xs : List Bit) (i : ℕ) → from_bool (bit_value m (bit_of xs i)) ≡ bit_at (number_of m xs) i
 number_at m [] i = sym (bit_at-zero i)
-number_at m (x ∷ xs) zero = let h : from_bool (bit_value m x) < 2 = from_bool-lt (bit_value m x) in rw (bit_at_lowest (from_bool (bit_value m x) + 2 * number_of m xs)) (omega arith)
+number_at m (x ∷ xs) zero = let h : from_bool (bit_value m x) < 2 = bool_small (bit_value m x) in rw (bit_at_lowest (from_bool (bit_value m x) + 2 * number_of m xs)) (omega arith)
 number_at m (x ∷ xs) (suc i) =
-    let h : from_bool (bit_value m x) < 2 = from_bool-lt (bit_value m x) in
+    let h : from_bool (bit_value m x) < 2 = bool_small (bit_value m x) in
     let e : (from_bool (bit_value m x) + 2 * number_of m xs) / 2 ≡ number_of m xs = omega arith in
     number_at m xs i ∙ sym (bit_at-suc (from_bool (bit_value m x) + 2 * number_of m xs) i ∙ ap (λ n. bit_at n i) e)
 
@@ -58,7 +55,7 @@ number_of-take m [] (suc n) = sym (zero-mod (2 ^ suc n))
 number_of-take m (x ∷ xs) zero = omega arith
 number_of-take m (x ∷ xs) (suc n) =
     ap (λ v. from_bool (bit_value m x) + 2 * v) (number_of-take m xs n)
-    ∙ next_low (from_bool (bit_value m x)) (number_of m xs) (2 ^ n) (from_bool-lt (bit_value m x)) (pow_pos n)
+    ∙ next_low (from_bool (bit_value m x)) (number_of m xs) (2 ^ n) (bool_small (bit_value m x)) (pow_pos n)
     ∙ ap (λ p. number_of m (x ∷ xs) % p) (sym (pow-suc 2 n))
 
 pub number_of-drop : (m : ℕ → Bool) (xs : List Bit) (n : ℕ) → number_of m (drop n xs) ≡ number_of m xs / 2 ^ n
@@ -66,7 +63,7 @@ number_of-drop m [] zero = refl
 number_of-drop m [] (suc n) = sym (zero-div (2 ^ suc n))
 number_of-drop m (x ∷ xs) zero = omega arith
 number_of-drop m (x ∷ xs) (suc n) =
-    let h : from_bool (bit_value m x) < 2 = from_bool-lt (bit_value m x) in
+    let h : from_bool (bit_value m x) < 2 = bool_small (bit_value m x) in
     let e : (from_bool (bit_value m x) + 2 * number_of m xs) / 2 ≡ number_of m xs = omega arith in
     number_of-drop m xs n ∙ ap (λ a. a / 2 ^ n) (sym e) ∙ shr-shr (number_of m (x ∷ xs)) 1 n ∙ ap (λ k. number_of m (x ∷ xs) / 2 ^ k) (let one : 1 + n ≡ suc n = omega arith in one)
 

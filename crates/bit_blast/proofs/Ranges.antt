@@ -9,7 +9,7 @@ use Rattle.cnf_gates.specs.Gates.{Built, or_clause_of, always_true}
 use Rattle.cnf_gates.specs.Meaning.{bit_value, any_value, all_true}
 use Rattle.cnf_gates.specs.Growth.{AllBelow, Ready}
 use Rattle.cnf_gates.proofs.Chosen.{all_true-or_clause_of, Ready-or_clause_of}
-use Rattle.cnf_gates.proofs.Tables.{or_false, and_true, and_false}
+use Rattle.cnf_gates.proofs.Tables.{and_true, and_false}
 use Rattle.thumb_instr.specs.Items.{has}
 use Rattle.bit_blast.specs.Words.{bit_of}
 use Rattle.bit_blast.specs.Differences.{at_least_from}
@@ -17,6 +17,7 @@ use Rattle.bit_blast.specs.Exactness.{number_of}
 use Rattle.bit_blast.proofs.Numbers.{number_at, bit_below, AllBelow-append}
 use Rattle.bit_blast.proofs.Holes.{by_test}
 use Rattle.bit_blast.proofs.Telling.{any-append}
+use Rattle.common_lemmas.proofs.Booleans.{or_false, same_tests}
 
 -- ---- what is built stays but for the clauses
 
@@ -41,12 +42,6 @@ range_ready low xs least (suc j) higher b k px ph =
     (λ _. range_ready low xs least j (higher ++ x ∷ []) b k px (AllBelow-append b.variables higher (x ∷ []) ph (px_j, tt)))
 
 -- ---- what the clauses say
-
--- two tests that say the same
-same_tests : (s t : Bool) → (s ≡ true → t ≡ true) → (t ≡ true → s ≡ true) → s ≡ t
-same_tests true t h k = sym (h refl)
-same_tests false true h k = k refl
-same_tests false false h k = refl
 
 -- a clause that isn't true stays so
 lost : (m : ℕ → Bool) (xs : List Bit) (least j : ℕ) (higher : List Bit) (b : Built) → all_true m b.clauses ≡ false → all_true m (at_least_from xs least j higher b).clauses ≡ false

@@ -10,16 +10,17 @@ use Rattle.window_exec.specs.State.{values_of}
 use Rattle.bit_blast.specs.Exactness.{SameOver, number_of, start_values}
 use Rattle.bit_blast.specs.Forming.{word}
 use Rattle.bit_blast.specs.Differences.{variables_from, words_from, input_word, start_bits}
-use Rattle.bit_blast.proofs.Numbers.{number_of-append, number_of-lt, from_bool-lt}
+use Rattle.bit_blast.proofs.Numbers.{number_of-append, number_of-lt}
 use Rattle.bit_blast.proofs.Ends.{variables_from-more, length-words_from, length-variables_from}
 use Rattle.bit_blast.proofs.Start.{word-words_from, variable_value}
 use Rattle.bit_blast.proofs.Formed.{register_value}
+use Rattle.thumb_model.proofs.Held.{bool_small}
 
 -- one bit more
 pub one_bit : (m : ℕ → Bool) (first i n : ℕ) → i < 32 → n ≡ number_of m (variables_from first i) → n + from_bool (m (first + i)) * 2 ^ i % 2 ^ 32 ≡ number_of m (variables_from first (i + 1))
 one_bit m first i n h e =
     let x : ℕ = from_bool (m (first + i)) in
-    let bit : x < 2 = from_bool-lt (m (first + i)) in
+    let bit : x < 2 = bool_small (m (first + i)) in
     let p : 2 ^ i ≤ 2 ^ 31 = pow_le i 31 (omega arith) in
     let small : x * 2 ^ i % 2 ^ 32 ≡ x * 2 ^ i = mod-eq_of_lt (small_product x (2 ^ i) bit p) in
     let whole : number_of m (variables_from first i ++ Signed (2 * (first + i)) ∷ []) ≡ number_of m (variables_from first i) + 2 ^ length (variables_from first i) * (x + 2 * 0) =

@@ -17,8 +17,9 @@ use Rattle.bit_blast.specs.Forming.{Bits, word}
 use Rattle.bit_blast.specs.Differences.{variables_from, words_from, input_word, start_bits, start_built}
 use Rattle.bit_blast.specs.Exactness.{number_of, values_at, start_values, SameOver}
 use Rattle.bit_blast.proofs.Ends.{length-variables_from}
-use Rattle.bit_blast.proofs.Numbers.{low_places, number_lt, from_bool-lt}
+use Rattle.bit_blast.proofs.Numbers.{low_places, number_lt}
 use Rattle.bit_blast.proofs.Formed.{AllWords, AreOf, register_value}
+use Rattle.thumb_model.proofs.Held.{bool_small}
 
 pub below-variables_from : (v n w : ℕ) → v + n ≤ w → AllBelow w (variables_from v n)
 below-variables_from v zero w h = tt
@@ -167,7 +168,7 @@ pub start_words : (m : ℕ → Bool) (k : ℕ) → AreWords (start_values m k)
 start_words m k = record {
   register = λ x h. subst (λ n. n < 2 ^ 32) (register_value m (start_bits k) x h) (word_lt m (32 * k + 4) (words_from 0 k) x (start_are k).words);
   flag = λ x h.
-      let bit = λ (b : Bit). from_bool-lt (bit_value m b) in
+      let bit = λ (b : Bit). bool_small (bit_value m b) in
       cond_lt (eqb x n_flag) _ _ 2 (bit (start_bits k).n) (cond_lt (eqb x z_flag) _ _ 2 (bit (start_bits k).z) (cond_lt (eqb x c_flag) _ _ 2 (bit (start_bits k).c) (cond_lt (eqb x v_flag) _ _ 2 (bit (start_bits k).v)
       (subst (λ n. n < 2) (sym (cond-false (ltb x 15) (number_of m (word (start_bits k).r x)) 0 (le-ltb x 15 h))) (omega arith)))));
 }

@@ -15,7 +15,8 @@ use Rattle.bit_blast.specs.Circuits.{Places, Total, place_of, places_of, add_of}
 use Rattle.bit_blast.specs.Exactness.{number_of}
 use Rattle.bit_blast.proofs.Extends.{and_extends, or_extends, xor_extends}
 use Rattle.bit_blast.proofs.Steps.{Goes, Goes-none, Goes-gives, Goes-map, Goes-then}
-use Rattle.bit_blast.proofs.Numbers.{from_bool-lt, number_lt, low_places}
+use Rattle.bit_blast.proofs.Numbers.{number_lt, low_places}
+use Rattle.thumb_model.proofs.Held.{bool_small}
 
 -- ---- one place
 
@@ -156,7 +157,7 @@ sum_before low b x (v ∷ xs) y (w ∷ ys) c before same k px py pc pb m holds =
     rw (pow-suc 2 (length xs))
     (next_before (2 ^ length xs) (number_of m (v ∷ xs)) (number_of m (w ∷ ys)) (from_bool (bit_value m c)) (from_bool (bit_value m x)) (from_bool (bit_value m y))
     (from_bool (bit_value m here.1.0)) (number_of m rest.1.value) (from_bool (bit_value m here.1.1)) (from_bool (bit_value m rest.1.before))
-    (from_bool-lt (bit_value m x)) (from_bool-lt (bit_value m y)) (from_bool-lt (bit_value m here.1.0)) (pow_pos (length xs)) (hg.adds m (rg.goes.grows.kept m holds)) g)
+    (bool_small (bit_value m x)) (bool_small (bit_value m y)) (bool_small (bit_value m here.1.0)) (pow_pos (length xs)) (hg.adds m (rg.goes.grows.kept m holds)) g)
 
 before_32 : (low : ℕ) (b : Built) (xs ys : List Bit) (c before : Bit) → length xs ≡ 32 → length ys ≡ 32 → Ready low b → AllBelow b.variables xs → AllBelow b.variables ys → BitBelow b.variables c → BitBelow b.variables before
     → (m : ℕ → Bool) → GatesHold m (places_of b xs ys c before).0.gates
@@ -192,7 +193,7 @@ sum_meets : (x y s : ℕ) (c before carry : Bool) → x < 2 ^ 32 → y < 2 ^ 32 
     → (s ≡ (sum_of x y c).value) × (carry ≡ (sum_of x y c).c) × (differ before carry ≡ (sum_of x y c).v)
 sum_meets x y s c before carry hx hy hs e f =
     let parts = sum_is x y s c carry hx hy hs (omega (arith, e)) in
-    let overflow : differ before carry ≡ differs s x y (from_bool c) = overflow_from_carries x y s (from_bool c) before carry hx hy hs (from_bool-lt c) e f in
+    let overflow : differ before carry ≡ differs s x y (from_bool c) = overflow_from_carries x y s (from_bool c) before carry hx hy hs (bool_small c) e f in
     (parts.0, parts.1, overflow ∙ ap (λ n. differs n x y (from_bool c)) parts.0)
 
 -- what a sum of words gives

@@ -9,7 +9,7 @@ use Rattle.cnf_gates.specs.Gates.{Built, xor_of, differ}
 use Rattle.cnf_gates.specs.Meaning.{bit_value, any_value, GatesHold}
 use Rattle.cnf_gates.specs.Growth.{BitBelow, AllBelow, Ready}
 use Rattle.cnf_gates.proofs.Giving.{xor_gives, later, all_later}
-use Rattle.cnf_gates.proofs.Tables.{or_assoc, or_false}
+use Rattle.cnf_gates.proofs.Tables.{or_assoc}
 use Rattle.thumb_instr.specs.Items.{has, n_flag, z_flag, c_flag, v_flag}
 use Rattle.thumb_model.specs.Effect.{Values}
 use Rattle.window_exec.proofs.Differences.{either}
@@ -22,6 +22,7 @@ use Rattle.bit_blast.proofs.Extends.{xor_extends}
 use Rattle.bit_blast.proofs.Steps.{Goes, Goes-none, Goes-gives, Goes-map, Goes-then, Goes-within}
 use Rattle.bit_blast.proofs.Numbers.{AllBelow-append}
 use Rattle.bit_blast.proofs.Formed.{AllWords, AllWords-more, AreOf, AreOf-more, register_value}
+use Rattle.common_lemmas.proofs.Booleans.{or_false}
 
 -- ---- bits of which some is true
 

@@ -19,6 +19,7 @@ use Rattle.window_runs.proofs.Joined.{run_window}
 use Rattle.window_rewrite.proofs.Settled.{IsGap, settled_stay}
 use Rattle.window_rewrite.proofs.WindowPlaces.{first_op, window_within}
 use Rattle.call_tests.specs.Windows.{GaveWay}
+use Rattle.padded_code.proofs.Lines.{plain_op}
 
 -- a run of two in a listing's rows is a window
 pub run_of_two : (lines : List ListingLine) (all rows : List WindowPlace) (place : ℕ) (is : List Instr)
@@ -28,11 +29,6 @@ run_of_two lines all rows place is e r f two =
     let same : take 2 (run true 2 (drop place (rows_from false lines))) ≡ is =
     ap (take 2) (sym (f ∙ ap (λ (rs : List WindowPlace). run true 2 (drop place rs)) whole)) ∙ take_all 2 is (omega arith) in
     subst (λ (js : List Instr). IsWindow lines place js) same (run_window lines place 2 2 (subst (λ (js : List Instr). 1 ≤ length js) (sym same) (omega arith)))
-
-plain_op : (is : List Instr) (k : ℕ) → k < length is → is_op_place (slice_get (map plain is) k) ≡ true
-plain_op [] k h = absurd (omega arith)
-plain_op (i ∷ is) zero h = refl
-plain_op (i ∷ is) (suc k) h = plain_op is k (omega arith)
 
 -- instructions stand at a window's places
 pub window_ops : (lines : List ListingLine) (place : ℕ) (window : List Instr) → IsWindow lines place window → (k : ℕ) → k < length window → is_op_place (slice_get (places_of lines) (place + k)) ≡ true

@@ -10,9 +10,10 @@ use Rattle.unit_propagation.proofs.Steps.{reason_later, Contains-part}
 use Rattle.unit_propagation.proofs.Walks.{known_later}
 use Rattle.cdcl_core.specs.Implied.{clauses_of, IsConflict, IsJustified, IsCovered, BeginsAtRoot, Level, AreSpare}
 use Rattle.cdcl_core.specs.Searched.{IsBase}
-use Rattle.cdcl_core.proofs.Lists.{entry_cases, nothing_in}
+use Rattle.cdcl_core.proofs.Lists.{entry_cases}
 use Rattle.cdcl_core.proofs.Roots.{covered_later, justified_later, root_back}
 use Rattle.cdcl_core.proofs.Spare.{spare_added, spare_unit, spare_later, any_in as any_grown}
+use Rattle.unit_propagation.proofs.Attached.{none_in}
 
 pub any_first : (a clause : List ℕ) (l m : ℕ) → l ≡ get_or clause 0 l → 0 < length clause → m ≡ l → Contains a m → Any (Contains a) clause
 any_first a clause l m e b f c = (0, l, b, sym e, subst (Contains a) f c)
@@ -114,7 +115,7 @@ module _ (clauses : List (List ℕ)) (size : ℕ) (content : Content) (refs : Li
                 }
           ];
           given = λ q h. elim (entry_cases reasons (Some at) None q (subst (λ (xs : List (Option ℕ)). slice_get xs q ≡ Some None) f h)) [
-            | inl w ↦ absurd (nothing_in (negated (get_or trail q 0)) (b.justified.given q w.1))
+            | inl w ↦ absurd (none_in (negated (get_or trail q 0)) (b.justified.given q w.1))
             | inr w ↦ let z : Some at ≡ None = w.1 in absurd cc
           ];
         };

@@ -17,7 +17,8 @@ use Rattle.cdcl_core.specs.Analysed.{Sees}
 use Rattle.cdcl_core.specs.Hinted.{HasReasons}
 use Rattle.cdcl_core.specs.Solved.{IsUsed, RefutesTidily}
 use Rattle.cdcl_core.proofs.Roots.{found_at}
-use Rattle.cdcl_core.proofs.Lists.{place_in, nothing_in}
+use Rattle.cdcl_core.proofs.Lists.{place_in}
+use Rattle.unit_propagation.proofs.Attached.{none_in}
 
 -- the clause at a place is that under the reference there
 pub held_at : (content : Content) → IsWhole content → (k r : ℕ) → slice_get (references_of content) k ≡ Some r → (k < length (clauses_of content)) × (get_or (clauses_of content) k [] ≡ literals_of content r)
@@ -73,7 +74,7 @@ module _ (live : ℕ → Option (List ℕ)) (content : Content) (reasons : List 
         refutes = λ a g i f. (
           clause,
           e,
-          nothing_in number,
+          none_in number,
           inl (
             λ k d b. elim (All-contains (λ t. Contains a t ⊎ Pending trail (length trail) t) seen (negated (get_or clause k d)) f (s.all k d b (h.falsified.1 k d b))) [
               | inl x ↦ x
@@ -83,7 +84,7 @@ module _ (live : ℕ → Option (List ℕ)) (content : Content) (reasons : List 
           ),
         );
         used = All-weaker (λ t. Contains [] t ⊎ Contains clause (negated t)) (λ t. IsUsed live (negated t) (number ∷ [])) (λ t c. elim c [
-          | inl x ↦ absurd (nothing_in t x)
+          | inl x ↦ absurd (none_in t x)
           | inr x ↦ inl (clause, e, x)
         ]) seen s.only;
         fresh = All-cons (IsFresh live (take (length trail) trail)) number [] (

@@ -14,9 +14,6 @@ pub All-right : {X : Type 0} (P : X → Type 0) (xs ys : List X) → All P (xs +
 All-right P [] ys h = h
 All-right P (x ∷ xs) ys h = All-right P xs ys (All-tail P x (xs ++ ys) h)
 
-pub nothing_in : (x : ℕ) → Contains [] x → ⊥
-nothing_in x p = omega (arith, p.1)
-
 pub replicate_push : {X : Type 0} (n : ℕ) (x : X) → replicate (suc n) x ≡ replicate n x ++ x ∷ []
 replicate_push zero x = refl
 replicate_push (suc n) x = ap (λ zs. x ∷ zs) (replicate_push n x)

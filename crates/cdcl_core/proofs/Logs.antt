@@ -17,6 +17,7 @@ use Rattle.cdcl_core.specs.Solved.{Adds, literals_in, with_log, Teaches, IsLog, 
 use Rattle.cdcl_core.proofs.Lists.{All-left}
 use Rattle.cdcl_core.proofs.Adopted.{base_here}
 use Rattle.cdcl_core.proofs.Covered.{covers_more}
+use Rattle.common_lemmas.proofs.Numbers.{one_more_times}
 
 -- what holds after so many lines
 pub record Running (formula : List (List ℕ)) (solver : Solver) (log : List Line) (round : ℕ) : Type 0 where
@@ -87,12 +88,8 @@ module _ (formula : List (List ℕ)) (solver : Solver) (log : List Line) (round 
 pub asserting_some : (clauses : List (List ℕ)) (literals codes : List ℕ) → codes ≡ literals → IsAsserting clauses literals → 0 < length codes
 asserting_some clauses literals codes e s = let b : s.1.2.0 < length literals = s.1.2.1 in omega (arith, b, ap length e)
 
--- the decisions and conflicts of so many searches
-pub rounds_more : (r w : ℕ) → (r + 1) * w ≡ r * w + w
-rounds_more r w = grind arith
-
 pub rounds_within : (r b w : ℕ) → r + 1 ≤ b → r * w + w ≤ b * w
-rounds_within r b w h = omega (arith, rounds_more r w, mul-le-mul_right {m = r + 1} {n = b} w h)
+rounds_within r b w h = omega (arith, one_more_times r w, mul-le-mul_right {m = r + 1} {n = b} w h)
 
 -- the steps after one more search
 pub cost_after : (steps old new round budget width used : ℕ) → new ≤ steps + used + 1 → used ≡ width → steps ≤ old + round * (width + 1) → round < budget → new ≤ old + budget * (width + 1)

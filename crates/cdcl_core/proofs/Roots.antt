@@ -14,7 +14,8 @@ use Rattle.unit_propagation.proofs.Walks.{known_later}
 use Rattle.unit_propagation.proofs.Opened.{opened}
 use Rattle.cdcl_core.specs.Implied.{clauses_of, IsJustified, IsCovered, BeginsAtRoot, Level, level_of, IsSpare, AreSpare}
 use Rattle.cdcl_core.specs.Assumed.{IsAssumed}
-use Rattle.cdcl_core.proofs.Lists.{nothing_in, entry_append, entry_replicate, entry_take}
+use Rattle.cdcl_core.proofs.Lists.{entry_append, entry_replicate, entry_take}
+use Rattle.unit_propagation.proofs.Attached.{none_in}
 
 -- an answer by its two cases
 pub outcome_of : {S : Type 0} {C : ℕ → Type 0} (r : Option ℕ) → (r ≡ None → S) → ((at : ℕ) → r ≡ Some at → C at) → MatchOption r S C
@@ -23,7 +24,7 @@ outcome_of (Some at) f g = g at refl
 
 -- a clause of the arena is one of its clauses
 open_among : (cs : List Clause) (a : List ℕ) (r : ℕ) → Contains (map (λ (c : Clause). c.at) cs) r → All (IsOpen a) (map (λ (c : Clause). c.literals) cs) → IsOpen a (literals_in (clause_among cs r))
-open_among [] a r h o = absurd (nothing_in r h)
+open_among [] a r h o = absurd (none_in r h)
 open_among (c ∷ cs) a r h o = elim (cases_eq c.at r) [
   | inl e ↦ let z : nat_eq c.at r ≡ true = grind (arith, nat_tests) in rw z (All-head (IsOpen a) c.literals (map (λ (d : Clause). d.literals) cs) o)
   | inr n ↦

@@ -20,11 +20,11 @@ use Rattle.cdcl_core.specs.Hinted.{HasReasons}
 use Rattle.cdcl_core.specs.Solved.{RefutesTidily, TidyPropagation}
 use Rattle.cdcl_core.specs.declared.solver.Solver.{Solver}
 use Rattle.cdcl_core.specs.Searched.{IsBase, HasBase, IsModelOf, IsSearched, EndsOver, GoesOn}
-use Rattle.cdcl_core.proofs.Lists.{nothing_in}
 use Rattle.cdcl_core.proofs.Roots.{found_at, root_assumed, root_later, root_closed, justified_assumed, justified_later, justified_more}
 use Rattle.cdcl_core.proofs.Refuted.{root_forces}
 use Rattle.cdcl_core.proofs.Assumptions.{part_in}
 use Rattle.cdcl_core.proofs.Covered.{covers_grown}
+use Rattle.unit_propagation.proofs.Attached.{none_in}
 
 -- literals of distinct variables are as many as these at most
 pub count_variables : (variables : ℕ) (trail : List ℕ) → IsConsistent trail → AllPairs (λ l m. l ≢ m) trail → All (λ l. l < 2 * variables) trail → length trail ≤ variables
@@ -180,8 +180,8 @@ pub base_reasons : (clauses : List (List ℕ)) (size : ℕ) (content : Content) 
 base_reasons clauses size content refs reasons trail at b = record {
   aligned = b.justified.aligned;
   because = b.justified.because;
-  given = λ k e. absurd (nothing_in (negated (get_or trail k 0)) (b.justified.given k e));
-  proper = λ k r e c. nothing_in (get_or trail k 0) c;
+  given = λ k e. absurd (none_in (negated (get_or trail k 0)) (b.justified.given k e));
+  proper = λ k r e c. none_in (get_or trail k 0) c;
   part = All-nil (Contains trail);
   falsified = b.falsified at refl;
 }

@@ -12,9 +12,10 @@ use Rattle.unit_propagation.specs.Watching.{IsWatched, IsReason, IsAdded, IsLate
 use Rattle.unit_propagation.proofs.Steps.{Contains-part, Contains-cases}
 use Rattle.cdcl_core.specs.Implied.{clauses_of, IsSpare, AreSpare}
 use Rattle.cdcl_core.specs.Searched.{IsBase}
-use Rattle.cdcl_core.proofs.Lists.{entry_cases, entry_take, nothing_in}
+use Rattle.cdcl_core.proofs.Lists.{entry_cases, entry_take}
 use Rattle.cdcl_core.proofs.Roots.{found_at, spare_same}
 use Rattle.clause_arena.proofs.Copies.{among_earlier as among_more}
+use Rattle.unit_propagation.proofs.Attached.{none_in}
 
 pub any_in : (a b clause : List ℕ) → ((x : ℕ) → Contains a x → Contains b x) → Any (Contains a) clause → Any (Contains b) clause
 any_in a b clause w t = (t.0, t.1, t.2, t.3, w t.1 t.4)
@@ -153,7 +154,7 @@ dropped_other (c ∷ cs) at r n = elim (cases_eq c.at at) [
 ]
 
 dropped_here : (cs : List Clause) (at : ℕ) → Contains (map (λ (c : Clause). c.at) cs) at → dropped_in (clause_among (map (dropped at) cs) at) ≡ true
-dropped_here [] at h = absurd (nothing_in at h)
+dropped_here [] at h = absurd (none_in at h)
 dropped_here (c ∷ cs) at h = elim (cases_eq c.at at) [
   | inl e ↦ let z : nat_eq c.at at ≡ true = grind (arith, nat_tests) in rw (z, z) refl
   | inr n ↦

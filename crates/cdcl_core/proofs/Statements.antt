@@ -17,9 +17,10 @@ use Rattle.cdcl_core.specs.Held.{Covers}
 use Rattle.cdcl_core.specs.declared.solver.Solver.{Solver}
 use Rattle.cdcl_core.specs.Searched.{IsBase, HasBase}
 use Rattle.cdcl_core.specs.Solved.{AreBelow, HasEmpty, HasValues}
-use Rattle.cdcl_core.proofs.Lists.{nothing_in, All-left, All-right}
+use Rattle.cdcl_core.proofs.Lists.{All-left, All-right}
 use Rattle.cdcl_core.proofs.Covered.{covers_more}
 use Rattle.clause_model.proofs.LiteralLaws.{negated-positive as even_negated}
+use Rattle.unit_propagation.proofs.Attached.{none_in}
 
 -- the clause that has a number, from 1
 pub clause_is : {X : Type 0} (xs : List X) (i : ℕ) (x : X) → slice_get xs (i + 1 - 1) ≡ Some x → (i < length xs) × (x ≡ get_or xs i x)
@@ -93,13 +94,13 @@ base_begun variables content refs reasons trail e f g h = rw (e, f, g, h) record
   numbered_by = refl;
   attached = λ at slot l w. absurd (empty (2 * variables) l (at, slot) w.1);
   known = record {
-    literals = λ at l c d. absurd (nothing_in at c);
+    literals = λ at l c d. absurd (none_in at c);
     contrary = λ l b. let n : length (replicate {A = List (ℕ × ℕ)} (2 * variables) []) ≡ 2 * variables = length-replicate (2 * variables) [] in omega (arith, n, contrary_below l variables (omega (arith, n, b)));
   };
   literals = All-nil (λ l. l < length (replicate {A = List (ℕ × ℕ)} (2 * variables) []));
   justified = record { aligned = refl; because = λ k r z. absurd cc; given = λ k z. absurd cc };
-  covered = λ _ at c. absurd (nothing_in at c);
-  spare = λ _ at c. absurd (nothing_in at c);
+  covered = λ _ at c. absurd (none_in at c);
+  spare = λ _ at c. absurd (none_in at c);
   falsified = λ at z. absurd cc;
 }
   where

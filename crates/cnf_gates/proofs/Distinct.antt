@@ -4,7 +4,8 @@ use Rattle.std.proofs.lemmas.Bool.{cases_Bool, cond-true, cond-false, eqb-true}
 use Rattle.std.proofs.lemmas.List.{append-nil}
 use Rattle.std.specs.List.{filter}
 use Rattle.cnf_gates.specs.Gates.{among, distinct}
-use Rattle.cnf_gates.proofs.Tables.{or_assoc, or_false}
+use Rattle.cnf_gates.proofs.Tables.{or_assoc}
+use Rattle.common_lemmas.proofs.Booleans.{or_false}
 
 -- the literals that are kept, and behind them those of the list that are not among them
 abbrev pub distinct_onto : List ℕ → List ℕ → List ℕ

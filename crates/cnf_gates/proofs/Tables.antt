@@ -161,10 +161,6 @@ or_swap true true c = refl
 or_swap true false c = refl
 or_swap false b c = refl
 
-pub or_false : (a : Bool) → (a || false) ≡ a
-or_false true = refl
-or_false false = refl
-
 pub and_one : (a b : Bool) → (a && (b && true)) ≡ (a && b)
 and_one true true = refl
 and_one true false = refl

@@ -8,15 +8,7 @@ use Rattle.thumb_instr.proofs.Listed.{one_of_append}
 use Rattle.thumb_model.specs.Effect.{one_of}
 use Rattle.thumb_model.specs.Listing.{Name, Value, Place, Word, Statement, Nothing, Instruction, Words, Aligns, Sets, Label, ListingLine, Code, is_op_place, is_call_instr, labels_at, labels_from, places_in, places_of, label_places, return_places}
 use Rattle.code_flow.specs.Points.{is_true, marked, some_name, is_call_statement, HasPoints}
-use Rattle.listing_parser.proofs.TwiceLemmas.{or_last as or_false}
-
-or_true : (c : Bool) → (c || true) ≡ true
-or_true true = refl
-or_true false = refl
-
-or_assoc : (a b c : Bool) → ((a || b) || c) ≡ (a || (b || c))
-or_assoc true b c = refl
-or_assoc false b c = refl
+use Rattle.common_lemmas.proofs.Booleans.{or_false, or_true, or_assoc}
 
 -- ---- one mark ----
 
@@ -117,10 +109,6 @@ pub points_marked : (code : Code) (marks : List Bool) → ((q : ℕ) → marked 
 points_marked code marks h q b e =
     let is : b ≡ one_of q (label_places code.places code.labels ++ return_places 0 code.places) = sym (ap is_true e) ∙ h q ∙ sym (one_of_append q (label_places code.places code.labels) (return_places 0 code.places)) in
     (λ t. sym is ∙ t, λ t. is ∙ t)
-
--- the lines from one on are that line and the lines behind it
-pub next_line : (lines : List Lines) (i : ℕ) (line : Lines) → i < length lines → line ≡ get_or lines i line → map line_view (drop i lines) ≡ line_view line ∷ map line_view (drop (i + 1) lines)
-next_line lines i line h e = rw add-one (ap (map line_view) (drop-cons lines i line h) ∙ ap (λ (l : Lines). line_view l ∷ map line_view (drop (suc i) lines)) (sym e))
 
 pub places_next : (p n : ℕ) (l : ListingLine) (ls : List ListingLine) → n ≡ length (places_in l.statement) → p + n + length (places_of ls) ≡ p + length (places_of (l ∷ ls))
 places_next p n l ls e = omega (arith, e, length-append (places_in l.statement) (places_of ls))

@@ -2,7 +2,7 @@
 use Rattle.std.proofs.Common.{◌≡◌, ◌∙◌, ◌⊎◌, inl, inr, ℕ, zero, suc, ◌+◌, ◌<◌, ◌==◌, ◌||◌, Bool, true, false, List, [], ◌∷◌, ◌++◌, length, length-append, replicate, refl, sym, ap, subst, arith, eq-eqb, eqb-true, Some}
 use Rattle.std.specs.Prelude.{slice_get, slice_set}
 use Rattle.std.proofs.lemmas.List.{length-set, length-replicate}
-use Rattle.std.proofs.lemmas.Bool.{cases_lt, or_left, or_right}
+use Rattle.std.proofs.lemmas.Bool.{cases_lt, or_left, or_right, or_cases}
 use Rattle.std.proofs.lemmas.Option.{slice_get_past}
 use Rattle.thumb_instr.specs.Items.{one_of}
 use Rattle.thumb_instr.proofs.Listed.{one_of_append}
@@ -17,7 +17,6 @@ use Rattle.code_flow.specs.Points.{is_true, marked}
 use Rattle.code_flow.specs.Reached.{Reached, point, along}
 use Rattle.code_flow.specs.Reaching.{unmarked, left, GoesTo, IsFollowed, HasAllPoints, IsReaching, MarksMore}
 use Rattle.code_flow.proofs.Marking.{marks_one, none_marked}
-use Rattle.listing_parser.proofs.LabelLemmas.{or_true as or_cases}
 
 -- ---- truths ----
 

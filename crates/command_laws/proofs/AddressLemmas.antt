@@ -24,6 +24,8 @@ use Rattle.thumb_assembler.specs.Bytes.{lies_nowhere, may_leave, branch_lost, va
 use Rattle.thumb_machine.proofs.WordLemmas.{some_or as some_else}
 use Rattle.listing_laws.proofs.Fitted.{two_bytes as some_bytes}
 use Rattle.thumb_assembler.proofs.Around.{labelled}
+use Rattle.thumb_model.proofs.Shared.{two_bytes}
+use Rattle.kept_layout.proofs.SetsKept.{op_sets_none, without_sets, labels_set_none, new_set_none}
 
 -- ---- paddings ----
 
@@ -209,10 +211,6 @@ ends_replaced write n is (l ∷ ls) p x y short twos less ops joined =
 
 -- ---- where an entry applies ----
 
-two_bytes : (i : Instr) → is_in_window i ≡ true → instr_size i ≡ 2
-two_bytes (instr.Mov d m) h = refl
-two_bytes i h = cc
-
 renamed_twos : (registers : List Low) (k : ℕ) (is : List Instr) → AreOver k is → AreTwos (map (renamed registers) is)
 unfolding AreTwos
 renamed_twos registers k [] h = tt
@@ -237,35 +235,12 @@ end_after s r ls sound a =
 
 -- ---- names ----
 
-sets_nothing : (name : Name) (s : Statement) (rest : Option ℕ) → is_op s ≡ true → set_in name s rest ≡ rest
-sets_nothing name Nothing rest h = refl
-sets_nothing name (Instruction i mention) rest h = refl
-sets_nothing name (Words vs) rest h = refl
-sets_nothing name (Aligns size most) rest h = refl
-sets_nothing name (Sets other address) rest h = absurd (true≢false (sym h))
-
-sets_without : (name : Name) (n : ℕ) (ls : List ListingLine) → set_address name (without n ls) ≡ set_address name ls
-sets_without name n [] = refl
-sets_without name zero (l ∷ ls) = refl
-sets_without name (suc n) (l ∷ ls) = elim (cases_Bool (is_op l.statement)) [
-  | inl op ↦ rw op (sets_without name n ls ∙ sym (sets_nothing name l.statement (set_address name ls) op))
-  | inr op ↦ rw op (ap (set_in name l.statement) (sets_without name (suc n) ls))
-]
-
-sets_new : (name : Name) (write : Instr → List ℕ) (is : List Instr) (ls : List ListingLine) → set_address name (map (new_line write) is ++ ls) ≡ set_address name ls
-sets_new name write [] ls = refl
-sets_new name write (i ∷ is) ls = sets_new name write is ls
-
-sets_kept : (name : Name) (l : ListingLine) (ns : List Name) (ls : List ListingLine) → set_address name (labels_kept l ns ++ ls) ≡ set_address name ls
-sets_kept name l [] ls = refl
-sets_kept name l (n ∷ ns) ls = refl
-
 sets_replaced : (name : Name) (write : Instr → List ℕ) (p count : ℕ) (is : List Instr) (ls : List ListingLine) → set_address name (replaced_lines write p count is ls) ≡ set_address name ls
 sets_replaced name write p count is [] = refl
 sets_replaced name write p count is (l ∷ ls) = elim (cases_Bool (is_op l.statement && (p == 0))) [
   | inl here ↦ rw here (
-      sets_kept name l l.names (map (new_line write) is ++ without (count - 1) ls)
-      ∙ (sets_new name write is (without (count - 1) ls) ∙ (sets_without name (count - 1) ls ∙ sym (sets_nothing name l.statement (set_address name ls) (op_here (is_op l.statement) (p == 0) here))))
+      labels_set_none name l l.names (map (new_line write) is ++ without (count - 1) ls)
+      ∙ (new_set_none name write is (without (count - 1) ls) ∙ (without_sets name (count - 1) ls ∙ sym (op_sets_none name l.statement (set_address name ls) (op_here (is_op l.statement) (p == 0) here))))
       )
   | inr here ↦ rw here (ap (set_in name l.statement) (sets_replaced name write (p - length (places_in l.statement)) count is ls))
 ]

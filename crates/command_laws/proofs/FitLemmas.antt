@@ -41,7 +41,8 @@ use Rattle.audit_cli.specs.Complete.{TellsFull}
 use Rattle.command_laws.specs.Fit.{HasFitEntry, HasFitFamily, FitRewriting, FitExport, FitTrace, FitTidying, FitLearningByCosts, FitUpgrade, FitGeneralising, AreFit}
 use Rattle.command_laws.proofs.AddressLemmas.{still_flawless}
 use Rattle.audit_cli.proofs.DemoLemmas.{never_unaudited, none_some, never_without_image}
-use Rattle.command_laws.proofs.OnceLemmas.{Cause, one_audited, never_unlisted, some_same, first_same, second_same, never_unread_listing, never_unlaid, apart, entry_moved, family_moved}
+use Rattle.command_laws.proofs.OnceLemmas.{Cause, one_audited, never_unlisted, first_same, second_same, never_unread_listing, never_unlaid, apart, entry_moved, family_moved}
+use Rattle.std.proofs.lemmas.Option.{same_Some}
 
 -- it refuses
 IsRefusing : Outcome → Type 0
@@ -111,13 +112,13 @@ module _ (to : ExportArguments) (t : Table) where
   never_absent (inr has) h k = none_some (family_at t to.entry) has.family k has.is_family
 
   entry_fit : HasFitEntry t to.entry ⊎ HasFitFamily t to.entry → (e : Rule) → entry_at t.rules to.entry ≡ Some e → SidesFit t e
-  entry_fit (inl has) e at = subst (SidesFit t) (some_same has.entry e (sym has.is_entry ∙ at)) has.fit
+  entry_fit (inl has) e at = subst (SidesFit t) (same_Some has.entry e (sym has.is_entry ∙ at)) has.fit
   entry_fit (inr has) e at = absurd (apart t to.entry e has.family at has.is_family)
 
   its_family : HasFitEntry t to.entry ⊎ HasFitFamily t to.entry → (f : Family) → family_at t to.entry ≡ Some f → (e : Rule) × (entry_of t f ≡ Some e) × SidesFit t e × IsRaisable t.header.pool f e.left
   its_family (inl has) f at = absurd (apart t to.entry has.entry f has.is_entry at)
   its_family (inr has) f at =
-      subst (λ (g : Family). (e : Rule) × (entry_of t g ≡ Some e) × SidesFit t e × IsRaisable t.header.pool g e.left) (some_same has.family f (sym has.is_family ∙ at)) (has.entry, has.is_entry, has.fit, has.raisable)
+      subst (λ (g : Family). (e : Rule) × (entry_of t g ≡ Some e) × SidesFit t e × IsRaisable t.header.pool g e.left) (same_Some has.family f (sym has.is_family ∙ at)) (has.entry, has.is_entry, has.fit, has.raisable)
 
   entry_exported : (e : Rule) → SidesFit t e → (o : Outcome) → tables.ExportsEntry to t e o → IsRefusing o → ⊥
   unfolding IsRefusing
@@ -127,8 +128,8 @@ module _ (to : ExportArguments) (t : Table) where
   family_exported : (f : Family) → (e : Rule) × (entry_of t f ≡ Some e) × SidesFit t e × IsRaisable t.header.pool f e.left → (o : Outcome) → tables.ExportsFamily to t f o → IsRefusing o → ⊥
   unfolding IsRefusing
   family_exported f (e, at, fits, can) _ (tables.raises_none none) r = none_some (entry_of t f) e none at
-  family_exported f (e, at, fits, can) _ (tables.raises_unfit x there not) r = not (subst (SidesFit t) (some_same e x (sym at ∙ there)) fits)
-  family_exported f (e, at, fits, can) _ (tables.unraisable x there its not) r = not (subst (λ (y : Rule). IsRaisable t.header.pool f y.left) (some_same e x (sym at ∙ there)) can)
+  family_exported f (e, at, fits, can) _ (tables.raises_unfit x there not) r = not (subst (SidesFit t) (same_Some e x (sym at ∙ there)) fits)
+  family_exported f (e, at, fits, can) _ (tables.unraisable x there its not) r = not (subst (λ (y : Rule). IsRaisable t.header.pool f y.left) (same_Some e x (sym at ∙ there)) can)
   family_exported f (e, at, fits, can) _ (tables.raised x there its so) r = r
 
 module _ (to : ExportArguments) (texts : List (List ℕ)) (fit : FitExport to.entry texts) where

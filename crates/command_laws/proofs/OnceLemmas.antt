@@ -2,7 +2,7 @@
 use Rattle.std.proofs.Common.{◌≡◌, ◌∙◌, ◌≤◌, ◌<◌, ◌⊎◌, inl, inr, ℕ, zero, suc, List, [], ◌∷◌, ◌++◌, length, refl, sym, ap, subst, arith, Option, Some, None}
 use Rattle.std.specs.Prelude.{nat_le, nat_lt, false, unwrap_or}
 use Rattle.std.proofs.lemmas.Bool.{cases_Bool, leb-true, leb-false, le-ltb}
-use Rattle.std.proofs.lemmas.Option.{slice_get_within}
+use Rattle.std.proofs.lemmas.Option.{slice_get_within, same_Some}
 use Rattle.thumb_model.specs.Listing.{ListingLine}
 use Rattle.thumb_model.specs.Layout.{Fault, Layable}
 use Rattle.rule_model.specs.Rewriting.{Replacement}
@@ -48,9 +48,6 @@ Domain {A} P = A
 abbrev pub Cause : Type 0
 Cause = Domain (IsUnlisted [])
 
-pub some_same : {A : Type 0} (a b : A) → Some a ≡ Some b → a ≡ b
-some_same {A} a b e = ap (λ (o : Option A). unwrap_or o a) e
-
 pub refuses_same : (r s : Cause) → r ≡ s → Refuses (refusal_line r) ≡ Refuses (refusal_line s)
 refuses_same r s e = ap (λ (x : Cause). Refuses (refusal_line x)) e
 
@@ -64,7 +61,7 @@ never_unlisted text t _ is (unlisted line h) = not_both text t line is h
 
 -- a text has one table, and that one verdict
 errors_same : (text : List ℕ) (t u : Table) (e f : AuditError) → IsText text t → IsText text u → TableVerdict t (Some e) → TableVerdict u (Some f) → e ≡ f
-errors_same text t u e f is are v w = some_same e f (table_same t (Some e) (Some f) v (subst (λ (x : Table). TableVerdict x (Some f)) (one_table text u t are is) w))
+errors_same text t u e f is are v w = same_Some e f (table_same t (Some e) (Some f) v (subst (λ (x : Table). TableVerdict x (Some f)) (one_table text u t are is) w))
 
 pub unaudited_once : (text : List ℕ) (r s : Cause) → IsUnaudited text r → IsUnaudited text s → r ≡ s
 unaudited_once text _ _ (no_table r h) (no_table s k) = unlisted_once text r s h k
@@ -105,7 +102,7 @@ pub never_unread_listing : (text : List ℕ) (lines : List ListingLine) (r : Cau
 never_unread_listing text lines _ is (unread n k h) = one_verdict.not_both text lines n k is h
 
 pub unlaid_once : (base : ℕ) (lines : List ListingLine) (r s : Cause) → IsUnlaid base lines r → IsUnlaid base lines s → r ≡ s
-unlaid_once base lines _ _ (unlaid n f h) (unlaid m g k) = ap (λ (x : ℕ × Fault). unlaid_refusal x.0 x.1) (let both : Some (n, f) ≡ Some (m, g) = sym h ∙ k in some_same (n, f) (m, g) both)
+unlaid_once base lines _ _ (unlaid n f h) (unlaid m g k) = ap (λ (x : ℕ × Fault). unlaid_refusal x.0 x.1) (let both : Some (n, f) ≡ Some (m, g) = sym h ∙ k in same_Some (n, f) (m, g) both)
 
 pub never_unlaid : (base : ℕ) (lines : List ListingLine) (r : Cause) → Layable base lines → IsUnlaid base lines r → ⊥
 never_unlaid base lines _ laid (unlaid n f h) = none_some (first_fault base lines) (n, f) laid h
@@ -113,10 +110,10 @@ never_unlaid base lines _ laid (unlaid n f h) = none_some (first_fault base line
 -- ---- images ----
 
 numbers_same : {A : Type 0} (o : Option (ℕ × A)) (n m : ℕ) (f g : A) → o ≡ Some (n, f) → o ≡ Some (m, g) → n ≡ m
-numbers_same {A} o n m f g h k = ap (λ (x : ℕ × A). x.0) (some_same (n, f) (m, g) (sym h ∙ k))
+numbers_same {A} o n m f g h k = ap (λ (x : ℕ × A). x.0) (same_Some (n, f) (m, g) (sym h ∙ k))
 
 flaws_same : {A : Type 0} (o : Option (ℕ × A)) (n m : ℕ) (f g : A) → o ≡ Some (n, f) → o ≡ Some (m, g) → f ≡ g
-flaws_same {A} o n m f g h k = ap (λ (x : ℕ × A). x.1) (some_same (n, f) (m, g) (sym h ∙ k))
+flaws_same {A} o n m f g h k = ap (λ (x : ℕ × A). x.1) (same_Some (n, f) (m, g) (sym h ∙ k))
 
 without_image_once : (base : ℕ) (lines : List ListingLine) (r s : Cause) → HasNoImage base lines r → HasNoImage base lines s → r ≡ s
 without_image_once base lines _ _ (no_address n h) (no_address m k) = let same : n ≡ m = numbers_same (first_flaw base lines) n m _ _ h k in cc
@@ -223,7 +220,7 @@ entries_once to t e _ _ (tables.found h) (tables.found k) = refl
 
 -- a family raises one entry
 raised_same : (t : Table) (f : Family) (e x : Rule) → entry_of t f ≡ Some e → entry_of t f ≡ Some x → e ≡ x
-raised_same t f e x h k = some_same e x (sym h ∙ k)
+raised_same t f e x h k = same_Some e x (sym h ∙ k)
 
 families_once : (to : ExportArguments) (t : Table) (f : Family) (o p : Outcome) → tables.ExportsFamily to t f o → tables.ExportsFamily to t f p → o ≡ p
 families_once to t f _ _ (tables.raises_none h) (tables.raises_none k) = refl
@@ -262,7 +259,7 @@ exports_once to text _ _ (tables.absent t is a b) (tables.of_family u are f k p 
 exports_once to text _ _ (tables.entry t is e h o c) (tables.refused s k) = absurd (never_unlisted text t s is k)
 exports_once to text _ _ (tables.entry t is e h o c) (tables.absent u are a b) = absurd (none_some (entry_at t.rules to.entry) e (entry_moved to text u t None are is a) h)
 exports_once to text _ _ (tables.entry t is e h o c) (tables.entry u are x k p d) =
-    let same : x ≡ e = some_same x e (sym (entry_moved to text u t (Some x) are is k) ∙ h) in
+    let same : x ≡ e = same_Some x e (sym (entry_moved to text u t (Some x) are is k) ∙ h) in
     let moved : tables.ExportsEntry to t x p = subst (λ (y : Table). tables.ExportsEntry to y x p) (one_table text u t are is) d in
     entries_once to t e o p c (subst (λ (y : Rule). tables.ExportsEntry to t y p) same moved)
 exports_once to text _ _ (tables.entry t is e h o c) (tables.of_family u are f k p d) = absurd (apart t to.entry e f h (family_moved to text u t (Some f) are is k))
@@ -270,7 +267,7 @@ exports_once to text _ _ (tables.of_family t is f h o c) (tables.refused s k) = 
 exports_once to text _ _ (tables.of_family t is f h o c) (tables.absent u are a b) = absurd (none_some (family_at t to.entry) f (family_moved to text u t None are is b) h)
 exports_once to text _ _ (tables.of_family t is f h o c) (tables.entry u are e k p d) = absurd (apart t to.entry e f (entry_moved to text u t (Some e) are is k) h)
 exports_once to text _ _ (tables.of_family t is f h o c) (tables.of_family u are g k p d) =
-    let same : g ≡ f = some_same g f (sym (family_moved to text u t (Some g) are is k) ∙ h) in
+    let same : g ≡ f = same_Some g f (sym (family_moved to text u t (Some g) are is k) ∙ h) in
     let moved : tables.ExportsFamily to t g p = subst (λ (y : Table). tables.ExportsFamily to y g p) (one_table text u t are is) d in
     families_once to t f o p c (subst (λ (x : Family). tables.ExportsFamily to t x p) same moved)
 

@@ -20,7 +20,8 @@ use Rattle.audit_cli.specs.Trace.{TraceArguments, GoesOn, StandsAfter, goes, wan
 use Rattle.audit_cli.specs.Trace as tracing
 use Rattle.command_laws.specs.Once.{IsOne}
 use Rattle.audit_cli.proofs.DemoLemmas.{none_some}
-use Rattle.command_laws.proofs.OnceLemmas.{some_same, refuses_same, unread_once, unlaid_once, never_unlaid, never_unread_listing, one_text}
+use Rattle.command_laws.proofs.OnceLemmas.{refuses_same, unread_once, unlaid_once, never_unlaid, never_unread_listing, one_text}
+use Rattle.std.proofs.lemmas.Option.{same_Some}
 
 -- ---- namings that agree ----
 
@@ -71,7 +72,7 @@ link_free around link other i w e = refl
 call_before : (places : List Place) (p : ℕ) (x : Place) → slice_get places p ≡ Some x → is_call x ≡ true → call_count (take p places) < call_count places
 call_before [] p x e c = absurd (cc)
 call_before (y ∷ ys) zero x e c =
-    let same : y ≡ x = some_same y x e in
+    let same : y ≡ x = same_Some y x e in
     let call : is_call y ≡ true = ap is_call same ∙ c in
     let more : call_count (y ∷ ys) ≡ call_count ys + 1 = rw call refl in
     omega (arith, more)
@@ -197,7 +198,7 @@ module _ (names : Naming) (code : Code) (most : ℕ) where
   one_stage n s _ _ (ended over front last e is by) (wants less stay) = absurd (never_stays s over stay)
   one_stage n s _ _ (ended over front last e is by) (ended too begun other d are of) =
       let same : last ≡ other = last_same front begun last other (sym is ∙ are) in
-      ap stage_of (some_same e d (sym by ∙ (ap end_of same ∙ of)))
+      ap stage_of (same_Some e d (sym by ∙ (ap end_of same ∙ of)))
 
   one_run : (start : State) (n m : ℕ) (x y : Stage) → IsRun names code start most n x → IsRun names code start most m y → (n ≡ m) × (x ≡ y)
   one_run start n m x y h k =

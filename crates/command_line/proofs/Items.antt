@@ -8,7 +8,8 @@ use Rattle.command_line.specs.Words.{Text, Given, Item, word, joined, apart, spe
 use Rattle.command_line.proofs.Reading.{Mode, free, opened, tail, plain, word_of, use_word, uses, more, to_positional, at_end}
 use Rattle.command_line.proofs.Law.{is_dashes, is_joined, is_apart, is_unknown, is_short, is_plain, Each}
 use Rattle.command_line.proofs.Bytes.{same_text, joined_text, joined_word, apart_word, plain_word, joined_is, apart_is, dashes_is, plain_is}
-use Rattle.command_line.proofs.BoolLemmas.{both, either, not_true}
+use Rattle.command_line.proofs.BoolLemmas.{both, either}
+use Rattle.std.proofs.lemmas.Bool.{not-true}
 
 -- each of these words goes to the next name
 abbrev pub tail_uses : List Text → List Text → Option (List Given)
@@ -36,7 +37,7 @@ name_of : (opts : List Text) → list_all is_name opts ≡ true → (n : Text) �
 name_of [] names n e = absurd (true≢false (sym e))
 name_of (o ∷ os) names n e = let p = both (is_name o) (list_all is_name os) names in elim (either (bytes_eq o n)) [
   | inl same ↦ let q = both (not (bytes_eq o [])) (not (has_byte 61 o)) p.0 in
-      subst (λ (t : Text). (bytes_eq t [] ≡ false) × (has_byte 61 t ≡ false)) (same_text o n same) (not_true _ q.0, not_true _ q.1)
+      subst (λ (t : Text). (bytes_eq t [] ≡ false) × (has_byte 61 t ≡ false)) (same_text o n same) (not-true _ q.0, not-true _ q.1)
   | inr other ↦ name_of os p.1 n (rw other at e)
 ]
 
@@ -75,10 +76,10 @@ module _ (opts : List Text) (names : list_all is_name opts ≡ true) (at : ℕ �
   line_uses [] (Some ws) ids i left fine = use_at (codes "--") ws free i ∙ tail_is ws ids i left
   line_uses (word w ∷ is) rest [] i left fine = let p = both (not (is_dashed w)) (list_all (is_allowed opts) is) fine in
       use_at w (line_of is rest) free i
-      ∙ ap₂ (λ k o. use_word k free i w o (uses at (is_one_of opts) (line_of is rest))) (plain_word (is_one_of opts) w (not_true _ p.0)) (here i [] left)
+      ∙ ap₂ (λ k o. use_word k free i w o (uses at (is_one_of opts) (line_of is rest))) (plain_word (is_one_of opts) w (not-true _ p.0)) (here i [] left)
   line_uses (word w ∷ is) rest (id ∷ ids) i left fine = let p = both (not (is_dashed w)) (list_all (is_allowed opts) is) fine in
       use_at w (line_of is rest) free i
-      ∙ ap₂ (λ k o. use_word k free i w o (uses at (is_one_of opts) (line_of is rest))) (plain_word (is_one_of opts) w (not_true _ p.0)) (here i (id ∷ ids) left)
+      ∙ ap₂ (λ k o. use_word k free i w o (uses at (is_one_of opts) (line_of is rest))) (plain_word (is_one_of opts) w (not-true _ p.0)) (here i (id ∷ ids) left)
       ∙ ap (more (id, w)) (line_uses is rest ids (i + 1) (after i id ids left) p.1)
   line_uses (joined n v ∷ is) rest ids i left fine = let p = both (is_one_of opts n) (list_all (is_allowed opts) is) fine in
       use_at (joined_text n v) (line_of is rest) free i
@@ -91,7 +92,7 @@ module _ (opts : List Text) (names : list_all is_name opts ≡ true) (at : ℕ �
       use_at (codes "--" ++ n) (v ∷ line_of is rest) free i
       ∙ ap (λ k. use_word k free i (codes "--" ++ n) (at i) (uses at (is_one_of opts) (v ∷ line_of is rest))) (apart_word (is_one_of opts) n name.1 name.0 q.0)
       ∙ use_at v (line_of is rest) (opened n) i
-      ∙ ap (λ k. use_word k (opened n) i v (at i) (uses at (is_one_of opts) (line_of is rest))) (plain_word (is_one_of opts) v (not_true _ q.1))
+      ∙ ap (λ k. use_word k (opened n) i v (at i) (uses at (is_one_of opts) (line_of is rest))) (plain_word (is_one_of opts) v (not-true _ q.1))
       ∙ ap (more (n, v)) (line_uses is rest ids i left p.1)
 
   -- ---- and back: what is read has items

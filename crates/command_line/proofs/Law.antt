@@ -14,6 +14,7 @@ use Rattle.clap.specs.declared.parser.matches.ValueSource.TheVariants.{CommandLi
 use Rattle.command_line.specs.Words.{Text, Given, is_named}
 use Rattle.command_line.proofs.Reading.{Mode, free, opened, tail, WordKind, dashes, joined, apart, plain, stray, uses, use_word, word_of, at_end, more, to_positional, once_after}
 use Rattle.command_line.proofs.Level.{word_rule, option_rule, leaf, or_else_nil, or_else_assoc, held, between, fresh}
+use Rattle.common_lemmas.proofs.Booleans.{and_false}
 
 abbrev pub clean : Kinds → Bool
 clean [] = true
@@ -22,10 +23,6 @@ clean (k ∷ ks) = false
 clean_or : (a b : Kinds) → clean (or_else a b) ≡ (clean a && clean b)
 clean_or [] b = refl
 clean_or (k ∷ ks) b = refl
-
-and_false : (b : Bool) → (b && false) ≡ false
-and_false true = refl
-and_false false = refl
 
 -- the row of a use
 abbrev pub row : Given → Row

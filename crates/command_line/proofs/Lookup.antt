@@ -19,6 +19,7 @@ use Rattle.command_line.proofs.Level.{word_rule, option_rule, leaf, between}
 use Rattle.command_line.proofs.Law.{Acts, word_acts, option_acts, rows, clean, Each, reads, reads_rows, verdict_by, outcome}
 use Rattle.command_line.proofs.BoolLemmas.{either}
 use Rattle.command_line.proofs.Bytes.{same_text, text_self}
+use Rattle.common_lemmas.proofs.Booleans.{or_true}
 
 abbrev pub options : List Text → List Rule
 options = map option_rule
@@ -75,10 +76,6 @@ by_id k (i ∷ ids) opts id e = elim (either (bytes_eq i id)) [
 ]
 
 -- ---- after the words
-
-or_true : (b : Bool) → (b || true) ≡ true
-or_true true = refl
-or_true false = refl
 
 same_both : {X : Type 0} (b : Bool) (x : X) → cond b x x ≡ x
 same_both true x = refl

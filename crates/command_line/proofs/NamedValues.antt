@@ -11,7 +11,9 @@ use Rattle.command_line.proofs.Law.{rows}
 use Rattle.command_line.proofs.Lookup.{lacks}
 use Rattle.command_line.proofs.Bytes.{same_text, text_self, text_sym}
 use Rattle.command_line.proofs.Items.{item_uses, tail_uses}
-use Rattle.command_line.proofs.BoolLemmas.{both, either, neither, not_true}
+use Rattle.command_line.proofs.BoolLemmas.{both, either}
+use Rattle.std.proofs.lemmas.Bool.{not-true, or_parts}
+use Rattle.common_lemmas.proofs.Booleans.{or_false}
 
 -- the names of the positional words, each another than the later ones and than every option
 abbrev pub are_apart : List Text → List Text → Bool
@@ -38,18 +40,18 @@ values ids us = map (λ id. value_of id us) ids
 -- a use under another name changes no value
 values_after : (ids : List Text) (n v : Text) (us : List Given) → is_one_of ids n ≡ false → values ids ((n, v) ∷ us) ≡ values ids us
 values_after [] n v us e = refl
-values_after (id ∷ ids) n v us e = let p = neither (bytes_eq id n) (is_one_of ids n) e in
+values_after (id ∷ ids) n v us e = let p = or_parts (bytes_eq id n) (is_one_of ids n) e in
     rw (text_sym id n p.0) (ap (λ l. value_of id us ∷ l) (values_after ids n v us p.1))
 
 one_of_front : (xs ys : List Text) (n : Text) → is_one_of (xs ++ ys) n ≡ false → (is_one_of xs n ≡ false) × (is_one_of ys n ≡ false)
-one_of_front xs ys n e = neither (is_one_of xs n) (is_one_of ys n) (sym (list_any-append (λ o. bytes_eq o n) xs ys) ∙ e)
+one_of_front xs ys n e = or_parts (is_one_of xs n) (is_one_of ys n) (sym (list_any-append (λ o. bytes_eq o n) xs ys) ∙ e)
 
 -- an option is none of the positional words
 option_apart : (ids opts : List Text) (n : Text) → are_apart ids opts ≡ true → is_one_of opts n ≡ true → is_one_of ids n ≡ false
 option_apart [] opts n ap_ e = refl
 option_apart (id ∷ ids) opts n apart_ e = let p = both (not (is_one_of (ids ++ opts) id)) (are_apart ids opts) apart_ in
     elim (either (bytes_eq id n)) [
-      | inl same ↦ absurd (true≢false (sym e ∙ ap (is_one_of opts) (sym (same_text id n same)) ∙ (one_of_front ids opts id (not_true _ p.0)).1))
+      | inl same ↦ absurd (true≢false (sym e ∙ ap (is_one_of opts) (sym (same_text id n same)) ∙ (one_of_front ids opts id (not-true _ p.0)).1))
       | inr other ↦ rw other (option_apart ids opts n p.1 e)
     ]
 
@@ -82,7 +84,7 @@ module _ (opts : List Text) where
       let p = both (not (is_one_of (ids ++ opts) id)) (are_apart ids opts) e in
       let q = more_is (id, w) us (tail_uses ids ws) made in
       ap (values (id ∷ ids)) q.2 ∙ ap₂ (λ (b : Bool) l. option_map (λ (g : Given). g.1) (cond b (Some (id, w)) (find (λ (g : Given). bytes_eq g.0 id) q.0)) ∷ l)
-      (text_self id) (values_after ids id w q.0 (one_of_front ids opts id (not_true _ p.0)).0 ∙ tail_values ids ws q.0 p.1 q.1)
+      (text_self id) (values_after ids id w q.0 (one_of_front ids opts id (not-true _ p.0)).0 ∙ tail_values ids ws q.0 p.1 q.1)
 
   pub item_values : (items : List Item) (rest : Option (List Text)) (ids : List Text) (us : List Given) → are_apart ids opts ≡ true → list_all (is_allowed opts) items ≡ true
       → item_uses ids items rest ≡ Some us → values ids us ≡ padded ids (words_of items rest)
@@ -94,7 +96,7 @@ module _ (opts : List Text) where
       let f = both (not (is_dashed w)) (list_all (is_allowed opts) is) fine in
       let q = more_is (id, w) us (item_uses ids is rest) made in
       ap (values (id ∷ ids)) q.2 ∙ ap₂ (λ (b : Bool) l. option_map (λ (g : Given). g.1) (cond b (Some (id, w)) (find (λ (g : Given). bytes_eq g.0 id) q.0)) ∷ l)
-      (text_self id) (values_after ids id w q.0 (one_of_front ids opts id (not_true _ p.0)).0 ∙ item_values is rest ids q.0 p.1 f.1 q.1)
+      (text_self id) (values_after ids id w q.0 (one_of_front ids opts id (not-true _ p.0)).0 ∙ item_values is rest ids q.0 p.1 f.1 q.1)
   item_values (joined n v ∷ is) rest ids us e fine made =
       let f = both (is_one_of opts n) (list_all (is_allowed opts) is) fine in
       let q = more_is (n, v) us (item_uses ids is rest) made in
@@ -108,7 +110,7 @@ module _ (opts : List Text) where
   -- ---- the options
 
   one_of_more : (id : Text) (ids : List Text) (n : Text) → is_one_of ((id ∷ ids) ++ opts) n ≡ false → (bytes_eq id n ≡ false) × (is_one_of (ids ++ opts) n ≡ false)
-  one_of_more id ids n e = neither (bytes_eq id n) (is_one_of (ids ++ opts) n) e
+  one_of_more id ids n e = or_parts (bytes_eq id n) (is_one_of (ids ++ opts) n) e
 
   other_name : (ids : List Text) (n id : Text) → is_one_of (ids ++ opts) id ≡ false → is_one_of opts n ≡ true → bytes_eq n id ≡ false
   other_name ids n id e ours = elim (either (bytes_eq n id)) [
@@ -152,7 +154,7 @@ module _ (opts : List Text) where
   tail_options (id ∷ ids) (w ∷ ws) us n e ours made =
       let p = both (not (is_one_of (ids ++ opts) id)) (are_apart ids opts) e in
       let q = more_is (id, w) us (tail_uses ids ws) made in
-      let other = (neither (bytes_eq id n) (is_one_of ids n) (option_apart (id ∷ ids) opts n e ours)).0 in
+      let other = (or_parts (bytes_eq id n) (is_one_of ids n) (option_apart (id ∷ ids) opts n e ours)).0 in
       rw (q.2, other) (tail_options ids ws q.0 n p.1 ours q.1)
 
   pub option_values : (items : List Item) (rest : Option (List Text)) (ids : List Text) (us : List Given) (n : Text) → are_apart ids opts ≡ true → is_one_of opts n ≡ true
@@ -163,7 +165,7 @@ module _ (opts : List Text) where
   option_values (word w ∷ is) rest (id ∷ ids) us n e ours made =
       let p = both (not (is_one_of (ids ++ opts) id)) (are_apart ids opts) e in
       let q = more_is (id, w) us (item_uses ids is rest) made in
-      let other = (neither (bytes_eq id n) (is_one_of ids n) (option_apart (id ∷ ids) opts n e ours)).0 in
+      let other = (or_parts (bytes_eq id n) (is_one_of ids n) (option_apart (id ∷ ids) opts n e ours)).0 in
       rw (q.2, other) (option_values is rest ids q.0 n p.1 ours q.1)
   option_values (joined m v ∷ is) rest ids us n e ours made =
       let q = more_is (m, v) us (item_uses ids is rest) made in
@@ -179,7 +181,7 @@ module _ (opts : List Text) where
   tail_distinct (id ∷ ids) (w ∷ ws) us e made =
       let p = both (not (is_one_of (ids ++ opts) id)) (are_apart ids opts) e in
       let q = more_is (id, w) us (tail_uses ids ws) made in
-      rw (q.2, tail_unnamed ids ws q.0 id (not_true _ p.0) q.1) (tail_distinct ids ws q.0 p.1 q.1)
+      rw (q.2, tail_unnamed ids ws q.0 id (not-true _ p.0) q.1) (tail_distinct ids ws q.0 p.1 q.1)
 
   same_named : (n : Text) (us vs : List Given) → value_of n us ≡ value_of n vs → is_named n us ≡ is_named n vs
   same_named n us vs e = named_value n us ∙ ap is_some e ∙ sym (named_value n vs)
@@ -193,7 +195,7 @@ module _ (opts : List Text) where
       let p = both (not (is_one_of (ids ++ opts) id)) (are_apart ids opts) e in
       let f = both (not (is_dashed w)) (list_all (is_allowed opts) is) fine in
       let q = more_is (id, w) us (item_uses ids is rest) made in
-      rw (q.2, unnamed is rest ids q.0 id f.1 (not_true _ p.0) q.1) (distinct_uses is rest ids q.0 p.1 f.1 q.1)
+      rw (q.2, unnamed is rest ids q.0 id f.1 (not-true _ p.0) q.1) (distinct_uses is rest ids q.0 p.1 f.1 q.1)
   distinct_uses (joined m v ∷ is) rest ids us e fine made =
       let f = both (is_one_of opts m) (list_all (is_allowed opts) is) fine in
       let q = more_is (m, v) us (item_uses ids is rest) made in
@@ -257,10 +259,6 @@ padded_length (id ∷ ids) [] e = absurd (true≢false e)
 padded_length (id ∷ ids) (p ∷ ps) e = let ih = padded_length ids ps e in omega arith
 
 -- ---- each name once, from the left and from the right
-
-or_false : (a : Bool) → (a || false) ≡ a
-or_false true = refl
-or_false false = refl
 
 abbrev all_new : List Given → List Given → Bool
 all_new before us = list_all (λ (u : Given). not (is_named u.0 before)) us

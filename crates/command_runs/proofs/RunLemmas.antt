@@ -14,6 +14,7 @@ use Rattle.command_runs.specs.Plans.{Keep, Outcome, Refuses, Does, Plan, keeps_o
 use Rattle.command_runs.specs.Runs.{ComesTo, Runs, at_fetch, at_keep, at_put}
 use Rattle.command_runs.specs.Stages.{Gathers, Stores, Prints, Finishes}
 use Rattle.command_runs.proofs.StageLemmas.{rose_before, same_again, counts_first, counts_again, called_then}
+use Rattle.common_lemmas.proofs.Lists.{take_whole}
 
 -- ---- after the outcome ----
 
@@ -68,10 +69,6 @@ stopped plan old new sunk status.Refused same h = absurd h
 stopped plan old new sunk status.Usage same h = h
 stopped plan old new sunk status.SinkFault same h = absurd h
 
-all_of : {X : Type 0} (xs : List X) → take (length xs) xs ≡ xs
-all_of [] = refl
-all_of (x ∷ xs) = ap (λ ys. x ∷ ys) (all_of xs)
-
 -- memory was refused between the fetches and the keeps
 pub short : (plan : Plan) (texts : List (List ℕ)) (old new : Seen) (sunk : Sunk) → SameHeld old.held new.held → SameCounts old new × AreTexts old plan.names texts × (new.events ≡ old.events ++ fetchings plan.names texts)
     → Runs plan old new sunk sunk status.Memory
@@ -80,8 +77,8 @@ short plan texts old new sunk same read = record { short = at_fetch same (inr al
   all = record {
     number = length plan.names;
     texts = texts;
-    read = subst (λ (ns : List (List ℕ)). AreTexts old ns texts) (sym (all_of plan.names)) read.1;
-    calls = read.2 ∙ ap (λ (ns : List (List ℕ)). old.events ++ fetchings ns texts) (sym (all_of plan.names));
+    read = subst (λ (ns : List (List ℕ)). AreTexts old ns texts) (sym (take_whole plan.names)) read.1;
+    calls = read.2 ∙ ap (λ (ns : List (List ℕ)). old.events ++ fetchings ns texts) (sym (take_whole plan.names));
   }
 
 -- ---- the whole run ----

@@ -1,7 +1,7 @@
 -- How many lines there are when instructions give way.
 use Rattle.std.proofs.Common.{◌≡◌, ◌≢◌, ℕ, zero, suc, ◌+◌, ◌-◌, ◌<◌, ◌≤◌, ◌==◌, ◌&&◌, Bool, true, false, List, [], ◌∷◌, ◌++◌, length, length-append, map, drop, replicate, Some, refl, sym, ap, ◌∙◌, subst, inl, inr, arith, ne_eqb, true≢false, if◌then◌else◌}
 use Rattle.std.specs.Prelude.{slice_get, nat_le}
-use Rattle.std.proofs.lemmas.Bool.{cases_Bool, eqb-true, eqb-false, leb-true}
+use Rattle.std.proofs.lemmas.Bool.{cases_Bool, eqb-true, eqb-false, leb-true, and_parts}
 use Rattle.std.proofs.lemmas.Option.{same_Some}
 use Rattle.thumb_instr.specs.declared.instr.Instr.{Instr}
 use Rattle.thumb_model.specs.Listing.{Name, Value, Statement, Instruction, Words, ListingLine, Place, Word, places_in, places_of, is_op_place}
@@ -14,7 +14,7 @@ use Rattle.edited_listing.specs.Giving.{are_free_from, WordsStand}
 use Rattle.edited_listing.specs.Counting.{one_if, item_labelled, some_name, is_labelled, labels_in, op_labels}
 use Rattle.edited_listing.proofs.Free.{past_words, drop_past}
 use Rattle.edited_listing.proofs.Sorted.{sorted_less, not_given}
-use Rattle.edited_listing.proofs.Emitted.{and_both, op_takes, not_first, free_behind, words_behind, words_past, stand_behind, other_line, labels_free_from}
+use Rattle.edited_listing.proofs.Emitted.{op_takes, not_first, free_behind, words_behind, words_past, stand_behind, other_line, labels_free_from}
 use Rattle.thumb_model.proofs.LinesReplaced.{lines_without as without_count}
 
 label_lines : (l : ListingLine) (ns : List Name) → length (labels_kept l ns) ≡ one_if (some_name ns)
@@ -169,7 +169,7 @@ module _ (write : Instr → List ℕ) where
     | inr op ↦
         let k : ℕ = length (places_in l.statement) in
         let free : (nat_le k r && are_free_from (r - k) n (lines_from write (p + k) (drop k xs) ls)) ≡ true = rw (op, op) at f in
-        let parts = and_both (nat_le k r) (are_free_from (r - k) n (lines_from write (p + k) (drop k xs) ls)) free in
+        let parts = and_parts (nat_le k r) (are_free_from (r - k) n (lines_from write (p + k) (drop k xs) ls)) free in
         let few = leb-true k r parts.0 in
         let words = words_past p xs l ls op s v in
         let found : slice_get (drop k xs) (r - k) ≡ Some x = get_drop k xs (r - k) r (omega arith) ∙ e in

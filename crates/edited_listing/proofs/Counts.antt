@@ -117,11 +117,6 @@ op_labels_many (l ∷ ls) =
     let places = length-append (places_in l.statement) (places_of ls) in
     omega arith
 
-pub at_within : {A : Type 0} (xs : List A) (p : ℕ) → p < length xs → (x : A) × (slice_get xs p ≡ Some x)
-at_within [] p h = absurd (omega arith)
-at_within (x ∷ xs) zero h = (x, refl)
-at_within (x ∷ xs) (suc p) h = at_within xs p (omega arith)
-
 pub one_small : (b : Bool) → one_if b ≤ 1
 one_small true = omega arith
 one_small false = omega arith

@@ -1,7 +1,7 @@
 -- What gives way among the items does so in the lines.
 use Rattle.std.proofs.Common.{◌≡◌, ◌≢◌, ℕ, zero, suc, ◌+◌, ◌-◌, ◌≤◌, ◌<◌, ◌==◌, ◌&&◌, Bool, true, false, List, [], ◌∷◌, ◌++◌, length, map, drop, refl, sym, ap, ◌∙◌, subst, inl, inr, arith, ne_eqb, true≢false}
 use Rattle.std.specs.Prelude.{slice_get, nat_le}
-use Rattle.std.proofs.lemmas.Bool.{cases_Bool, eq-eqb, eqb-true, eqb-false, leb-true}
+use Rattle.std.proofs.lemmas.Bool.{cases_Bool, eq-eqb, eqb-true, eqb-false, leb-true, and_parts}
 use Rattle.thumb_instr.specs.declared.instr.Instr.{Instr}
 use Rattle.thumb_model.specs.Listing.{Name, Value, Statement, Nothing, Instruction, Words, Aligns, Sets, ListingLine, Word, places_in, places_of}
 use Rattle.thumb_model.specs.Replaced.{is_op, without, labels_kept, new_line, replaced_lines}
@@ -14,10 +14,6 @@ use Rattle.edited_listing.proofs.Sorted.{sorted_less, sorted_drop, sorted_new, s
 pub use Rattle.thumb_model.proofs.Cuts.{op_takes}
 
 -- ---- what holds of lines ----
-
-pub and_both : (a b : Bool) → (a && b) ≡ true → (a ≡ true) × (b ≡ true)
-and_both true b e = (refl, e)
-and_both false b e = absurd (true≢false (sym e))
 
 no_labels : (l : ListingLine) (ns : List Name) → is_unlabelled ns ≡ true → labels_kept l ns ≡ []
 no_labels l [] e = refl
@@ -47,7 +43,7 @@ free_behind r n l ls e f =
     let past : (is_op l.statement && (suc r == 0)) ≡ false = not_first l (suc r) (omega arith) in
     let k : ℕ = length (places_in l.statement) in
     let here : (nat_le k (suc r) && are_free_from (suc r - k) n ls) ≡ true = rw past at f in
-    ap (λ j. are_free_from j n ls) (let z : r ≡ suc r - k = omega arith in z) ∙ (and_both (nat_le k (suc r)) (are_free_from (suc r - k) n ls) here).1
+    ap (λ j. are_free_from j n ls) (let z : r ≡ suc r - k = omega arith in z) ∙ (and_parts (nat_le k (suc r)) (are_free_from (suc r - k) n ls) here).1
 
 drop_spliced : (k r n : ℕ) (is : List Instr) (xs : List Item) → k ≤ r → drop k (spliced r n is xs) ≡ spliced (r - k) n is (drop k xs)
 drop_spliced zero r n is xs h = ap (λ j. spliced j n is xs) (let z : r ≡ r - 0 = omega arith in z)
@@ -150,7 +146,7 @@ module _ (write : Instr → List ℕ) where
   unfolding Without
   given_goes p q n l xs behind rec e s op f =
       let here : (is_unlabelled l.names && are_free n (behind xs)) ≡ true = rw op at f in
-      let parts = and_both (is_unlabelled l.names) (are_free n (behind xs)) here in
+      let parts = and_parts (is_unlabelled l.names) (are_free n (behind xs)) here in
       let t : AreSorted (suc p) (suc p) xs = sorted_less (suc q) (suc q) (suc p) (suc p) xs (omega arith) (omega arith) s in
       let d : AreSorted (suc p) (suc p) (drop n xs) = sorted_drop n (suc p) (suc p) xs (omega arith) (omega arith) t in
       other_line p l (drop n xs) behind (none_given p (suc p) (suc p) (drop n xs) (omega arith) d)
@@ -196,7 +192,7 @@ module _ (write : Instr → List ℕ) where
     | inr h ↦
         let k : ℕ = length (places_in l.statement) in
         let free : ((k == 0) && are_free (suc n) (lines_from write (p + k) (drop k xs) ls)) ≡ true = rw (h, h) at f in
-        let parts = and_both (k == 0) (are_free (suc n) (lines_from write (p + k) (drop k xs) ls)) free in
+        let parts = and_parts (k == 0) (are_free (suc n) (lines_from write (p + k) (drop k xs) ls)) free in
         let none : k ≡ 0 = eqb-true k 0 parts.0 in
         let here : are_free (suc n) (lines_from write p xs ls) ≡ true =
         ap (λ j. are_free (suc n) (lines_from write j xs ls)) (let z : p ≡ p + 0 = omega arith in z) ∙ ap (λ j. are_free (suc n) (lines_from write (p + j) (drop j xs) ls)) (sym none) ∙ parts.1 in
@@ -211,7 +207,7 @@ module _ (write : Instr → List ℕ) where
 
   pub labels_free_from : (l : ListingLine) (ns : List Name) (r n : ℕ) (ls : List ListingLine) → are_free_from r n (labels_kept l ns ++ ls) ≡ true → are_free_from r n ls ≡ true
   labels_free_from l [] r n ls e = e
-  labels_free_from l (m ∷ ns) r n ls e = ap (λ j. are_free_from j n ls) (let z : r ≡ r - 0 = omega arith in z) ∙ (and_both (nat_le 0 r) (are_free_from (r - 0) n ls) e).1
+  labels_free_from l (m ∷ ns) r n ls e = ap (λ j. are_free_from j n ls) (let z : r ≡ r - 0 = omega arith in z) ∙ (and_parts (nat_le 0 r) (are_free_from (r - 0) n ls) e).1
 
   -- new items at their home
   emit_new : (p : ℕ) (is : List Instr) (xs : List Item) (behind : List Item → List ListingLine) → emit_at write p (map (λ i. New i p) is ++ xs) behind ≡ map (new_line write) is ++ emit_at write p xs behind
@@ -326,7 +322,7 @@ module _ (write : Instr → List ℕ) where
     | inr h ↦
         let k : ℕ = length (places_in l.statement) in
         let free : (nat_le k r && are_free_from (r - k) n (lines_from write (p + k) (drop k xs) ls)) ≡ true = rw (h, h) at f in
-        let parts = and_both (nat_le k r) (are_free_from (r - k) n (lines_from write (p + k) (drop k xs) ls)) free in
+        let parts = and_parts (nat_le k r) (are_free_from (r - k) n (lines_from write (p + k) (drop k xs) ls)) free in
         let words = words_past p xs l ls h s v in
         rw h (past_way p k r n is l xs ls refl (leb-true k r parts.0) h (lines_give_way ls (r - k) n (p + k) is (drop k xs) words.0 words.1 parts.1))
   ]

@@ -21,12 +21,13 @@ use Rattle.edited_listing.proofs.Changes.{items_many}
 use Rattle.edited_listing.proofs.Kept.{enough, length_giving_from}
 use Rattle.edited_listing.proofs.Unchanged.{lines_unchanged, unchanged_edited}
 use Rattle.edited_listing.proofs.Edits.{edits_replace, edits_exchange}
-use Rattle.edited_listing.proofs.Counts.{now_short, counted_after, op_labels_many, at_within, one_small}
+use Rattle.edited_listing.proofs.Counts.{now_short, counted_after, op_labels_many, one_small}
 use Rattle.edited_listing.proofs.Rest.{kept_none}
 use Rattle.edited_listing.proofs.Padded.{places_kept}
 use Rattle.padded_code.specs.Padding.{kept}
 use Rattle.padded_code.specs.Exchange.{exchanged, marks_after}
 use Rattle.padded_code.specs.Windows.{AreRanked}
+use Rattle.thumb_model.proofs.Lists.{present_at}
 
 none_gone : (n : ℕ) → replicate n false ≡ marks_of (replicate n standing.Given)
 none_gone zero = refl
@@ -167,8 +168,8 @@ IsLabelLine labelled stands p label = (b : Bool) (s : Standing) → slice_get la
 
 pub label_small : (given : List ListingLine) (stands : List Standing) (gone : List Bool) (changed : Bool) (labelled : List Bool) (lines p label : ℕ) → Holds given stands gone changed labelled lines → p < length stands → IsLabelLine labelled stands p label → label ≤ 1
 label_small given stands gone changed labelled lines p label h l f =
-    let b = at_within labelled p (labels_within given stands gone changed labelled lines p h l) in
-    let s = at_within stands p l in
+    let b = present_at labelled p (labels_within given stands gone changed labelled lines p h l) in
+    let s = present_at stands p l in
     let same = f b.0 s.0 b.1 s.1 in
     let small = one_small (b.0 && is_as_given s.0) in
     omega arith
@@ -179,8 +180,8 @@ pub after_counted : (given : List ListingLine) (stands : List Standing) (gone : 
     ((j : ℕ) (l : Label) → slice_get (labels_from 0 (lines_now now)) j ≡ Some l → (l.place ≤ rank (marks now) p) ⊎ (rank (marks now) p + count ≤ l.place)) →
     IsLabelLine labelled stands p label → count + length (replaced_lines own_line (rank (marks now) p) count new (lines_now now)) ≡ lines + k + label
 after_counted given stands gone changed labelled lines p count k new label now h v l kept some n few window free f =
-    let b = at_within labelled p (labels_within given stands gone changed labelled lines p h l) in
-    let s = at_within stands p l in
+    let b = present_at labelled p (labels_within given stands gone changed labelled lines p h l) in
+    let s = present_at stands p l in
     let w = window_at (record { given = given; stands = stands }) now p count new s.0 v s.1 kept some (omega arith) window free in
     let counted = lines_counted given stands gone changed labelled lines p count new s.0 b.0 now h w b.1 v in
     let same = f b.0 s.0 b.1 s.1 in

@@ -18,16 +18,13 @@ use Rattle.edited_listing.proofs.Sorted.{sorted_less, not_given}
 use Rattle.edited_listing.proofs.Emitted.{words_behind, words_past, stand_behind, other_line}
 use Rattle.thumb_model.proofs.LinesReplaced.{kept_places as labels_places}
 use Rattle.edited_listing.proofs.Counted.{not_word as no_word}
+use Rattle.common_lemmas.proofs.Booleans.{and_assoc}
 
 -- ---- truth values ----
 
 and_true : (b : Bool) → b ≡ (b && true)
 and_true true = refl
 and_true false = refl
-
-and_three : (a b c : Bool) → ((a && b) && c) ≡ (a && (b && c))
-and_three true b c = refl
-and_three false b c = refl
 
 and_none : (a b c : Bool) → b ≡ false → false ≡ (a && (b && c))
 and_none true b c e = rw e refl
@@ -134,18 +131,18 @@ module _ (write : Instr → List ℕ) (at : ℕ → Bool) where
       AreSorted p (suc p) (y ∷ xs) → WordsStand (suc p) (y ∷ xs) ls → home_of y < suc p + length (places_of ls) → is_given_at p (y ∷ xs) ≡ false →
       joined_at (rows_from b (line_at write p l (y ∷ xs) behind)) 0 ≡ (before && all_from at p (suc (home_of y - p)))
   other_first p b carried before l y xs ls behind rec e a op s v h g =
-      let now : (b && is_unlabelled l.names) ≡ (before && at p) = ap (λ c. c && is_unlabelled l.names) e ∙ and_three before carried (is_unlabelled l.names) ∙ ap (λ c. before && c) (agrees_here p carried l ls op a) in
+      let now : (b && is_unlabelled l.names) ≡ (before && at p) = ap (λ c. c && is_unlabelled l.names) e ∙ and_assoc before carried (is_unlabelled l.names) ∙ ap (λ c. before && c) (agrees_here p carried l ls op a) in
       ap (λ zs. joined_at (rows_from b zs) 0) (other_line write p l (y ∷ xs) behind g)
       ∙ ap (λ rs. joined_at rs 0) (labels_rows l l.names b (emit_at write p (y ∷ xs) behind))
       ∙ emit_first p (b && is_unlabelled l.names) y xs ls behind rec (agrees_op p carried l ls op a) s v h
       ∙ ap (λ c. c && all_from at (suc p) (home_of y - p)) now
-      ∙ and_three before (at p) (all_from at (suc p) (home_of y - p))
+      ∙ and_assoc before (at p) (all_from at (suc p) (home_of y - p))
 
   given_first : (p q : ℕ) (b carried before : Bool) (l : ListingLine) (ls zs : List ListingLine) → b ≡ (before && carried) → Agrees p carried (l ∷ ls) → is_op l.statement ≡ true → q ≡ p → joined_at (rows_from b (l ∷ zs)) 0 ≡ (before && all_from at p (suc (q - p)))
   given_first p q b carried before l ls zs e a op h =
       op_row (b && is_unlabelled l.names) l.statement (rows_from (stays_joined (b && is_unlabelled l.names) l.statement) zs) op
       ∙ ap (λ c. c && is_unlabelled l.names) e
-      ∙ and_three before carried (is_unlabelled l.names)
+      ∙ and_assoc before carried (is_unlabelled l.names)
       ∙ ap (λ c. before && c) (agrees_here p carried l ls op a ∙ and_true (at p) ∙ ap (λ n. at p && all_from at (suc p) n) (let z : 0 ≡ q - p = omega arith in z))
 
   line_first : (p : ℕ) (b carried before : Bool) (l : ListingLine) (y : Item) (xs : List Item) (ls : List ListingLine) (behind : List Item → List ListingLine) → First (suc p) ls behind → b ≡ (before && carried) → Agrees p carried (l ∷ ls) → is_op l.statement ≡ true →
@@ -210,7 +207,7 @@ module _ (write : Instr → List ℕ) (at : ℕ → Bool) where
         let k : ℕ = length (places_in l.statement) in
         let words = words_past p (y ∷ xs) l ls op s v in
         rw op (step_first l.statement p before y xs ls (λ ys. lines_from write (p + k) ys ls) op words.0 words.1 (first_now ls (p + k)) (b && is_unlabelled l.names) (carried && is_unlabelled l.names)
-        (ap (λ c. c && is_unlabelled l.names) e ∙ and_three before carried (is_unlabelled l.names)) a h)
+        (ap (λ c. c && is_unlabelled l.names) e ∙ and_assoc before carried (is_unlabelled l.names)) a h)
   ]
 
   -- ---- the row behind an instruction's ----

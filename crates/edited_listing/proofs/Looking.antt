@@ -1,7 +1,7 @@
 -- What is seen of kept places.
 use Rattle.std.proofs.Common.{◌≡◌, ◌↔◌, ℕ, zero, suc, ◌+◌, ◌-◌, ◌<◌, ◌≤◌, ◌||◌, ◌⊎◌, Bool, true, false, List, [], ◌∷◌, length, drop, Option, Some, None, refl, sym, ap, ◌∙◌, subst, inl, inr, arith, true≢false, if◌then◌else◌}
 use Rattle.std.specs.Prelude.{slice_get, is_some}
-use Rattle.std.proofs.lemmas.Option.{same_Some}
+use Rattle.std.proofs.lemmas.Option.{same_Some, slice_get_past}
 use Rattle.thumb_instr.specs.declared.instr.Instr.{Instr}
 use Rattle.kept_places.specs.Marks.{is_gone, rank, IsStart}
 use Rattle.kept_places.proofs.Ranks.{rank_zero, rank_gone, rank_kept}
@@ -146,11 +146,6 @@ letter_drop begins [] (suc k) = refl
 letter_drop begins (r ∷ rows) zero = refl
 letter_drop begins (r ∷ rows) (suc k) = letter_drop begins rows k
 
-none_past : {A : Type 0} (xs : List A) (k : ℕ) → length xs ≤ k → slice_get xs k ≡ None
-none_past [] k h = refl
-none_past (x ∷ xs) zero h = absurd (omega arith)
-none_past (x ∷ xs) (suc k) h = none_past xs k (omega arith)
-
 past_none : {A : Type 0} (xs : List A) (k : ℕ) → slice_get xs k ≡ None → length xs ≤ k
 past_none [] k e = omega arith
 past_none (x ∷ xs) zero e = absurd (cc)
@@ -169,10 +164,10 @@ pub letter_end : (e : Edited) (begins : Bool) (p : ℕ) → IsEdited e → lengt
 letter_end e begins p is h k =
     let rows : List WindowPlace = rows_from false (lines_now e) in
     let short = standing_many e.stands (places_of e.given) is.as_many in
-    let none : slice_get (places_of (lines_now e)) (rank (marks e) p) ≡ None = place_now e p is k ∙ none_past (standing_places e.stands (places_of e.given)) p (omega arith) in
+    let none : slice_get (places_of (lines_now e)) (rank (marks e) p) ≡ None = place_now e p is k ∙ slice_get_past (standing_places e.stands (places_of e.given)) p (omega arith) in
     let past = past_none (places_of (lines_now e)) (rank (marks e) p) none in
     let many = rows_length false (lines_now e) in
-    ap (letter_row begins) (sym (none_past rows (rank (marks e) p) (omega arith))) ∙ sym (letter_drop begins rows (rank (marks e) p))
+    ap (letter_row begins) (sym (slice_get_past rows (rank (marks e) p) (omega arith))) ∙ sym (letter_drop begins rows (rank (marks e) p))
 
 -- the row of a kept place
 row_here : (e : Edited) (p : ℕ) → IsEdited e → p < length e.stands → is_gone (marks e) p ≡ false → (r : WindowPlace) × (slice_get (rows_from false (lines_now e)) (rank (marks e) p) ≡ Some r) × (r.letter ≡ letter_in (slice_get (padded e).places p))

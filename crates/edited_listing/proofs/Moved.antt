@@ -14,6 +14,7 @@ use Rattle.edited_listing.specs.Known.{HasLabelAt, HasLabelIn}
 use Rattle.edited_listing.proofs.Sorted.{sorted_less, not_given, is_first}
 use Rattle.edited_listing.proofs.Emitted.{words_behind, words_past, all_words, op_takes, stand_behind, has_behind, other_line}
 use Rattle.thumb_model.proofs.LinesReplaced.{kept_labels as names_kept}
+use Rattle.common_lemmas.proofs.Lists.{get_map, map_back}
 
 -- how many items have their home before a place
 abbrev before : ℕ → List Item → ℕ
@@ -200,16 +201,6 @@ within_count m r from xs y s e (inr h) l g =
     let many = before_many m 0 0 h.0 xs h.1 s h.3 (omega (arith, h.4)) in
     omega (arith, h.2)
 
-map_get : {A B : Type 0} (g : A → B) (xs : List A) (k : ℕ) (x : A) → slice_get xs k ≡ Some x → slice_get (map g xs) k ≡ Some (g x)
-map_get g [] k x e = absurd (cc)
-map_get g (y ∷ ys) zero x e = ap (λ z. Some (g z)) (same_Some y x e)
-map_get g (y ∷ ys) (suc k) x e = map_get g ys k x e
-
-map_found : {A B : Type 0} (g : A → B) (xs : List A) (k : ℕ) (y : B) → slice_get (map g xs) k ≡ Some y → (x : A) × (slice_get xs k ≡ Some x) × (y ≡ g x)
-map_found g [] k y e = absurd (cc)
-map_found g (x ∷ xs) zero y e = (x, refl, sym (same_Some (g x) y e))
-map_found g (x ∷ xs) (suc k) y e = map_found g xs k y e
-
 -- a label stands right before the item in the lines now where one does between in the given lines
 pub labels_between : (write : Instr → List ℕ) (ls : List ListingLine) (xs : List Item) (r from : ℕ) (y : Item) → AreSorted 0 0 xs → WordsStand 0 xs ls → slice_get xs r ≡ Some y → IsFrom from r xs →
     HasLabelIn (labels_from 0 ls) from (home_of y) ↔ HasLabelAt (labels_from 0 (lines_from write 0 xs ls)) r
@@ -222,13 +213,13 @@ labels_between write ls xs r from y s v e i = (forth, back)
     forth h = record {
       number = h.number;
       label = at (λ m. before m xs) h.label;
-      is = ap (λ ms. slice_get ms h.number) now ∙ map_get (at (λ m. before m xs)) (labels_from 0 ls) h.number h.label h.is;
+      is = ap (λ ms. slice_get ms h.number) now ∙ get_map (at (λ m. before m xs)) (labels_from 0 ls) h.number h.label h.is;
       at = within_count h.label.place r from xs y s e i h.from h.to;
     }
 
     back : HasLabelAt (labels_from 0 (lines_from write 0 xs ls)) r → HasLabelIn (labels_from 0 ls) from (home_of y)
     back h =
-        let found = map_found (at (λ m. before m xs)) (labels_from 0 ls) h.number h.label (ap (λ ms. slice_get ms h.number) (sym now) ∙ h.is) in
+        let found = map_back (at (λ m. before m xs)) (labels_from 0 ls) h.number h.label (ap (λ ms. slice_get ms h.number) (sym now) ∙ h.is) in
         let here : before found.0.place xs ≡ r = ap (λ (l : Label). l.place) (sym found.2) ∙ h.at in
         let within = count_within found.0.place r from xs y s e i here in
         record { number = h.number; label = found.0; is = found.1; from = within.0; to = within.1 }

@@ -6,7 +6,7 @@ use Rattle.std.proofs.lemmas.List.{map-append}
 use Rattle.thumb_instr.specs.declared.instr.Instr.{Instr}
 use Rattle.thumb_model.specs.Listing.{Statement, Nothing, Instruction, Words, Aligns, Sets, ListingLine, Place, Op, plain, places_in, places_of, is_op_place}
 use Rattle.thumb_model.specs.Replaced.{is_op}
-use Rattle.thumb_model.proofs.Lists.{get_front, get_back}
+use Rattle.thumb_model.proofs.Lists.{get_back}
 use Rattle.edited_listing.specs.Items.{Item, AsGiven, New, has_given, AreSorted}
 use Rattle.edited_listing.specs.Emitting.{is_given_at, emit_at, line_at, lines_from}
 use Rattle.edited_listing.specs.Giving.{WordsStand}
@@ -14,6 +14,7 @@ use Rattle.edited_listing.specs.Places.{item_place, AreHome}
 use Rattle.edited_listing.proofs.Sorted.{sorted_less, not_given, is_first}
 use Rattle.edited_listing.proofs.Emitted.{words_behind, words_past, all_words, stand_behind, has_behind, other_line}
 use Rattle.thumb_model.proofs.LinesReplaced.{kept_places as labels_place}
+use Rattle.common_lemmas.proofs.Lists.{get_front}
 
 abbrev pub some_places : List ListingLine → List (Option Place)
 some_places ls = map (λ x. Some x) (places_of ls)

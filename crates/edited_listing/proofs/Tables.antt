@@ -5,10 +5,12 @@ use Rattle.std.proofs.lemmas.Bool.{cases_lt, lt-ltb, le-ltb, le-leb, lt-leb, leb
 use Rattle.std.proofs.lemmas.Option.{same_Some}
 use Rattle.std.proofs.lemmas.List.{length-replicate}
 use Rattle.thumb_model.specs.Listing.{Name, ListingLine, Label, places_in, places_of, labels_at, labels_from}
-use Rattle.thumb_model.proofs.Lists.{get_back, get_front}
+use Rattle.thumb_model.proofs.Lists.{get_back}
 use Rattle.window_runs.specs.declared.rows.WindowPlace.{WindowPlace}
 use Rattle.edited_listing.specs.Counting.{some_name}
 use Rattle.edited_listing.specs.Known.{joined_at, all_from, HasLabelIn, last_breaks, last_labels}
+use Rattle.common_lemmas.proofs.Lists.{get_front}
+use Rattle.common_lemmas.proofs.Booleans.{or_assoc}
 
 -- ---- breaks ----
 
@@ -140,10 +142,6 @@ last_small : (ns : List Name) (p last : ℕ) → last ≤ suc p → (if some_nam
 last_small [] p last h = h
 last_small (n ∷ ns) p last h = omega arith
 
-or_three : (a b c : Bool) → ((a || b) || c) ≡ (a || (b || c))
-or_three true b c = refl
-or_three false b c = refl
-
 or_none : (a : Bool) → a ≡ (a || false)
 or_none true = refl
 or_none false = refl
@@ -157,7 +155,7 @@ labels_upto (l ∷ ls) j p last b from h e =
     let behind : List Label = labels_from (p + k) ls in
     let here : nat_lt from now ≡ (nat_lt from last || some_in (labels_at p l.names) from (p + j)) = last_here l.names p last from h ∙ ap (λ u. nat_lt from last || u) (sym (some_here p l.names from (p + j) (omega arith))) in
     let all : (nat_lt from now || some_in behind from (p + j)) ≡ (nat_lt from last || some_in (labels_at p l.names ++ behind) from (p + j)) =
-    ap (λ u. u || some_in behind from (p + j)) here ∙ or_three (nat_lt from last) (some_in (labels_at p l.names) from (p + j)) (some_in behind from (p + j)) ∙ ap (λ u. nat_lt from last || u) (sym (some_append (labels_at p l.names) behind from (p + j))) in
+    ap (λ u. u || some_in behind from (p + j)) here ∙ or_assoc (nat_lt from last) (some_in (labels_at p l.names) from (p + j)) (some_in behind from (p + j)) ∙ ap (λ u. nat_lt from last || u) (sym (some_append (labels_at p l.names) behind from (p + j))) in
     elim (cases_lt j k) [
       | inl g ↦
           let same : now ≡ b = replicate_get k j now b g (sym (get_front (replicate k now) (last_labels (p + k) now ls) j (omega arith)) ∙ e) in

@@ -1,6 +1,6 @@
 //! The lines of a changed listing, in one pass over the lines that were given: those that stay do so in place, and go down where lines before them are gone.
 ghost use Rattle.std.specs.Prelude.{◌≡◌, ◌+◌, ◌<◌, ◌≤◌, ◌^◌, ◌++◌, ◌||◌, [], List, length, map, not, IfOk, OnOk};
-ghost use Rattle.thumb_model.specs.Listing.{ListingLine, places_of};
+ghost use Rattle.thumb_model.specs.Listing.{ListingLine as LineModel, places_of};
 ghost use Rattle.thumb_model.specs.Replaced.{is_op};
 ghost use Rattle.listing_parser.specs.Parsing.{own_line};
 ghost use Rattle.listing_parser.specs.Views.{line_view};
@@ -83,7 +83,7 @@ fn emit_new(
     requires marks { kept.old ≡ marks_of stands.now }
     requires within { from ≤ length stands.now }
     requires few { length stands.now < 2 ^ 32 }
-    ensures lines { IfOk result (λ next. (behind : List Item → List ListingLine) → map line_view out.new.items ++ behind (rest_items next stands.now) ≡ map line_view out.old.items ++ emit_at own_line home (rest_items from stands.now) behind) }
+    ensures lines { IfOk result (λ next. (behind : List Item → List LineModel) → map line_view out.new.items ++ behind (rest_items next stands.now) ≡ map line_view out.old.items ++ emit_at own_line home (rest_items from stands.now) behind) }
     ensures within { IfOk result (λ next. next ≤ length stands.now) }
     ensures same { kept.new ≡ kept.old }
 {

@@ -10,13 +10,14 @@ use Rattle.window_exec.specs.declared.state.WState.{WState}
 use Rattle.window_exec.specs.State.{values_of, Differ}
 use Rattle.window_exec.proofs.Differences.{differs_anywhere, differs_is}
 use Rattle.seq_enum.specs.Alphabet.{numbers_from, alphabet}
-use Rattle.seq_enum.proofs.Numbered.{length-numbers}
 use Rattle.fingerprints.specs.declared.trials.Trial.{Trial}
 use Rattle.fingerprints.specs.Outcomes.{Extent, sequences_below, AreAgreeing, grown_to, added}
 use Rattle.fingerprints.specs.Tables.{IsFor}
 use Rattle.fingerprints.specs.Candidates.{TellsFrom, AreCandidates, BeginsAt, grown_for, added_for}
-use Rattle.fingerprints.proofs.Looking.{numbers_ascend, number_here}
+use Rattle.fingerprints.proofs.Looking.{number_here}
 use Rattle.fingerprints.proofs.Growing.{below_longest}
+use Rattle.seq_enum.proofs.Ascending.{ascends_numbers as numbers_ascend}
+use Rattle.seq_enum.proofs.CostLines.{length-from as length-numbers}
 
 flipped : (v w : Values) (mask : ℕ) → Differ v w mask → Differ w v mask
 flipped v w mask d = (d.0, d.1, λ e. d.2 (sym e))

@@ -10,15 +10,15 @@ use Rattle.window_exec.specs.declared.state.WState.{WState}
 use Rattle.window_exec.specs.State.{values_of, Differ}
 use Rattle.seq_enum.specs.Alphabet.{numbers_from, alphabet, words}
 use Rattle.seq_enum.specs.Places.{sum_below}
-use Rattle.seq_enum.proofs.Numbered.{get_front}
 use Rattle.seq_enum.proofs.Words.{length-words}
 use Rattle.fingerprints.proofs.Letters.{letter}
-use Rattle.fingerprints.proofs.PrintCandidates.{numbers_split}
 use Rattle.fingerprints.specs.declared.outcome_columns.Columns.{Columns}
 use Rattle.fingerprints.specs.OutcomeColumns.{extended, IsAfter, Holds}
 use Rattle.fingerprints.specs.Looks.{IsLike, AreThose}
 use Rattle.fingerprints.specs.Outcomes.{sequences_below, Extent, sequences_in, AreAgreeing, IsTable}
 use Rattle.fingerprints.proofs.Holding.{holds_more}
+use Rattle.common_lemmas.proofs.Lists.{get_front}
+use Rattle.seq_enum.proofs.Weighing.{numbers_split}
 
 -- ---- sequences by their lengths ----
 

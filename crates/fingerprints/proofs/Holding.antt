@@ -13,11 +13,12 @@ use Rattle.thumb_instr.specs.Window.{is_in_window, named, AreBelow}
 use Rattle.thumb_model.specs.Effect.{Values, n_flag, z_flag, c_flag, v_flag, after, after_all}
 use Rattle.window_exec.specs.declared.state.WState.{WState}
 use Rattle.window_exec.specs.State.{values_of}
-use Rattle.seq_enum.proofs.Numbered.{get_front, get_back}
+use Rattle.seq_enum.proofs.Numbered.{get_back}
 use Rattle.fingerprints.specs.declared.outcome_columns.Columns.{Columns}
 use Rattle.fingerprints.proofs.KeptRegisters.{letter_keeps}
 use Rattle.fingerprints.specs.OutcomeColumns.{outcome_at, extended, IsAfter, count_for, Holds, KeepsFrom, HaveRoom}
 use Rattle.fingerprints.specs.Print.{one_if}
+use Rattle.common_lemmas.proofs.Lists.{get_front}
 
 -- ---- a word more in a column ----
 

@@ -1,6 +1,6 @@
 -- Numbers that are kept of a list, and which they are.
 use Rattle.std.proofs.Common.{◌≡◌, ℕ, zero, suc, ◌+◌, ◌<◌, ◌≤◌, ◌==◌, ◌&&◌, ◌||◌, not, inl, inr, Bool, true, false, List, [], ◌∷◌, ◌++◌, Contains, Some, cond, filter, length, slice_index, get_or, nat_le, refl, sym, ◌∙◌, ap, subst, arith, eq-eqb, eqb-true}
-use Rattle.std.proofs.lemmas.Bool.{cases_Bool, and_parts, leb-true, le-leb, lt-ltb, false≢true}
+use Rattle.std.proofs.lemmas.Bool.{cases_Bool, and_parts, leb-true, le-leb, lt-ltb, false≢true, not-true, not-false}
 use Rattle.std.proofs.lemmas.List.{get_or_default}
 use Rattle.std.proofs.lemmas.List.Elements.{filter-append, filter_passes}
 use Rattle.std.proofs.lemmas.Option.{get_or_from_slice_get}
@@ -9,21 +9,19 @@ use Rattle.window_exec.specs.declared.state.WState.{WState}
 use Rattle.window_exec.specs.State.{values_of}
 use Rattle.window_exec.proofs.Differences.{differs_at, differs_anywhere, differs_is}
 use Rattle.seq_enum.specs.Alphabet.{numbers_from, ascends_from}
-use Rattle.seq_enum.proofs.Numbered.{length-numbers, numbers_at}
-use Rattle.fingerprints.proofs.PrintCandidates.{numbers_split}
+use Rattle.seq_enum.proofs.Numbered.{numbers_at}
 use Rattle.fingerprints.specs.declared.outcome_columns.Columns.{Columns}
 use Rattle.fingerprints.specs.OutcomeColumns.{column_of, outcome_at, AreFull}
 use Rattle.fingerprints.specs.Looks.{flags_differ, keeps_word, IsLike, AreAmong, AreThose}
+use Rattle.seq_enum.proofs.Ascending.{ascends_lower, ascends_numbers, ascends_filter}
+use Rattle.seq_enum.proofs.CostLines.{length-from}
+use Rattle.seq_enum.proofs.Weighing.{numbers_split}
 
 -- ---- filters ----
 
 pub numbers_none : numbers_from 0 0 ≡ []
 unfolding numbers_from
 numbers_none = refl
-
-pub numbers_push : (n : ℕ) → numbers_from 0 (n + 1) ≡ numbers_from 0 n ++ n ∷ []
-unfolding numbers_from
-numbers_push n = let none : 0 + n ≡ n = omega arith in numbers_split 0 n 1 ∙ ap (λ m. numbers_from 0 n ++ m ∷ []) none
 
 -- one number more
 pub numbers_more : (p : ℕ → Bool) (n : ℕ) → filter p (numbers_from 0 (n + 1)) ≡ filter p (numbers_from 0 n) ++ cond (p n) (n ∷ []) []
@@ -49,24 +47,6 @@ kept_none p n (suc count) h =
     let one : n + suc count ≡ (n + count) + 1 = omega arith in
     let last : p (n + count) ≡ false = h (n + count) (omega arith) (omega arith) in
     rw one (sym (kept_less p (n + count) (filter p (numbers_from 0 (n + count))) refl last) ∙ kept_none p n count (λ k low high. h k low (omega (arith, high))))
-
-pub ascends_lower : (low high : ℕ) (xs : List ℕ) → low ≤ high → ascends_from high xs ≡ true → ascends_from low xs ≡ true
-unfolding ascends_from
-ascends_lower low high [] h a = refl
-ascends_lower low high (x ∷ xs) h a =
-    let parts = and_parts (nat_le high x) (ascends_from (suc x) xs) a in
-    let l : high ≤ x = leb-true high x parts.0 in
-    rw (le-leb low x (omega arith)) parts.1
-
-pub filter_ascends : (p : ℕ → Bool) (low : ℕ) (xs : List ℕ) → ascends_from low xs ≡ true → ascends_from low (filter p xs) ≡ true
-unfolding ascends_from
-filter_ascends p low [] a = refl
-filter_ascends p low (x ∷ xs) a =
-    let parts = and_parts (nat_le low x) (ascends_from (suc x) xs) a in
-    elim (p x) as (λ b. ascends_from low (cond b (x ∷ filter p xs) (filter p xs)) ≡ true) [
-      | true ↦ rw parts.0 (filter_ascends p (suc x) xs parts.1)
-      | false ↦ (let k : low ≤ x = leb-true low x parts.0 in ascends_lower low (suc x) (filter p xs) (omega (arith, k)) (filter_ascends p (suc x) xs parts.1))
-    ]
 
 pub filter_has : (p : ℕ → Bool) (xs : List ℕ) (q : ℕ) → p q ≡ true → Contains xs q → Contains (filter p xs) q
 filter_has p xs q h c = found xs c.0 c.1 c.2
@@ -107,30 +87,21 @@ filter_does p xs q c = subst (λ x. p x ≡ true) c.2 (filter_passes p xs c.0 q 
 
 -- ---- numbers below a limit ----
 
-pub numbers_ascend : (n count : ℕ) → ascends_from n (numbers_from n count) ≡ true
-unfolding ascends_from numbers_from
-numbers_ascend n zero = refl
-numbers_ascend n (suc count) = rw (le-leb n n (omega arith)) (numbers_ascend (suc n) count)
-
 pub number_here : (limit k q : ℕ) → k < limit → get_or (numbers_from 0 limit) k q ≡ k
 number_here limit k q low = let none : 0 + k ≡ k = omega arith in get_or_from_slice_get (numbers_from 0 limit) k k q (numbers_at 0 limit k low ∙ ap (λ z. Some z) none)
 
 pub filtered_among : (P : ℕ → Type 0) (p : ℕ → Bool) (limit : ℕ) → ((q : ℕ) → q < limit → P q → p q ≡ true) → AreAmong P limit (filter p (numbers_from 0 limit))
 filtered_among P p limit h = record {
-  ascending = filter_ascends p 0 (numbers_from 0 limit) (numbers_ascend 0 limit);
+  ascending = ascends_filter p 0 (numbers_from 0 limit) (ascends_numbers 0 limit);
   within = λ q c.
       let k = filter_in p (numbers_from 0 limit) q c in
-      let low : k.0 < limit = omega (arith, k.1, length-numbers 0 limit) in
+      let low : k.0 < limit = omega (arith, k.1, length-from 0 limit) in
       let is : k.0 ≡ q = sym (number_here limit k.0 q low) ∙ k.2 in
       omega (arith, is, low);
-  each = λ q low does. filter_has p (numbers_from 0 limit) q (h q low does) (q, omega (arith, length-numbers 0 limit), number_here limit q q low);
+  each = λ q low does. filter_has p (numbers_from 0 limit) q (h q low does) (q, omega (arith, length-from 0 limit), number_here limit q q low);
 }
 
 -- ---- states that are alike ----
-
-not_not : (b : Bool) → not b ≡ false → b ≡ true
-not_not true h = refl
-not_not false h = absurd (false≢true (sym h))
 
 -- the words of a state that stands in columns
 word_of : (c : Columns) (start : WState) (q register : ℕ) → register < 4 → values_of (outcome_at c start q) register ≡ get_or (column_of c register) q (values_of start register)
@@ -164,7 +135,7 @@ module _ (c : Columns) (start end : WState) (mask q : ℕ) (like : IsLike c star
   flags_like = rw (quiet_at 15, quiet_at 16, quiet_at 17, quiet_at 18) refl
 
   keeps_like : (wanted : Bool) (column : List ℕ) (other word : ℕ) → (wanted && not (get_or column q other == word)) ≡ false → keeps_word wanted column other word q ≡ true
-  keeps_like true column other word h = not_not (get_or column q other == word) h
+  keeps_like true column other word h = not-false (get_or column q other == word) h
   keeps_like false column other word h = refl
 
 pub word_among : (c : Columns) (start end : WState) (mask k register limit word : ℕ) (column : List ℕ) (numbers : List ℕ) → AreFull k c → register < k → k ≤ 4 → has mask register ≡ true → limit ≤ length c.flags.items
@@ -186,10 +157,6 @@ flags_among c start end mask limit flags numbers is n =
 said : (wanted : Bool) (column : List ℕ) (other word q : ℕ) → keeps_word wanted column other word q ≡ true → (wanted && not (get_or column q other == word)) ≡ false
 said true column other word q h = ap (λ b. not b) h
 said false column other word q h = refl
-
-not_true : (b : Bool) → not b ≡ true → b ≡ false
-not_true true h = absurd (false≢true h)
-not_true false h = refl
 
 none_of_eight : (a b c d n z k v : Bool) → a ≡ false → b ≡ false → c ≡ false → d ≡ false → (n || z || k || v) ≡ false → (a || b || c || d || n || z || k || v) ≡ false
 none_of_eight false false false false n z k v a b c d h = h
@@ -216,11 +183,11 @@ all_looks c start end mask limit xs0 xs1 xs2 xs3 xs4 xs5 in_masks among e1 e2 e3
     let p4 : ℕ → Bool = λ q. not (flags_differ mask (get_or c.flags.items q 0) end.nzcv) in
     record {
       ascending =
-          subst (λ xs. ascends_from 0 xs ≡ true) (sym e5) (filter_ascends p4 0 xs4
-          (subst (λ xs. ascends_from 0 xs ≡ true) (sym e4) (filter_ascends p3 0 xs3
-          (subst (λ xs. ascends_from 0 xs ≡ true) (sym e3) (filter_ascends p2 0 xs2
-          (subst (λ xs. ascends_from 0 xs ≡ true) (sym e2) (filter_ascends p1 0 xs1
-          (subst (λ xs. ascends_from 0 xs ≡ true) (sym e1) (filter_ascends p0 0 xs0 among.ascending)))))))));
+          subst (λ xs. ascends_from 0 xs ≡ true) (sym e5) (ascends_filter p4 0 xs4
+          (subst (λ xs. ascends_from 0 xs ≡ true) (sym e4) (ascends_filter p3 0 xs3
+          (subst (λ xs. ascends_from 0 xs ≡ true) (sym e3) (ascends_filter p2 0 xs2
+          (subst (λ xs. ascends_from 0 xs ≡ true) (sym e2) (ascends_filter p1 0 xs1
+          (subst (λ xs. ascends_from 0 xs ≡ true) (sym e1) (ascends_filter p0 0 xs0 among.ascending)))))))));
       such = λ q. (
         λ there.
             let c5 = subst (λ xs. Contains xs q) e5 there in
@@ -232,7 +199,7 @@ all_looks c start end mask limit xs0 xs1 xs2 xs3 xs4 xs5 in_masks among e1 e2 e3
             let t1 = said (has mask 1) c.r1.items (slice_index start.r 1) (slice_index end.r 1) q (filter_does p1 xs1 q c2) in
             let t2 = said (has mask 2) c.r2.items (slice_index start.r 2) (slice_index end.r 2) q (filter_does p2 xs2 q c3) in
             let t3 = said (has mask 3) c.r3.items (slice_index start.r 3) (slice_index end.r 3) q (filter_does p3 xs3 q c4) in
-            let tf = not_true (flags_differ mask (get_or c.flags.items q 0) end.nzcv) (filter_does p4 xs4 q c5) in
+            let tf = not-true (flags_differ mask (get_or c.flags.items q 0) end.nzcv) (filter_does p4 xs4 q c5) in
             let v = values_of (outcome_at c start q) in
             let w = values_of end in
             let none : differs_anywhere mask v w ≡ false = none_of_eight (differs_at mask v w 0) (differs_at mask v w 1) (differs_at mask v w 2) (differs_at mask v w 3) (differs_at mask v w 15) (differs_at mask v w 16) (differs_at mask v w 17) (differs_at mask v w 18) t0 t1 t2 t3 tf in

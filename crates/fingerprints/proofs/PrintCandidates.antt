@@ -10,11 +10,14 @@ use Rattle.std.proofs.lemmas.Option.{slice_get-map, slice_get_within, get_or_fro
 use Rattle.thumb_instr.specs.declared.instr.Instr.{Instr}
 use Rattle.thumb_model.specs.Effect.{Values}
 use Rattle.seq_enum.specs.Alphabet.{numbers_from, words, sequences_of}
-use Rattle.seq_enum.proofs.Numbered.{length-numbers, numbers_at, get_front, get_back, flat_map_at}
+use Rattle.seq_enum.proofs.Numbered.{numbers_at, get_back, flat_map_at}
 use Rattle.seq_enum.proofs.Words.{word_length}
 use Rattle.fingerprints.specs.Print.{print_after}
 use Rattle.fingerprints.specs.Sequences.{sequences_within, prints_within}
 use Rattle.fingerprints.specs.Index.{scanned}
+use Rattle.common_lemmas.proofs.Lists.{get_front}
+use Rattle.seq_enum.proofs.CostLines.{length-from}
+use Rattle.seq_enum.proofs.Weighing.{numbers_split}
 
 -- ---- a scan finds the places of a print
 
@@ -59,17 +62,6 @@ place_found print n (p ∷ ps) (suc i) e =
 
 -- ---- the sequences of at most so many instructions come first
 
-pub numbers_split : (a m n : ℕ) → numbers_from a (m + n) ≡ numbers_from a m ++ numbers_from (a + m) n
-unfolding numbers_from
-numbers_split a zero n =
-    let p : 0 + n ≡ n = omega arith in
-    let q : a + 0 ≡ a = omega arith in
-    rw (p, q) refl
-numbers_split a (suc m) n =
-    let p : suc m + n ≡ suc (m + n) = omega arith in
-    let q : suc a + m ≡ a + suc m = omega arith in
-    rw p (ap (λ xs. a ∷ xs) (numbers_split (suc a) m n ∙ ap (λ b. numbers_from (suc a) m ++ numbers_from b n) q))
-
 -- the sequences of more instructions
 longer : ℕ → List Instr → List (List Instr)
 longer longest letters = flat_map (words letters) (numbers_from (longest + 1) (5 - longest))
@@ -87,7 +79,7 @@ sequences_split longest letters h =
 pub length_within : (letters : List Instr) (first count i : ℕ) (seq : List Instr) → slice_get (flat_map (words letters) (numbers_from first count)) i ≡ Some seq → (first ≤ length seq) × (length seq < first + count)
 length_within letters first count i seq e =
     flat_map_at (words letters) (numbers_from first count) i seq e (λ h n j at there.
-    let low : h < count = omega (arith, slice_get_within (numbers_from first count) h n at, length-numbers first count) in
+    let low : h < count = omega (arith, slice_get_within (numbers_from first count) h n at, length-from first count) in
     let is : first + h ≡ n = same_Some (first + h) n (sym (numbers_at first count h low) ∙ at) in
     let size : length seq ≡ n = word_length letters n j seq there in
     (omega (arith, is, size), omega (arith, low, is, size)))

@@ -2,7 +2,7 @@
 use Rattle.std.proofs.Common.{◌≡◌, ◌≢◌, ℕ, zero, suc, ◌+◌, ◌-◌, ◌/◌, ◌==◌, ◌&&◌, ◌||◌, Bool, true, false, List, [], ◌∷◌, ◌++◌, length, take, map, Option, Some, None, refl, sym, ap, ◌∙◌, ◌⊎◌, inl, inr, arith, ne_eqb, if◌then◌else◌}
 use Rattle.std.specs.Prelude.{slice_get}
 use Rattle.std.specs.Str.{bytes_eq}
-use Rattle.std.proofs.lemmas.Bool.{cases_eq, or_left as or_first, or_right as or_second}
+use Rattle.std.proofs.lemmas.Bool.{cases_eq, or_left as or_first, or_right as or_second, or_cases}
 use Rattle.std.proofs.lemmas.Option.{same_Some}
 use Rattle.std.proofs.lemmas.Slice.Eq.{bytes_eq-Decides}
 use Rattle.thumb_instr.specs.declared.instr.Instr.{Instr}
@@ -17,7 +17,6 @@ use Rattle.thumb_model.proofs.Points.{point_places}
 use Rattle.listing_parser.specs.Targets.{aimed, aimed_line, aimed_lines}
 use Rattle.flow_tidy.specs.Tidying.{is_branch}
 use Rattle.flow_tidy.proofs.Ways.{second, some_naming}
-use Rattle.listing_parser.proofs.LabelLemmas.{or_true as or_either}
 use Rattle.thumb_model.proofs.LinesReplaced.{kept_places, kept_labels}
 use Rattle.listing_parser.proofs.ReplaceLemmas.{aimed_place as aimed_size}
 
@@ -114,14 +113,14 @@ mentioned_at n label (Word v) h = inl h
 
 mentioned_before : (n label : Name) (p : ℕ) (xs : List Place) → is_mentioned n (aimed_places p label xs) ≡ true → (is_mentioned n xs ≡ true) ⊎ (n ≡ label)
 mentioned_before n label p [] h = absurd (cc)
-mentioned_before n label zero (x ∷ xs) h = elim (or_either (place_mentions n (aimed_place label x)) (is_mentioned n xs) h) [
+mentioned_before n label zero (x ∷ xs) h = elim (or_cases (place_mentions n (aimed_place label x)) (is_mentioned n xs) h) [
   | inl a ↦ elim (mentioned_at n label x a) [
     | inl b ↦ inl (or_first (place_mentions n x) (is_mentioned n xs) b)
     | inr b ↦ inr b
   ]
   | inr a ↦ inl (or_second (place_mentions n x) (is_mentioned n xs) a)
 ]
-mentioned_before n label (suc p) (x ∷ xs) h = elim (or_either (place_mentions n x) (is_mentioned n (aimed_places p label xs)) h) [
+mentioned_before n label (suc p) (x ∷ xs) h = elim (or_cases (place_mentions n x) (is_mentioned n (aimed_places p label xs)) h) [
   | inl a ↦ inl (or_first (place_mentions n x) (is_mentioned n xs) a)
   | inr a ↦ elim (mentioned_before n label p xs a) [
     | inl b ↦ inl (or_second (place_mentions n x) (is_mentioned n xs) b)

@@ -11,12 +11,9 @@ use Rattle.label_layout.specs.Addresses.{addresses_in, addresses_from, Addresses
 use Rattle.label_layout.proofs.Sums.{places_counted_in}
 use Rattle.listing_parser.specs.Targets.{aimed, aimed_line, aimed_lines}
 use Rattle.flow_tidy.proofs.Aimed.{past_words}
+use Rattle.thumb_model.proofs.Shared.{first_none, same_fault}
 
 -- ---- first faults ----
-
-none_first : (n : ℕ) (f : Option Fault) (rest : Option (ℕ × Fault)) → or_first n f rest ≡ None → (f ≡ None) × (rest ≡ None)
-none_first n None rest e = (refl, e)
-none_first n (Some f) rest e = absurd (cc)
 
 both_none : (n : ℕ) (f : Option Fault) (rest : Option (ℕ × Fault)) → f ≡ None → rest ≡ None → or_first n f rest ≡ None
 both_none n None rest e h = h
@@ -25,13 +22,8 @@ both_none n (Some f) rest e h = absurd (cc)
 renumbered : (lies : Name → Option ℕ) (ls : List ListingLine) (n m at : ℕ) → faults_from lies n at ls ≡ None → faults_from lies m at ls ≡ None
 renumbered lies [] n m at e = refl
 renumbered lies (l ∷ ls) n m at e =
-    let b = none_first n (fault_at lies at l.statement) (faults_from lies (n + 1) (at + size_at l.statement at) ls) e in
+    let b = first_none n (fault_at lies at l.statement) (faults_from lies (n + 1) (at + size_at l.statement at) ls) e in
     both_none m (fault_at lies at l.statement) (faults_from lies (m + 1) (at + size_at l.statement at) ls) b.0 (renumbered lies ls (n + 1) (m + 1) (at + size_at l.statement at) b.1)
-
--- faults by names that lie at the same addresses
-same_fault : (lies other : Name → Option ℕ) → ((name : Name) → lies name ≡ other name) → (at : ℕ) (s : Statement) → fault_at lies at s ≡ fault_at other at s
-same_fault lies other e at (Instruction i (Some m)) = ap (λ (o : Option ℕ). aim_fault at i o m.plus) (e m.name)
-same_fault lies other e at s = refl
 
 by_names : (lies other : Name → Option ℕ) → ((name : Name) → lies name ≡ other name) → (n at : ℕ) (ls : List ListingLine) → faults_from lies n at ls ≡ faults_from other n at ls
 by_names lies other e n at [] = refl
@@ -153,8 +145,8 @@ module _ (write : Instr → Option Mention → List ℕ) (label : Name) where
         let there : slice_get (addresses_from (at + size_at s at) ls) r ≡ Some a = sym (get_back (addresses_in at s) (addresses_from (at + size_at s at) ls) r p (let c = places_counted_in at s in omega arith)) ∙ h in
         let inner = rec r next (n + 1) (m + 1) e (ap (λ x. slice_get (addresses_from (at + size_at x at) ls) r) f ∙ there) in
         subst (λ q. (faults_from lies n at (l ∷ ls) ≡ None → aim_fault a i (lies label) 0 ≡ None → faults_from lies m at (l ∷ new_lines q ls) ≡ None) × (faults_from lies m at (l ∷ new_lines q ls) ≡ None → aim_fault a i (lies label) 0 ≡ None)) (sym is) (
-          (λ free good. let b = none_first n (fault_at lies at l.statement) (faults_from lies (n + 1) next ls) free in both_none m (fault_at lies at l.statement) (faults_from lies (m + 1) next (new_lines r ls)) b.0 (inner.0 b.1 good)),
-          (λ free. inner.1 (none_first m (fault_at lies at l.statement) (faults_from lies (m + 1) next (new_lines r ls)) free).1),
+          (λ free good. let b = first_none n (fault_at lies at l.statement) (faults_from lies (n + 1) next ls) free in both_none m (fault_at lies at l.statement) (faults_from lies (m + 1) next (new_lines r ls)) b.0 (inner.0 b.1 good)),
+          (λ free. inner.1 (first_none m (fault_at lies at l.statement) (faults_from lies (m + 1) next (new_lines r ls)) free).1),
         )
 
     -- the line itself, with the branch and what stands behind
@@ -168,9 +160,9 @@ module _ (write : Instr → Option Mention → List ℕ) (label : Name) where
         let is : fault ≡ aim_fault a i (lies label) 0 = ap (λ x. fault_at lies at (aimed label x)) f ∙ ap (λ x. aim_fault x i (lies label) 0) g in
         let same : rest ≡ faults_from lies (m + 1) next ls = ap (λ x. faults_from lies (m + 1) (at + x) ls) (same_size l.statement at) in (
           (λ free good.
-              let b = none_first n (fault_at lies at l.statement) (faults_from lies (n + 1) next ls) free in
+              let b = first_none n (fault_at lies at l.statement) (faults_from lies (n + 1) next ls) free in
               both_none m fault rest (is ∙ good) (same ∙ renumbered lies ls (n + 1) (m + 1) next b.1)),
-          (λ free. sym is ∙ (none_first m fault rest free).0),
+          (λ free. sym is ∙ (first_none m fault rest free).0),
         )
 
     head_faults : (l : ListingLine) (ns : List Name) (ls : List ListingLine) (at n m : ℕ) → l.statement ≡ Instruction i mention → at ≡ a →

@@ -18,6 +18,7 @@ use Rattle.flow_tidy.specs.Made.{label_of_always, label_of_branch}
 use Rattle.flow_tidy.specs.Quick.{EndsAt}
 use Rattle.flow_tidy.specs.ChainEnds.{hop_at, known_by, known_in, AreEnds, AreWalked, IsLast, IsStamped, LastBy, LastOf}
 use Rattle.flow_tidy.proofs.Hopping.{goes, some_of}
+use Rattle.common_lemmas.proofs.Lists.{get_set as is_set}
 
 -- ---- hops by places ----
 
@@ -204,11 +205,6 @@ stays_set (z ∷ xs) zero zero x e = refl
 stays_set (z ∷ xs) zero (suc q) x e = e
 stays_set (z ∷ xs) (suc p) zero x e = e
 stays_set (z ∷ xs) (suc p) (suc q) x e = stays_set xs p q x e
-
-is_set : {A : Type 0} (xs : List A) (p : ℕ) (x : A) → p < length xs → slice_get (slice_set xs p x) p ≡ Some x
-is_set [] p x h = absurd (omega arith)
-is_set (z ∷ xs) zero x h = refl
-is_set (z ∷ xs) (suc p) x h = is_set xs p x (omega arith)
 
 -- ---- what is noted ----
 

@@ -10,10 +10,12 @@ use Rattle.thumb_model.specs.Listing.{Mention, Place, Op, Word, Label, Code, is_
 use Rattle.thumb_model.specs.Steps.{aim_of}
 use Rattle.thumb_model.specs.Flow.{Way, Leads, Onward, ToPlace, AnyPoint, Out, ways_of, ways_on, ways, Follows}
 use Rattle.thumb_model.specs.Replaced.{moved, move_label, replaced}
-use Rattle.thumb_model.proofs.Lists.{get_drop, get_take, get_front, get_back, take_all}
+use Rattle.thumb_model.proofs.Lists.{get_drop, get_take, get_back, take_all}
 use Rattle.thumb_model.proofs.Moved.{AreNoCalls, IsReplacement, IsOutside, fetch_outside, points_moved, place_moved}
 use Rattle.code_flow.specs.Reached.{Reached, point, along}
-use Rattle.flow_tidy.proofs.Ways.{lead_to, way_to, ways_of_to, way_back, way_forth, one_of_map, one_of_unmap, points_to}
+use Rattle.flow_tidy.proofs.Ways.{lead_to, way_to, ways_of_to, way_back, way_forth, points_to}
+use Rattle.common_lemmas.proofs.Lists.{get_front}
+use Rattle.thumb_model.proofs.Shared.{one_of_map, one_of_unmap}
 
 -- an instruction that is no call, at whose place no code label stands unless an instruction follows, and which leads to the next place alone, if it is reached
 pub record MayGo (code : Code) (p : ℕ) : Type 0 where

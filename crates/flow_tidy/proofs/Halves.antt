@@ -19,6 +19,7 @@ use Rattle.listing_draft.specs.Invariant.{IsDraft}
 use Rattle.listing_draft.proofs.Stands.{aimed_to, stands_at}
 use Rattle.flow_tidy.specs.Halves.{halves, wide_count, wide_of, wides_before, IsBeyond}
 use Rattle.flow_tidy.proofs.Aimed.{past_words}
+use Rattle.thumb_model.proofs.Shared.{words_length}
 
 -- ---- counts ----
 
@@ -97,10 +98,6 @@ wide_kept d h none (suc p) =
 all_words : (vs : List Value) → wide_count (map Word vs) (length (map Word vs)) ≡ length vs
 all_words [] = refl
 all_words (v ∷ vs) = let r = all_words vs in omega arith
-
-words_length : (vs : List Value) → length (map Word vs) ≡ length vs
-words_length [] = refl
-words_length (v ∷ vs) = ap suc (words_length vs)
 
 -- an instruction takes two bytes, and one that is wide four: a row
 instr_least : (i : Instr) (m : Option Mention) → 2 + 2 * wide_of (Some (Op i m)) ≤ instr_size i

@@ -9,7 +9,7 @@ use Rattle.thumb_instr.specs.declared.instr.Instr.{Instr}
 use Rattle.thumb_model.specs.Listing.{Name, Mention, Op, ListingLine, Code, code_of, places_of}
 use Rattle.thumb_model.specs.Layout.{Layable}
 use Rattle.thumb_model.specs.Replaced.{moved, replaced}
-use Rattle.thumb_model.proofs.Lists.{get_back, get_drop, get_front, get_take, take_all}
+use Rattle.thumb_model.proofs.Lists.{get_back, get_drop, get_take, take_all}
 use Rattle.code_flow.specs.Marks.{AreMarks}
 use Rattle.code_flow.specs.Reached.{Reached}
 use Rattle.label_layout.specs.Addresses.{Addresses, AreAddresses}
@@ -24,6 +24,7 @@ use Rattle.flow_tidy.proofs.Going.{MayGo, origin, reached_back, reached_forth}
 use Rattle.flow_tidy.proofs.Making.{stands_within, NoneBefore}
 use Rattle.flow_tidy.proofs.Removed.{code_without, idle_may_go, next_may_go}
 use Rattle.listing_draft.proofs.Drafts.{set_length as length_set}
+use Rattle.common_lemmas.proofs.Lists.{get_set, get_front, get_unset}
 
 -- ---- lists ----
 
@@ -37,18 +38,6 @@ get_removed xs p q h ne =
           ∙ get_back (take p xs) (drop (suc p) xs) (q - 1 - p) (q - 1) (omega arith)
           ∙ get_drop (suc p) xs (q - 1 - p) q (omega arith)
     ]
-
-get_set : {A : Type 0} (xs : List A) (p : ℕ) (x : A) → p < length xs → slice_get (slice_set xs p x) p ≡ Some x
-get_set [] p x h = absurd (omega arith)
-get_set (y ∷ xs) zero x h = refl
-get_set (y ∷ xs) (suc p) x h = get_set xs p x (omega arith)
-
-get_unset : {A : Type 0} (xs : List A) (p q : ℕ) (x : A) → q ≢ p → slice_get (slice_set xs p x) q ≡ slice_get xs q
-get_unset [] p q x ne = refl
-get_unset (y ∷ xs) zero zero x ne = absurd (ne refl)
-get_unset (y ∷ xs) zero (suc q) x ne = refl
-get_unset (y ∷ xs) (suc p) zero x ne = refl
-get_unset (y ∷ xs) (suc p) (suc q) x ne = get_unset xs p q x (λ e. ne (ap suc e))
 
 get_all : (n p : ℕ) → p < n → slice_get (replicate n true) p ≡ Some true
 get_all zero p h = absurd (omega arith)

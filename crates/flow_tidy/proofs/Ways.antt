@@ -54,24 +54,6 @@ way_back to (v ∷ ws) (suc k) w e = way_back to ws k w e
 pub way_forth : (to : ℕ → ℕ) (ws : List Way) (k : ℕ) (w : Way) → slice_get ws k ≡ Some w → slice_get (map (way_to to) ws) k ≡ Some (way_to to w)
 way_forth to ws k w e = slice_get-map (way_to to) ws k ∙ ap (option_map (way_to to)) e
 
--- ---- places that move, in lists ----
-
-pub one_of_map : (to : ℕ → ℕ) (q : ℕ) (xs : List ℕ) → one_of q xs ≡ true → one_of (to q) (map to xs) ≡ true
-one_of_map to q [] h = absurd (cc)
-one_of_map to q (x ∷ xs) h =
-    elim (q == x) as (λ b. (q == x) ≡ b → (b || one_of q xs) ≡ true → one_of (to q) (map to (x ∷ xs)) ≡ true) [
-      | true ↦ λ e _. ap (λ b. b || one_of (to q) (map to xs)) (eq-eqb (to q) (to x) (ap to (eqb-true q x e)))
-      | false ↦ λ e f. one_of_back (to q) (to x ∷ []) (map to xs) (one_of_map to q xs f)
-    ] refl h
-
-pub one_of_unmap : (to : ℕ → ℕ) (r : ℕ) (xs : List ℕ) → one_of r (map to xs) ≡ true → (q : ℕ) × (one_of q xs ≡ true) × (to q ≡ r)
-one_of_unmap to r [] h = absurd (cc)
-one_of_unmap to r (x ∷ xs) h =
-    elim (r == to x) as (λ b. (r == to x) ≡ b → (b || one_of r (map to xs)) ≡ true → (q : ℕ) × (one_of q (x ∷ xs) ≡ true) × (to q ≡ r)) [
-      | true ↦ λ e _. (x, ap (λ b. b || one_of x xs) (eq-eqb x x refl), sym (eqb-true r (to x) e))
-      | false ↦ λ e f. (let a = one_of_unmap to r xs f in (a.0, one_of_back a.0 (x ∷ []) xs a.1, a.2))
-    ] refl h
-
 -- ---- points ----
 
 -- what one sees of a listing alone: any naming

@@ -15,11 +15,11 @@ use Rattle.kept_layout.specs.Blocks.{addresses, is_loose, lag_of, literal_last, 
 use Rattle.kept_layout.specs.Cutting.{AreCallers, KnowCallers}
 use Rattle.kept_layout.specs.Moves.{unaligned}
 use Rattle.kept_layout.proofs.MovingPlaces.{footprint_at}
-use Rattle.kept_layout.proofs.ShrinkingNotes.{map_length, set_else, set_here}
-use Rattle.kept_layout.proofs.ShrinkingPlaces.{get_map, lag_behind, footprints_length}
-use Rattle.kept_layout.proofs.ShrinkingStarts.{drop_one}
+use Rattle.kept_layout.proofs.ShrinkingNotes.{map_length, set_else}
+use Rattle.kept_layout.proofs.ShrinkingPlaces.{lag_behind, footprints_length}
 use Rattle.kept_layout.proofs.ShrinkingWalk.{drop_all}
 use Rattle.kept_layout.proofs.Together.{divides_on}
+use Rattle.common_lemmas.proofs.Lists.{get_set, get_map, drop_at}
 
 -- ---- with other alignments ----
 
@@ -118,12 +118,12 @@ pub alignments_on : (all : List Block) (last alignment number : ℕ) (ss : List 
 alignments_on all last alignment number ss n s t h e f g =
     let same = footprints_same ss all h.same in
     let footprint : slice_get (footprints_of all) n ≡ Some (footprint_of s) = ap (λ (xs : List Footprint). slice_get xs n) (sym same) ∙ footprint_at ss n s f in
-    let one = drop_one (footprints_of all) n (footprint_of s) footprint in
+    let one = drop_at (footprints_of all) n (footprint_of s) footprint in
     let rest : IsAlignment t.alignment (drop (suc n) (footprints_of all)) = alignment_on alignment t.alignment (drop (suc n) (footprints_of all)) g.from (subst (λ m. IsAlignment alignment (drop m (footprints_of all))) e h.next) in
     let next : IsAlignment t.alignment (drop n (footprints_of all)) = subst (IsAlignment t.alignment) (sym one) (g.own, rest) in
     let size = length-set ss n t in
     let low = h.within in
-    let is : slice_get (slice_set ss n t) n ≡ Some t = set_here ss n t (slice_get_within ss n s f) in
+    let is : slice_get (slice_set ss n t) n ≡ Some t = get_set ss n t (slice_get_within ss n s f) in
     record {
       same = same_aligned ss n s t f g.same ∙ h.same;
       within = omega arith;

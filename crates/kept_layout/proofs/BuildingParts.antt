@@ -1,7 +1,7 @@
 -- Lines cut into parts: joined they are the lines, and the part of a label is that in which its line stands.
 use Rattle.std.proofs.Common.{◌≡◌, ◌∙◌, inl, inr, ℕ, zero, suc, ◌+◌, ◌<◌, ◌||◌, Bool, true, false, List, [], ◌∷◌, ◌++◌, length, map, get_or, Option, Some, None, refl, sym, ap, arith, true≢false}
 use Rattle.std.specs.Prelude.{not}
-use Rattle.std.proofs.lemmas.Bool.{cases_Bool}
+use Rattle.std.proofs.lemmas.Bool.{cases_Bool, not-false}
 use Rattle.thumb_model.specs.Listing.{Name, Statement, Nothing, Instruction, Words, Aligns, Sets, ListingLine}
 use Rattle.thumb_model.specs.Layout.{cleared, is_among, set_address}
 use Rattle.window_runs.specs.Rows.{is_unlabelled}
@@ -15,13 +15,8 @@ use Rattle.kept_layout.specs.Cutting.{front_part, later_parts, parts_of, number_
 
 -- ---- the lines of parts ----
 
--- a line that begins no block
-not_true : (b : Bool) → not b ≡ false → b ≡ true
-not_true true e = refl
-not_true false e = sym e
-
 pub bare_line : (names : List Name) (s : Statement) → (not (is_unlabelled names) || not (is_fixed s)) ≡ false → (names ≡ []) × (is_fixed s ≡ true)
-bare_line [] s e = (refl, not_true (is_fixed s) e)
+bare_line [] s e = (refl, not-false (is_fixed s) e)
 bare_line (n ∷ ns) s e = absurd (true≢false e)
 
 pub parts_joined : (ls : List ListingLine) → front_part ls ++ joined (later_parts ls) ≡ ls

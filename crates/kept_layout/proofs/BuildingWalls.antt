@@ -11,8 +11,9 @@ use Rattle.kept_layout.specs.declared.block.Block.{Block}
 use Rattle.kept_layout.specs.Blocks.{begins_literal, is_calm, footprint_of, footprints_of, AreWalls, IsCalm, Footprint}
 use Rattle.kept_layout.specs.Cutting.{block_in, mentioned, AreCallers, KnowCallers}
 use Rattle.kept_layout.proofs.MovingPlaces.{footprint_at}
-use Rattle.kept_layout.proofs.ShrinkingNotes.{set_else, set_here}
+use Rattle.kept_layout.proofs.ShrinkingNotes.{set_else}
 use Rattle.kept_layout.proofs.ShrinkingPlaces.{footprints_length}
+use Rattle.common_lemmas.proofs.Lists.{get_set}
 
 -- a block that begins so, whose label no literal mentions
 pub is_calm_block : (ss : List Block) (n : ℕ) (s : Block) (callers : List ℕ) → slice_get ss n ≡ Some s → callers ≡ s.callers.items → KnowCallers (length ss) ss → is_calm s.head ≡ true
@@ -51,7 +52,7 @@ walls_on footprints walls n behind wall are next e calm i other f = elim (cases_
         let is = are behind wall e in
         let low = slice_get_within walls behind wall e in
         let at : slice_get (slice_set walls n wall) n ≡ Some other = ap (slice_get (slice_set walls n wall)) (sym here) ∙ f in
-        let set = set_here walls n wall (omega arith) in
+        let set = get_set walls n wall (omega arith) in
         let one : wall ≡ other = cc in
         let from = is.from in
         let within = is.within in

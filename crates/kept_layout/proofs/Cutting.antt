@@ -23,13 +23,9 @@ use Rattle.kept_layout.proofs.SetsKept.{sets_kept}
 use Rattle.thumb_model.proofs.LinesReplaced.{kept_places}
 use Rattle.kept_layout.proofs.BuildingParts.{bare_behind, bare_plain as bare_head, fixed_plain as plain_head}
 use Rattle.thumb_model.proofs.Cuts.{without_none}
+use Rattle.thumb_model.proofs.Shared.{two_bytes}
 
 -- ---- sizes ----
-
--- what may stand in a window has two bytes
-pub two_bytes : (i : Instr) → is_in_window i ≡ true → instr_size i ≡ 2
-two_bytes (instr.Mov d m) h = refl
-two_bytes i h = cc
 
 least_size : (i : Instr) → 2 ≤ instr_size i
 least_size (instr.Mov d m) = omega arith

@@ -3,6 +3,7 @@ use Rattle.std.proofs.Common.{◌≡◌, inl, inr, ℕ, ◌+◌, List, [], ◌�
 use Rattle.std.proofs.lemmas.Bool.{cases_Bool}
 use Rattle.thumb_model.specs.Listing.{Name, ListingLine}
 use Rattle.thumb_model.specs.Layout.{end_of, fault_at, faults_from, is_among, label_address, or_else, or_first, size_at, Fault}
+use Rattle.thumb_model.proofs.Shared.{first_none}
 
 -- ---- labels ----
 
@@ -27,10 +28,6 @@ right_append f at (x ∷ xs) ys n m = (n.0, right_append f (at + size_at x.state
 pub right_split : (f : Name → Option ℕ) (at : ℕ) (xs ys : List ListingLine) → NoFault f at (xs ++ ys) → NoFault f at xs × NoFault f (end_of at xs) ys
 right_split f at [] ys n = (tt, n)
 right_split f at (x ∷ xs) ys n = let r = right_split f (at + size_at x.statement at) xs ys n.1 in ((n.0, r.0), r.1)
-
-first_none : (n : ℕ) (o : Option Fault) (rest : Option (ℕ × Fault)) → or_first n o rest ≡ None → (o ≡ None) × (rest ≡ None)
-first_none n None rest e = (refl, e)
-first_none n (Some f) rest e = absurd (cc)
 
 pub none_found : (f : Name → Option ℕ) (n at : ℕ) (ls : List ListingLine) → NoFault f at ls → faults_from f n at ls ≡ None
 none_found f n at [] h = refl

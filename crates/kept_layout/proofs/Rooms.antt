@@ -4,12 +4,13 @@ use Rattle.std.specs.Prelude.{slice_get}
 use Rattle.std.proofs.lemmas.Bool.{cases_lt}
 use Rattle.std.proofs.lemmas.Nat.{mod_below}
 use Rattle.std.proofs.lemmas.Option.{slice_get_within}
-use Rattle.thumb_model.proofs.Lists.{get_back, get_front, present_at}
+use Rattle.thumb_model.proofs.Lists.{get_back, present_at}
 use Rattle.kept_layout.specs.declared.kept.KeptLayout.{KeptLayout}
 use Rattle.kept_layout.specs.declared.block.Block.{Block}
 use Rattle.kept_layout.specs.Blocks.{lessen, footprint_of, footprints_of, total_places, Footprint}
 use Rattle.kept_layout.specs.Kept.{AreRooms, IsLaid, IsRoom}
 use Rattle.kept_layout.proofs.MovingPlaces.{elsewhere, places_more, footprint_at}
+use Rattle.common_lemmas.proofs.Lists.{get_front}
 
 -- ---- those of the first ones ----
 

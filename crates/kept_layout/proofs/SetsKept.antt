@@ -6,14 +6,14 @@ use Rattle.thumb_model.specs.Listing.{Name, Statement, Nothing, Instruction, Wor
 use Rattle.thumb_model.specs.Layout.{set_address, set_in}
 use Rattle.thumb_model.specs.Replaced.{is_op, labels_kept, new_line, replaced_lines, without}
 
-op_sets_none : (q : Name) (s : Statement) (rest : Option ℕ) → is_op s ≡ true → set_in q s rest ≡ rest
+pub op_sets_none : (q : Name) (s : Statement) (rest : Option ℕ) → is_op s ≡ true → set_in q s rest ≡ rest
 op_sets_none q (Instruction i m) rest e = refl
 op_sets_none q Nothing rest e = absurd (true≢false (sym e))
 op_sets_none q (Words vs) rest e = absurd (true≢false (sym e))
 op_sets_none q (Aligns size most) rest e = absurd (true≢false (sym e))
 op_sets_none q (Sets name address) rest e = absurd (true≢false (sym e))
 
-without_sets : (q : Name) (n : ℕ) (ls : List ListingLine) → set_address q (without n ls) ≡ set_address q ls
+pub without_sets : (q : Name) (n : ℕ) (ls : List ListingLine) → set_address q (without n ls) ≡ set_address q ls
 without_sets q n [] = refl
 without_sets q zero (l ∷ ls) = refl
 without_sets q (suc n) (l ∷ ls) = elim (cases_Bool (is_op l.statement)) [
@@ -21,11 +21,11 @@ without_sets q (suc n) (l ∷ ls) = elim (cases_Bool (is_op l.statement)) [
   | inr h ↦ rw h (ap (set_in q l.statement) (without_sets q (suc n) ls))
 ]
 
-labels_set_none : (q : Name) (l : ListingLine) (names : List Name) (rest : List ListingLine) → set_address q (labels_kept l names ++ rest) ≡ set_address q rest
+pub labels_set_none : (q : Name) (l : ListingLine) (names : List Name) (rest : List ListingLine) → set_address q (labels_kept l names ++ rest) ≡ set_address q rest
 labels_set_none q l [] rest = refl
 labels_set_none q l (n ∷ ns) rest = refl
 
-new_set_none : (q : Name) (write : Instr → List ℕ) (is : List Instr) (rest : List ListingLine) → set_address q (map (new_line write) is ++ rest) ≡ set_address q rest
+pub new_set_none : (q : Name) (write : Instr → List ℕ) (is : List Instr) (rest : List ListingLine) → set_address q (map (new_line write) is ++ rest) ≡ set_address q rest
 new_set_none q write [] rest = refl
 new_set_none q write (i ∷ is) rest = new_set_none q write is rest
 

@@ -3,7 +3,7 @@ use Rattle.std.proofs.Common.{◌≡◌, ◌∙◌, ◌⊎◌, inl, inr, ℕ, su
 use Rattle.std.specs.Prelude.{slice_get, Contains}
 use Rattle.std.proofs.lemmas.Bool.{cases_Bool, cases_lt, lt-ltb, ltb-true}
 use Rattle.thumb_model.specs.Layout.{aim_fault}
-use Rattle.thumb_model.proofs.Lists.{get_back, get_front, present_at, take_all}
+use Rattle.thumb_model.proofs.Lists.{get_back, present_at, take_all}
 use Rattle.kept_layout.specs.declared.kept.KeptLayout.{KeptLayout}
 use Rattle.kept_layout.specs.declared.block.Aim.{Aim}
 use Rattle.kept_layout.specs.declared.block.Head.{Head}
@@ -17,6 +17,7 @@ use Rattle.kept_layout.specs.Moves.{end_of, is_known, moved_starts, starts_of, A
 use Rattle.kept_layout.proofs.MovingPlaces.{footprint_at}
 use Rattle.kept_layout.proofs.ShrinkingPlaces.{count_of, moved_before}
 use Rattle.kept_layout.proofs.ShrinkingStarts.{lessen_there}
+use Rattle.common_lemmas.proofs.Lists.{get_front}
 
 -- ---- lists that begin alike ----
 

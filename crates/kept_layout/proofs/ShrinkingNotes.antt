@@ -17,16 +17,12 @@ use Rattle.kept_layout.specs.Blocks.{addresses, end_from, is_calm, is_loose, lag
 use Rattle.kept_layout.specs.Kept.{AreRooms, IsLaid}
 use Rattle.kept_layout.specs.Moves.{keeps_gap, moved_starts, news, starts_of, unplaced, wall_of, AreNoted, AreNotedIn, AreSlack, IsLagAfter, IsMove, IsMoved, IsNote}
 use Rattle.kept_layout.proofs.MovingPlaces.{footprint_at}
-use Rattle.kept_layout.proofs.ShrinkingPlaces.{addresses_are, get_map, lag_before, lag_behind, lag_gap, lies_at, moved_among, moved_before, moved_behind, footprints_length}
+use Rattle.kept_layout.proofs.ShrinkingPlaces.{addresses_are, lag_before, lag_behind, lag_gap, lies_at, moved_among, moved_before, moved_behind, footprints_length}
 use Rattle.kept_layout.proofs.Walls.{bounds, end_news, few_low, news_behind, news_calm}
 use Rattle.kept_layout.proofs.ShrinkingStarts.{alignment_lessen, lessen_at, lessen_length, places_lessen, starts_length}
+use Rattle.common_lemmas.proofs.Lists.{get_set, get_map}
 
 -- ---- one block ----
-
-pub set_here : {A : Type 0} (xs : List A) (p : ℕ) (x : A) → p < length xs → slice_get (slice_set xs p x) p ≡ Some x
-set_here [] p x h = absurd (omega arith)
-set_here (y ∷ xs) zero x h = refl
-set_here (y ∷ xs) (suc p) x h = set_here xs p x (omega arith)
 
 pub set_else : {A : Type 0} (xs : List A) (p q : ℕ) (x : A) → (q ≡ p → ⊥) → slice_get (slice_set xs p x) q ≡ slice_get xs q
 set_else [] p q x d = refl
@@ -250,7 +246,7 @@ one_less k new by lag ss bytes gone j s t d n e h f = elim (cases_lt j k.here) [
         let here : k.here ≡ j = omega arith in
         let was = one_noted k new by lag ss j s n (ap (slice_get ss) (sym here) ∙ e) in
         let at : slice_get (slice_set ss k.here t) k.here ≡ Some d = ap (slice_get (slice_set ss k.here t)) here ∙ f in
-        let one : t ≡ d = let w = set_here ss k.here t (slice_get_within ss k.here s e) in cc in
+        let one : t ≡ d = let w = get_set ss k.here t (slice_get_within ss k.here s e) in cc in
         record {
           s = was.s;
           is = was.is;

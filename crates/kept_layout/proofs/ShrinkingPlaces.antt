@@ -3,7 +3,7 @@ use Rattle.std.proofs.Common.{◌≡◌, ◌∙◌, inl, inr, ℕ, zero, suc, �
 use Rattle.std.specs.Prelude.{nat_le, nat_lt, slice_get}
 use Rattle.std.proofs.lemmas.Bool.{le-leb, leb-true, lt-ltb, ltb-true, cases_Bool}
 use Rattle.std.proofs.lemmas.Option.{slice_get_within}
-use Rattle.thumb_model.proofs.Lists.{get_back, get_drop, get_front, get_take, present_at, take_all}
+use Rattle.thumb_model.proofs.Lists.{get_back, get_drop, get_take, present_at, take_all}
 use Rattle.kept_layout.specs.declared.kept.KeptLayout.{KeptLayout}
 use Rattle.kept_layout.specs.declared.lag.Lag.{Lag}
 use Rattle.kept_layout.specs.declared.block.Block.{Block}
@@ -11,6 +11,7 @@ use Rattle.kept_layout.specs.Blocks.{addresses, lag_of, located, footprints_of}
 use Rattle.kept_layout.specs.Kept.{IsLaid}
 use Rattle.kept_layout.specs.Moves.{end_of, moved_starts, starts_of, IsMove}
 use Rattle.kept_layout.proofs.ShrinkingStarts.{starts_length}
+use Rattle.common_lemmas.proofs.Lists.{get_map, get_front}
 
 -- ---- by what is noted ----
 
@@ -73,11 +74,6 @@ footprints_length (s ∷ ss) = ap suc (footprints_length ss)
 
 pub count_of : (k : KeptLayout) → length (starts_of k) ≡ length k.blocks.items
 count_of k = starts_length k.base (footprints_of k.blocks.items) ∙ footprints_length k.blocks.items
-
-pub get_map : {A B : Type 0} (f : A → B) (xs : List A) (n : ℕ) (x : A) → slice_get xs n ≡ Some x → slice_get (map f xs) n ≡ Some (f x)
-get_map f [] n x e = absurd (cc)
-get_map f (y ∷ xs) zero x e = let same : y ≡ x = cc in ap (λ z. Some (f z)) same
-get_map f (y ∷ xs) (suc n) x e = get_map f xs n x e
 
 -- those up to the one that it stands at stay
 pub moved_before : (k : KeptLayout) (new : List ℕ) (by j : ℕ) → IsMove k new by → j ≤ k.here → slice_get (moved_starts k new by) j ≡ slice_get (starts_of k) j

@@ -4,14 +4,6 @@ use Rattle.std.specs.Prelude.{slice_get}
 use Rattle.kept_layout.specs.Blocks.{behind, end_from, lessen, padding_of, starts_from, IsAlignment, Footprint}
 use Rattle.kept_layout.proofs.Giving.{end_from_least as end_low}
 
--- ---- lists ----
-
--- the first of those that are left, and the rest
-pub drop_one : {A : Type 0} (xs : List A) (n : ℕ) (x : A) → slice_get xs n ≡ Some x → drop n xs ≡ x ∷ drop (suc n) xs
-drop_one [] n x e = absurd (cc)
-drop_one (y ∷ xs) zero x e = let same : y ≡ x = cc in ap (λ z. z ∷ xs) same
-drop_one (y ∷ xs) (suc n) x e = drop_one xs n x e
-
 -- ---- in order ----
 
 pub starts_length : (at : ℕ) (ss : List Footprint) → length (starts_from at ss) ≡ length ss

@@ -8,8 +8,9 @@ use Rattle.kept_layout.specs.Kept.{IsLaid}
 use Rattle.kept_layout.specs.Moves.{end_of, starts_of, IsMovedTo, IsWalked}
 use Rattle.kept_layout.proofs.MovingPlaces.{footprint_at}
 use Rattle.kept_layout.proofs.ShrinkingPlaces.{count_of, footprints_length}
-use Rattle.kept_layout.proofs.ShrinkingStarts.{behind_low, drop_one, end_drop, end_lessen, starts_drop, starts_lessen, starts_order}
+use Rattle.kept_layout.proofs.ShrinkingStarts.{behind_low, end_drop, end_lessen, starts_drop, starts_lessen, starts_order}
 use Rattle.kept_layout.proofs.Together.{divides_on, end_moves, starts_move}
+use Rattle.common_lemmas.proofs.Lists.{drop_at}
 
 -- no block begins behind the Code region
 pub start_in_code : (k : KeptLayout) (j : ℕ) (s : Block) (a : ℕ) → IsLaid k → slice_get k.blocks.items j ≡ Some s → slice_get (starts_of k) j ≡ Some a → a ≤ 2 ^ 29
@@ -35,7 +36,7 @@ walk_begin k bytes s a at next l e f g h n =
 pub walk_on : (k : KeptLayout) (bytes : ℕ) (new : List ℕ) (at next : ℕ) (s : Block) (end following : ℕ) → IsWalked k bytes new at next → slice_get k.blocks.items next ≡ Some s → next < length k.blocks.items → end ≡ at + (padding_of s.head at + s.bytes) → end ≤ 2 ^ 29 → following ≡ suc next
     → IsWalked k bytes (new ++ at ∷ []) end following
 walk_on k bytes new at next s end following w e l g h n =
-    let one = drop_one (footprints_of k.blocks.items) next (footprint_of s) (footprint_at k.blocks.items next s e) in
+    let one = drop_at (footprints_of k.blocks.items) next (footprint_of s) (footprint_at k.blocks.items next s e) in
     let count = w.count in
     let longer = length-append new (at ∷ []) in
     let step : starts_from at (drop next (footprints_of k.blocks.items)) ≡ at ∷ starts_from end (drop following (footprints_of k.blocks.items)) =

@@ -3,7 +3,7 @@ use Rattle.std.proofs.Common.{◌≡◌, ◌∙◌, inl, inr, ℕ, zero, suc, �
 use Rattle.std.specs.Prelude.{slice_get, nat_eq, not, Bool}
 use Rattle.std.proofs.lemmas.Bool.{and_parts, cases_Bool, cases_lt, eqb-true, lt-ltb}
 use Rattle.thumb_model.specs.Layout.{aim_fault}
-use Rattle.thumb_model.proofs.Lists.{get_back, get_drop, get_front, get_take, length_drop, length_map, present_at, take_all}
+use Rattle.thumb_model.proofs.Lists.{get_back, get_drop, get_take, length_drop, length_map, present_at, take_all}
 use Rattle.kept_layout.specs.declared.kept.KeptLayout.{KeptLayout}
 use Rattle.kept_layout.specs.declared.block.Aim.{Aim}
 use Rattle.kept_layout.specs.declared.block.Head.{Head}
@@ -18,11 +18,12 @@ use Rattle.kept_layout.proofs.Distances.{aim_ahead, aim_back, aim_moves}
 use Rattle.kept_layout.proofs.MovingPlaces.{footprint_at}
 use Rattle.kept_layout.proofs.Nearing.{HasOwn}
 use Rattle.kept_layout.proofs.ShrinkingKnown.{not_together, right_alike, starts_alike}
-use Rattle.kept_layout.proofs.ShrinkingPlaces.{count_of, get_map, moved_among, moved_before, footprints_length}
+use Rattle.kept_layout.proofs.ShrinkingPlaces.{count_of, moved_among, moved_before, footprints_length}
 use Rattle.kept_layout.proofs.ShrinkingReach.{aim_none}
 use Rattle.kept_layout.proofs.ShrinkingStarts.{starts_apart, starts_order}
 use Rattle.kept_layout.proofs.ShrinkingWalk.{start_in_code, walk_begin, walk_on}
 use Rattle.kept_layout.proofs.Together.{behind_moves}
+use Rattle.common_lemmas.proofs.Lists.{get_map, get_front}
 
 -- ---- the wall ----
 

@@ -66,7 +66,7 @@ highest_is a h w = (omega (arith, top.1), omega (arith, top.1), ap (bit_at a) is
 pub none_in : (words : List ℕ) (p : ℕ) → slice_index words (p / 64) ≡ 0 → has words p ≡ false
 none_in words p e = ap (λ w. bit_at w (p % 64) == 1) e ∙ ap (λ n. n == 1) (bit_at-zero (p % 64))
 
-zero_in : (n k : ℕ) → slice_index (replicate n 0) k ≡ 0
+pub zero_in : (n k : ℕ) → slice_index (replicate n 0) k ≡ 0
 zero_in zero k = refl
 zero_in (suc n) zero = refl
 zero_in (suc n) (suc k) = zero_in n k

@@ -11,10 +11,7 @@ use Rattle.std.proofs.lemmas.Nat.{div_below, div-add-mod', mod_below}
 use Rattle.kept_places.specs.Marks.{marked, is_gone, rank}
 use Rattle.kept_places.specs.Kept.{AreCounts}
 use Rattle.kept_places.proofs.Ranks.{rank_zero, rank_gone, rank_kept, rank_whole, ranks_grow, rank_set_before, rank_set_behind}
-
--- the product of the next number
-next_group : (k size : ℕ) → (k + 1) * size ≡ k * size + size
-next_group k size = ap (λ n. n * size) (let e : k + 1 ≡ suc k = omega arith in e) ∙ suc-mul k size
+use Rattle.common_lemmas.proofs.Numbers.{one_more_times}
 
 -- ---- sums ----
 
@@ -32,7 +29,7 @@ summed size gone counts c a zero h =
 summed size gone counts c a (suc n) h =
     let before = summed size gone counts c a n (omega arith) in
     let e : a + suc n ≡ (a + n) + 1 = omega arith in
-    let m : (a + suc n) * size ≡ (a + n) * size + size = ap (λ k. k * size) e ∙ next_group (a + n) size in
+    let m : (a + suc n) * size ≡ (a + n) * size + size = ap (λ k. k * size) e ∙ one_more_times (a + n) size in
     let s : sum (slice_range counts a (a + suc n)) ≡ sum (slice_range counts a (a + n)) + slice_index counts (a + n) = ap (λ k. sum (slice_range counts a k)) e ∙ sum_more counts a (a + n) (omega arith) (omega arith) in
     let r : rank gone ((a + suc n) * size) ≡ rank gone ((a + n) * size + size) = ap (rank gone) m in
     let here = c.counted (a + n) (omega arith) in
@@ -191,7 +188,7 @@ none_counted size n gone counts s g e = record {
     enough : length gone < length counts * size
     enough =
         let l : length gone ≡ n = ap length g ∙ length-replicate n false in
-        let m : length counts * size ≡ n / size * size + size = ap (λ k. k * size) many ∙ next_group (n / size) size in
+        let m : length counts * size ≡ n / size * size + size = ap (λ k. k * size) many ∙ one_more_times (n / size) size in
         let d = div-add-mod' n size in
         let r = mod_below n size s in
         omega arith

@@ -7,11 +7,12 @@ use Rattle.thumb_instr.specs.declared.instr.Instr.{Instr}
 use Rattle.thumb_model.specs.Listing.{Mention, Value, Statement, Nothing, Instruction, Words, Aligns, Sets, ListingLine, Place, Op, Word, places_in, places_of, is_call, is_call_instr, call_count}
 use Rattle.thumb_model.specs.Layout.{instr_size, size_at}
 use Rattle.thumb_model.specs.Naming.{return_address, ends_in_call}
-use Rattle.thumb_model.proofs.Lists.{get_front, get_back}
+use Rattle.thumb_model.proofs.Lists.{get_back}
 use Rattle.thumb_model.proofs.Moved.{count_append}
 use Rattle.thumb_model.proofs.Returns.{no_words}
 use Rattle.label_layout.specs.Addresses.{word_addresses, addresses_in, addresses_from}
 use Rattle.label_layout.proofs.Sums.{places_counted_in}
+use Rattle.common_lemmas.proofs.Lists.{get_front}
 
 -- how many bytes a place has
 abbrev pub place_size : Place → ℕ

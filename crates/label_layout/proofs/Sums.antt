@@ -6,18 +6,15 @@ use Rattle.std.proofs.lemmas.Bool.{cases_Bool, cases_lt, leb-true, le-leb}
 use Rattle.std.proofs.lemmas.List.{length-append}
 use Rattle.thumb_model.specs.Listing.{Word, places_in, places_of, Name, Value, Statement, Nothing, Instruction, Words, Aligns, Sets, ListingLine}
 use Rattle.thumb_model.specs.Layout.{size_at, end_of, is_among, label_address}
-use Rattle.thumb_model.proofs.Lists.{get_front, get_back}
+use Rattle.thumb_model.proofs.Lists.{get_back}
 use Rattle.listing_parser.specs.declared.line.ListingLine.{ListingLine as Lines}
 use Rattle.listing_parser.specs.Views.{line_view}
 use Rattle.label_layout.specs.Addresses.{word_addresses, addresses_in, addresses_from, Addresses, AreAddresses, AreInCode}
+use Rattle.common_lemmas.proofs.Lists.{get_front}
 
 pub at_end : (at : ℕ) (ls : List ListingLine) → at ≤ end_of at ls
 at_end at [] = omega arith
 at_end at (l ∷ ls) = let h = at_end (at + size_at l.statement at) ls in omega arith
-
--- the line that is next
-pub next_line : (ls : List Lines) (i : ℕ) (l : Lines) → i < length ls → l ≡ get_or ls i l → map line_view (drop i ls) ≡ line_view l ∷ map line_view (drop (i + 1) ls)
-next_line ls i l h e = rw (add-one, drop-cons ls i l) (ap (λ (y : Lines). line_view y ∷ map line_view (drop (suc i) ls)) (sym e))
 
 -- ---- an address that must lie below a limit ----
 

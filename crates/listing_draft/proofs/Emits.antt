@@ -69,9 +69,3 @@ nothing_emitted gone aims n out all h = sym (append_none out) ∙ h
     append_none : (xs : List ListingLine) → xs ++ [] ≡ xs
     append_none [] = refl
     append_none (x ∷ xs) = ap (λ (l : List ListingLine). x ∷ l) (append_none xs)
-
--- what is read of a list at an index
-pub read_at : {A : Type 0} (xs : List A) (i : ℕ) (x : A) → i < length xs → x ≡ get_or xs i x → slice_get xs i ≡ Some x
-read_at [] i x h e = absurd (omega arith)
-read_at (y ∷ xs) zero x h e = ap Some (sym e)
-read_at (y ∷ xs) (suc i) x h e = read_at xs i x (omega arith) e

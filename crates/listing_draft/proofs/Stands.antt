@@ -5,7 +5,7 @@ use Rattle.std.proofs.lemmas.Bool.{cases_lt}
 use Rattle.thumb_instr.specs.declared.instr.Instr.{Instr}
 use Rattle.thumb_model.specs.Listing.{Name, Mention, Value, Statement, Nothing, Instruction, Words, Aligns, Sets, ListingLine, Place, Op, Word, places_in, places_of, is_op_place}
 use Rattle.thumb_model.specs.Replaced.{is_op, labels_kept}
-use Rattle.thumb_model.proofs.Lists.{get_back, get_front}
+use Rattle.thumb_model.proofs.Lists.{get_back}
 use Rattle.kept_places.specs.Marks.{is_gone, rank}
 use Rattle.kept_places.proofs.Ranks.{rank_zero}
 use Rattle.listing_parser.specs.Parsing.{line_mentioning}
@@ -13,6 +13,7 @@ use Rattle.listing_parser.specs.Targets.{aimed_line}
 use Rattle.listing_draft.specs.Drafted.{aim_at, line_now, now_of}
 use Rattle.listing_draft.proofs.Ranks.{OpsGone, aim_drop, gone_drop, ops_behind, others_kept, rank_behind_gone, rank_behind_kept, rank_drop}
 use Rattle.thumb_model.proofs.LinesReplaced.{kept_places as labels_no_places}
+use Rattle.common_lemmas.proofs.Lists.{get_front}
 
 -- an instruction with the label that it goes to now
 abbrev pub op_now : Option Name → Instr → Option Mention → Place

@@ -3,13 +3,12 @@ use Rattle.std.proofs.Common.{◌≡◌, ◌∙◌, ◌⊎◌, inl, inr, ℕ, �
 use Rattle.std.specs.Prelude.{nat_lt, nat_le}
 use Rattle.std.specs.Str.{bytes_eq}
 use Rattle.std.proofs.lemmas.Bool.Decides.{nat_tests}
-use Rattle.std.proofs.lemmas.Bool.{cases_Bool, and_from, and_parts}
+use Rattle.std.proofs.lemmas.Bool.{cases_Bool, and_from, and_parts, or_parts, or_cases}
 use Rattle.std.proofs.lemmas.Slice.Eq.{bytes_eq-Decides}
 use Rattle.thumb_model.specs.Listing.{Name, Value, Number, OfName, Statement, Nothing, Instruction, Words, Aligns, Sets, ListingLine, Place, Word, places_in, places_of, labels_from, code_of, has_label, is_mentioned, value_mentions, place_mentions}
 use Rattle.thumb_model.specs.Layout.{end_of, label_address, lies_in, set_address, set_in}
 use Rattle.thumb_model.specs.Naming.{Fits, is_in_range, laid, last_is_call}
 use Rattle.listing_parser.specs.Parsing.{text_of_lines}
-use Rattle.listing_parser.proofs.LabelLemmas.{or_false, or_true}
 use Rattle.thumb_assembler.specs.Fair.{is_fair, are_fair}
 use Rattle.thumb_assembler.specs.Runs.{IsAssembled}
 use Rattle.thumb_assembler.specs.Bytes.{branch_lost, flaw_of, flaws_from, lies_inside, lies_nowhere, may_leave, value_lost, values_lost}
@@ -20,12 +19,9 @@ use Rattle.thumb_assembler.proofs.Places.{lost_leaves}
 use Rattle.listing_laws.specs.Assembled.{IsOutside, AssembledListingsFit, AssembledImagesFollow}
 use Rattle.listing_laws.proofs.Fitted.{laid_namings_fit, no_address}
 use Rattle.listing_laws.proofs.Once.{each_once}
+use Rattle.listing_parser.proofs.MapLemmas.{is_none}
 
 -- ---- lines without a flaw ----
-
-none_is : {A : Type 0} (o : Option A) → is_some o ≡ false → o ≡ None
-none_is None h = refl
-none_is (Some x) h = absurd (true≢false h)
 
 some_is : {A : Type 0} (o : Option A) → is_some o ≡ true → (x : A) × (o ≡ Some x)
 some_is None h = absurd (true≢false (sym h))
@@ -51,7 +47,7 @@ module _ (base : ℕ) (all : List ListingLine) where
   first_sound : (n : ℕ) (l : ListingLine) (ls : List ListingLine) → flaws_from base all n (l ∷ ls) ≡ None → flaw_of base all l.statement ≡ None
   first_sound n l ls e = elim (cases_Bool (is_some (flaw_of base all l.statement))) [
     | inl h ↦ let some = some_is (flaw_of base all l.statement) h in absurd (let bad : Some (n, some.0) ≡ None = rw some.1 at e in cc)
-    | inr h ↦ none_is (flaw_of base all l.statement) h
+    | inr h ↦ is_none (flaw_of base all l.statement) h
   ]
 
   -- the name has a label or is set
@@ -71,8 +67,8 @@ module _ (base : ℕ) (all : List ListingLine) where
   values_lie : (name : Name) (vs : List Value) → values_lost base all vs ≡ false → is_mentioned name (map Word vs) ≡ true → Lies name
   values_lie name [] e m = absurd (true≢false (sym m))
   values_lie name (v ∷ vs) e m =
-      let found = or_false (value_lost base all v) (values_lost base all vs) e in
-      elim (or_true (value_mentions name v) (is_mentioned name (map Word vs)) m) [
+      let found = or_parts (value_lost base all v) (values_lost base all vs) e in
+      elim (or_cases (value_mentions name v) (is_mentioned name (map Word vs)) m) [
         | inl h ↦ value_lies name v found.0 h
         | inr h ↦ values_lie name vs found.1 h
       ]
@@ -80,7 +76,7 @@ module _ (base : ℕ) (all : List ListingLine) where
   statement_lies : (name : Name) (s : Statement) → is_fair all s ≡ true → flaw_of base all s ≡ None → is_mentioned name (places_in s) ≡ true → Lies name
   unfolding Lies
   statement_lies name (Instruction i None) f e m none = true≢false (sym m)
-  statement_lies name (Instruction i (Some x)) f e m none = elim (or_true (bytes_eq name x.name) false m) [
+  statement_lies name (Instruction i (Some x)) f e m none = elim (or_cases (bytes_eq name x.name) false m) [
     | inl h ↦
         let same : name ≡ x.name = (bytes_eq-Decides name x.name).0 h in
         let gone : lies_in base all x.name ≡ None = ap (lies_in base all) (sym same) ∙ none in

@@ -18,12 +18,9 @@ use Rattle.listing_laws.proofs.Once.{either_part}
 use Rattle.thumb_model.proofs.Moved.{count_append}
 use Rattle.thumb_model.proofs.Returns.{laid_behind, no_words}
 use Rattle.listing_parser.proofs.Namings.{op_within}
+use Rattle.thumb_model.proofs.Shared.{words_length}
 
 -- ---- lines and their places ----
-
-words_length : (vs : List Value) → length (map Word vs) ≡ length vs
-words_length [] = refl
-words_length (v ∷ vs) = ap suc (words_length vs)
 
 pub two_bytes : (i : Instr) → 2 ≤ instr_size i
 two_bytes (instr.Call d) = omega arith

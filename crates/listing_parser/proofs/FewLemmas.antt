@@ -2,7 +2,7 @@
 use Rattle.std.proofs.Common.{◌≡◌, ◌∙◌, inl, inr, ℕ, zero, suc, ◌+◌, ◌*◌, ◌^◌, ◌<◌, ◌≤◌, ◌==◌, ◌&&◌, ◌||◌, Bool, true, false, List, [], ◌∷◌, map, length, refl, sym, ap, arith, true≢false, ltb-false, Option, Some, None, Ok, option_map}
 use Rattle.std.specs.Prelude.{nat_lt, if◌then◌else◌, codes}
 use Rattle.std.specs.Str.{bytes_eq}
-use Rattle.std.proofs.lemmas.Bool.{cases_Bool}
+use Rattle.std.proofs.lemmas.Bool.{cases_Bool, or_parts}
 use Rattle.std.proofs.lemmas.List.{length-append}
 use Rattle.ascii_scan.specs.Lines.{Placed, placed, placed_from, lines_of, lines_in}
 use Rattle.ascii_scan.specs.Tokens.{Token, word, mark, front, rest, is_blank, is_mark, begins_inner, grown, tokens}
@@ -218,10 +218,6 @@ line_few l r o =
 
 -- ---- all lines ----
 
-pub or_false : (a b : Bool) → (a || b) ≡ false → (a ≡ false) × (b ≡ false)
-or_false true b e = absurd (true≢false e)
-or_false false b e = (refl, e)
-
 pub all_few : (n start : ℕ) (ts : List (List ℕ)) (rs : List Read) → read_lines (placed_from n start ts) ≡ Ok rs → n ≤ most_lines + 1 → (length rs + n ≤ most_lines + 1) × (counts rs ≤ 1025 * length rs)
 unfolding counts
 all_few n start [] rs e h =
@@ -231,7 +227,7 @@ all_few n start (t ∷ ts) rs e h =
     let l = placed n start t in
     let c = cut (placed n start t) (placed_from (n + 1) (start + length t) ts) rs e in
     let o = of_checked (placed n start t) c.first c.checked in
-    let bounds = or_false (nat_lt most_lines n) _ o.within in
+    let bounds = or_parts (nat_lt most_lines n) _ o.within in
     let number = ltb-false most_lines n bounds.0 in
     let short = ltb-false 1024 _ bounds.1 in
     let few = line_few (placed n start t) c.first o.line in

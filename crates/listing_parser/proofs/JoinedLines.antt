@@ -2,7 +2,7 @@
 use Rattle.std.proofs.Common.{◌≡◌, ◌∙◌, ◌⊎◌, inl, inr, ℕ, ◌+◌, ◌≤◌, ◌==◌, ◌||◌, true, false, List, [], ◌∷◌, ◌++◌, length, map, refl, sym, ap, arith, true≢false, Some, Result, Ok, Err, append-nil, subst}
 use Rattle.std.specs.Prelude.{nat_lt}
 use Rattle.std.specs.List.{list_all}
-use Rattle.std.proofs.lemmas.Bool.{cases_Bool, ltb-false}
+use Rattle.std.proofs.lemmas.Bool.{cases_Bool, ltb-false, or_parts}
 use Rattle.ascii_scan.specs.Lines.{Placed, lines_of, onto_first, placed, placed_from}
 use Rattle.ascii_scan.specs.FirstLine.{is_inside}
 use Rattle.ascii_scan.proofs.LineLemmas.{lines_nil, lines_newline, lines_other}
@@ -11,7 +11,6 @@ use Rattle.listing_parser.specs.declared.errors.ListingFault.{ListingFault}
 use Rattle.listing_parser.specs.declared.errors.ListingFault.TheVariants as kind
 use Rattle.listing_parser.specs.Grammar.{Bare, Read, read_line, checked_line, with_first, read_lines, bare, most_lines}
 use Rattle.listing_parser.specs.Parsing.{text_of_lines}
-use Rattle.listing_parser.proofs.LabelLemmas.{or_false}
 use Rattle.listing_parser.proofs.PrintLemmas.{shaped_ok}
 use Rattle.listing_parser.proofs.CanonicalLines.{read_checked}
 
@@ -73,7 +72,7 @@ pub checked_parts : (l : Placed) (r : Read) → checked_line l ≡ Ok r → (len
 unfolding checked_line
 checked_parts l r e = elim (cases_Bool (nat_lt most_lines l.number || nat_lt 1024 (length l.text))) [
   | inl h ↦ absurd (let bad : Err (l.number, kind.Limit) ≡ Ok r = rw h at e in cc)
-  | inr h ↦ (ltb-false 1024 (length l.text) (or_false (nat_lt most_lines l.number) (nat_lt 1024 (length l.text)) h).1, shaped_ok l.number (read_line l) r (rw h at e))
+  | inr h ↦ (ltb-false 1024 (length l.text) (or_parts (nat_lt most_lines l.number) (nat_lt 1024 (length l.text)) h).1, shaped_ok l.number (read_line l) r (rw h at e))
 ]
 
 -- where a line stands doesn't matter

@@ -2,7 +2,7 @@
 use Rattle.std.proofs.Common.{◌≡◌, ◌∙◌, ◌⊎◌, inl, inr, ℕ, zero, suc, ◌+◌, ◌<◌, ◌||◌, Bool, true, false, List, [], ◌∷◌, ◌++◌, length, take, drop, get_or, is_some, refl, sym, ap, arith, true≢false, subst, Option, Some, None, if◌then◌else◌}
 use Rattle.std.specs.Prelude.{slice_get}
 use Rattle.std.specs.Str.{bytes_eq}
-use Rattle.std.proofs.lemmas.Bool.{cases_Bool}
+use Rattle.std.proofs.lemmas.Bool.{cases_Bool, or_parts}
 use Rattle.std.proofs.lemmas.List.{length-append}
 use Rattle.std.proofs.lemmas.Slice.Eq.{bytes_eq-Decides}
 use Rattle.thumb_model.specs.Listing.{Name, ListingLine, Place, Label, places_in, places_of, labels_at, labels_from, is_op_place, place_among, has_label}
@@ -13,14 +13,6 @@ use Rattle.listing_parser.specs.Targets.{set_names, defined_in, from_label}
 use Rattle.listing_parser.proofs.FirstTwice.{first_twice, is_again}
 use Rattle.listing_parser.specs.declared.index.Passed.{Passed}
 use Rattle.listing_parser.proofs.SpotLemmas.{before_line}
-
-pub or_true : (a b : Bool) → (a || b) ≡ true → (a ≡ true) ⊎ (b ≡ true)
-or_true true b e = inl refl
-or_true false b e = inr e
-
-pub or_false : (a b : Bool) → (a || b) ≡ false → (a ≡ false) × (b ≡ false)
-or_false true b e = absurd (true≢false e)
-or_false false b e = (refl, e)
 
 -- ---- the first label of a name ----
 
@@ -91,17 +83,17 @@ not_again name known [] e k = refl
 not_again name known (n ∷ ns) e k = elim (cases_Bool (bytes_eq name n)) [
   | inl h ↦
       let same : name ≡ n = (bytes_eq-Decides name n).0 h in
-      absurd (true≢false (sym (subst (λ (x : Name). is_among x known ≡ true) same k) ∙ (or_false (is_among n known) _ e).0))
-  | inr h ↦ rw h (not_again name (known ++ n ∷ []) ns (or_false (is_among n known) _ e).1 (among_front name known (n ∷ []) k))
+      absurd (true≢false (sym (subst (λ (x : Name). is_among x known ≡ true) same k) ∙ (or_parts (is_among n known) _ e).0))
+  | inr h ↦ rw h (not_again name (known ++ n ∷ []) ns (or_parts (is_among n known) _ e).1 (among_front name known (n ∷ []) k))
 ]
 
 pub again_front : (known ns ms : List Name) → is_again known (ns ++ ms) ≡ false → is_again known ns ≡ false
 again_front known [] ms e = refl
-again_front known (n ∷ ns) ms e = rw (or_false (is_among n known) _ e).0 (again_front (known ++ n ∷ []) ns ms (or_false (is_among n known) _ e).1)
+again_front known (n ∷ ns) ms e = rw (or_parts (is_among n known) _ e).0 (again_front (known ++ n ∷ []) ns ms (or_parts (is_among n known) _ e).1)
 
 pub passed_by : (name : Name) (places : List Place) (p : ℕ) (ns : List Name) (rest : List Label) → is_among name ns ≡ false → place_among name places (labels_at p ns ++ rest) ≡ place_among name places rest
 passed_by name places p [] rest e = refl
-passed_by name places p (n ∷ ns) rest e = rw (or_false (bytes_eq name n) _ e).0 (passed_by name places p ns rest (or_false (bytes_eq name n) _ e).1)
+passed_by name places p (n ∷ ns) rest e = rw (or_parts (bytes_eq name n) _ e).0 (passed_by name places p ns rest (or_parts (bytes_eq name n) _ e).1)
 
 -- the place, where an instruction stands there
 unfoldable pub code_place : List Place → Option ℕ → Option ℕ
@@ -123,10 +115,10 @@ unfolding code_place
 code_at name places p known [] rest e k none = absurd (true≢false (sym k))
 code_at name places p known (n ∷ ns) rest e k none = elim (cases_Bool (bytes_eq name n)) [
   | inl h ↦
-      let later = not_again name (known ++ n ∷ []) ns (or_false (is_among n known) _ e).1 (among_last name n known h) in
+      let later = not_again name (known ++ n ∷ []) ns (or_parts (is_among n known) _ e).1 (among_last name n known h) in
       let gone : place_among name places (labels_at p ns ++ rest) ≡ None = passed_by name places p ns rest later ∙ none in
       rw h (ap (λ (o : Option ℕ). if is_op_place (slice_get places p) then Some p else o) gone)
-  | inr h ↦ rw h (code_at name places p (known ++ n ∷ []) ns rest (or_false (is_among n known) _ e).1 (rw h at k) none)
+  | inr h ↦ rw h (code_at name places p (known ++ n ∷ []) ns rest (or_parts (is_among n known) _ e).1 (rw h at k) none)
 ]
 
 -- where no name is defined twice, the code label of a name is its label, if it is code

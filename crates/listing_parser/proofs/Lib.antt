@@ -22,3 +22,4 @@ pub mod RunLemmas
 pub mod VerdictLemmas
 pub mod Literals
 pub mod Namings
+pub mod Shared

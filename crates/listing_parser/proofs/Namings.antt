@@ -3,7 +3,7 @@ use Rattle.std.proofs.Common.{◌≡◌, ◌∙◌, ◌⊎◌, inl, inr, ℕ, ze
 use Rattle.std.specs.Prelude.{nat_lt, nat_le, slice_get}
 use Rattle.std.specs.Str.{bytes_eq}
 use Rattle.std.proofs.lemmas.Bool.Decides.{nat_tests}
-use Rattle.std.proofs.lemmas.Bool.{cases_Bool}
+use Rattle.std.proofs.lemmas.Bool.{cases_Bool, or_parts}
 use Rattle.std.proofs.lemmas.List.{length-append}
 use Rattle.std.proofs.lemmas.Option.{slice_get_within}
 use Rattle.ascii_scan.specs.Lines.{lines_of}
@@ -17,7 +17,7 @@ use Rattle.listing_parser.specs.Targets.{defined_in, set_names}
 use Rattle.listing_parser.proofs.FirstTwice.{first_twice, is_again}
 use Rattle.listing_parser.proofs.TwiceLemmas.{once_none, same_name as bytes_same}
 use Rattle.listing_parser.proofs.FewLemmas.{all_few, counts_bare}
-use Rattle.listing_parser.proofs.LabelLemmas.{again_front, among_append, code_place, label_at, not_again, one_label, or_false}
+use Rattle.listing_parser.proofs.LabelLemmas.{again_front, among_append, code_place, label_at, not_again, one_label}
 use Rattle.listing_parser.proofs.Literals.{first_label, later_label}
 use Rattle.listing_parser.specs.Grammar.{most_lines}
 
@@ -61,7 +61,7 @@ fresh n p known (x ∷ ls) e k l at = elim (cases_Bool (is_again known (defined_
     ]
     | inr a ↦
         let later = fresh (n + 1) (p + length (places_in x.statement)) (known ++ defined_in x) ls (rw h at e) a.0 l a.1 in
-        (or_false (is_among l.name known) _ (sym (among_append l.name known (defined_in x)) ∙ later)).0
+        (or_parts (is_among l.name known) _ (sym (among_append l.name known (defined_in x)) ∙ later)).0
   ]
 ]
 
@@ -74,8 +74,8 @@ own n p known (x ∷ ls) e k l at = elim (cases_Bool (is_again known (defined_in
     | inl a ↦ let t = there p x.names k l a in label_at l.name p x.names _ ∙ rw t.named (ap (λ (q : ℕ). Some q) (sym t.place))
     | inr a ↦
         let later = fresh (n + 1) (p + length (places_in x.statement)) (known ++ defined_in x) ls (rw h at e) a.0 l a.1 in
-        let defined = (or_false (is_among l.name known) _ (sym (among_append l.name known (defined_in x)) ∙ later)).1 in
-        let other = (or_false (is_among l.name x.names) _ (sym (among_append l.name x.names (set_names x.statement)) ∙ defined)).0 in
+        let defined = (or_parts (is_among l.name known) _ (sym (among_append l.name known (defined_in x)) ∙ later)).1 in
+        let other = (or_parts (is_among l.name x.names) _ (sym (among_append l.name x.names (set_names x.statement)) ∙ defined)).0 in
         label_at l.name p x.names _ ∙ rw other (own (n + 1) (p + length (places_in x.statement)) (known ++ defined_in x) ls (rw h at e) a.0 l a.1)
   ]
 ]
@@ -182,7 +182,7 @@ label_within name p q (l ∷ ls) e = elim (cases_Bool (is_among name l.names)) [
 
 no_label : (name : Name) (ls : List Label) → has_label name ls ≡ false → label_place name ls ≡ None
 no_label name [] e = refl
-no_label name (l ∷ ls) e = let h = or_false (bytes_eq name l.name) _ e in rw h.0 (no_label name ls h.1)
+no_label name (l ∷ ls) e = let h = or_parts (bytes_eq name l.name) _ e in rw h.0 (no_label name ls h.1)
 
 -- ---- all together ----
 

@@ -22,6 +22,7 @@ use Rattle.listing_parser.proofs.PrintLemmas.{of_read, cut, none_read}
 use Rattle.listing_parser.proofs.CanonicalLines.{labels_only, read_checked}
 use Rattle.listing_parser.proofs.FrontLines.{alone}
 use Rattle.listing_parser.proofs.JoinedLines.{Ends, inside_ends, text, checked_parts, ReadsAs, reads_anywhere, IsRead}
+use Rattle.ascii_scan.proofs.LineLemmas.{same_parts}
 
 -- ---- an instruction has no mark ----
 
@@ -179,9 +180,6 @@ old_line t n start l r w e same =
       },
     )
 
-cons_parts : {A : Type 0} (x y : A) (xs ys : List A) → x ∷ xs ≡ y ∷ ys → (x ≡ y) × (xs ≡ ys)
-cons_parts x y xs ys e = (cc, cc)
-
 pub record OldRead (ls : List ListingLine) (rs : List Read) (ts : List (List ℕ)) : Type 0 where
   pub texts : map text ls ≡ ts
   pub old : AreOld ls rs
@@ -202,7 +200,7 @@ old_read [] n start rs ls w e same = nothing ls rs (none_read rs e) same where
   nothing ls (r ∷ rs) h f = absurd (cc)
 old_read (t ∷ ts) n start rs ls w e same =
     let c = cut (placed n start t) (placed_from (n + 1) (start + length t) ts) rs e in
-    let parts = cons_parts (whole (placed n start t)) t (map whole (placed_from (n + 1) (start + length t) ts)) ts w in
+    let parts = same_parts (whole (placed n start t)) t (map whole (placed_from (n + 1) (start + length t) ts)) ts w in
     subst (λ (xs : List Read). OldRead ls xs (t ∷ ts)) (sym c.is) (by ls c.first c.others c.checked c.read (ap (map (λ (r : Read). r.line)) (sym c.is) ∙ same) parts.0 parts.1 (λ ls rs k f g. old_read ts (n + 1) (start + length t) rs ls k f g)) where
       by : (ls : List ListingLine) (r : Read) (rs : List Read) → checked_line (placed n start t) ≡ Ok r → read_lines (placed_from (n + 1) (start + length t) ts) ≡ Ok rs → r.line ∷ map (λ (x : Read). x.line) rs ≡ map bare ls
           → whole (placed n start t) ≡ t → map whole (placed_from (n + 1) (start + length t) ts) ≡ ts
@@ -210,6 +208,6 @@ old_read (t ∷ ts) n start rs ls w e same =
           → OldRead ls (r ∷ rs) (t ∷ ts)
       by [] r rs e f g h k more = absurd (cc)
       by (l ∷ ls) r rs e f g h k more =
-          let both = cons_parts r.line (bare l) (map (λ (x : Read). x.line) rs) (map bare ls) g in
+          let both = same_parts r.line (bare l) (map (λ (x : Read). x.line) rs) (map bare ls) g in
           let here = old_line t n start l r h e both.0 in
           old_cons t ts l ls r rs here.0 here.1 (more ls rs k f both.1)

@@ -1,7 +1,7 @@
 -- Replacing lines defines no name again, and makes no more places.
 use Rattle.std.proofs.Common.{◌≡◌, ◌∙◌, inl, inr, ℕ, zero, suc, ◌+◌, ◌-◌, ◌<◌, ◌≤◌, ◌^◌, ◌==◌, ◌&&◌, ◌||◌, Bool, true, false, List, [], ◌∷◌, ◌++◌, length, map, take, drop, refl, sym, ap, arith, true≢false, append-nil, append_assoc, get_or, lt-ltb, Option, Some, None}
 use Rattle.std.specs.Prelude.{nat_lt, slice_get}
-use Rattle.std.proofs.lemmas.Bool.{cases_Bool, false_from_ne_true}
+use Rattle.std.proofs.lemmas.Bool.{cases_Bool, false_from_ne_true, or_parts, or_cases}
 use Rattle.std.proofs.lemmas.List.{length-append}
 use Rattle.std.proofs.Math.Seq.{drop-cons}
 use Rattle.thumb_instr.specs.declared.instr.Instr.{Instr}
@@ -14,7 +14,7 @@ use Rattle.thumb_model.proofs.Cuts.{without_none}
 use Rattle.thumb_model.proofs.LinesReplaced.{places_replaced, kept_places}
 use Rattle.listing_parser.specs.Targets.{set_names, defined_in, DefineOnce, aimed, aimed_line, aimed_lines}
 use Rattle.listing_parser.proofs.FirstTwice.{first_twice, is_again}
-use Rattle.listing_parser.proofs.LabelLemmas.{or_false, or_true, among_append}
+use Rattle.listing_parser.proofs.LabelLemmas.{among_append}
 use Rattle.listing_parser.proofs.TwiceLemmas.{once_none, none_once}
 
 -- ---- no name is defined again ----
@@ -31,7 +31,7 @@ within_same : (other known more : List Name) → Within other known → Within (
 unfolding Within
 within_same other known more w q h =
     among_append q known more
-    ∙ elim (or_true (is_among q other) (is_among q more) (sym (among_append q other more) ∙ h)) [
+    ∙ elim (or_cases (is_among q other) (is_among q more) (sym (among_append q other more) ∙ h)) [
       | inl a ↦ ap (λ (b : Bool). b || is_among q more) (w q a)
       | inr a ↦ by (is_among q known) a
     ] where
@@ -51,7 +51,7 @@ not_again_within : (other known ns : List Name) → Within other known → is_ag
 unfolding Within
 not_again_within other known [] w e = refl
 not_again_within other known (n ∷ ns) w e =
-    let parts = or_false (is_among n known) _ e in
+    let parts = or_parts (is_among n known) _ e in
     let new : is_among n other ≡ false = false_from_ne_true (is_among n other) (λ h. true≢false (sym (w n h) ∙ parts.0)) in
     rw new (not_again_within (other ++ n ∷ []) (known ++ n ∷ []) ns (within_same other known (n ∷ []) w) parts.1)
 

@@ -2,7 +2,7 @@
 use Rattle.std.proofs.Common.{◌≡◌, ◌∙◌, ◌⊎◌, inl, inr, ℕ, zero, suc, ◌+◌, ◌-◌, ◌<◌, ◌≤◌, ◌==◌, ◌&&◌, ◌||◌, Bool, true, false, List, [], ◌∷◌, ◌++◌, length, map, drop, refl, sym, ap, arith, subst, true≢false, None, Ok}
 use Rattle.std.specs.Prelude.{slice_get, if◌then◌else◌}
 use Rattle.std.specs.List.{list_all}
-use Rattle.std.proofs.lemmas.Bool.{cases_Bool, and_parts, and_from}
+use Rattle.std.proofs.lemmas.Bool.{cases_Bool, and_parts, and_from, or_right}
 use Rattle.ascii_scan.specs.Lines.{Placed, lines_of, content_of, is_ended, placed, placed_from, whole}
 use Rattle.ascii_scan.specs.FirstLine.{is_inside}
 use Rattle.ascii_scan.proofs.LineLemmas.{map-whole}
@@ -14,7 +14,7 @@ use Rattle.thumb_model.specs.Replaced.{is_op, without, labels_kept, new_line, re
 use Rattle.thumb_model.specs.Cuts.{AreOps}
 use Rattle.thumb_model.proofs.Lists.{get_drop}
 use Rattle.listing_parser.specs.Targets.{defined_in, set_names, DefineOnce, marked_by_name, is_next, marked_first, still_waits, functions, first_target}
-use Rattle.listing_parser.proofs.TwiceLemmas.{once_none, or_last, among_first as among_self}
+use Rattle.listing_parser.proofs.TwiceLemmas.{once_none, among_first as among_self}
 use Rattle.listing_parser.proofs.FirstTwice.{first_twice}
 use Rattle.listing_parser.specs.Grammar.{Bare, Read, read_lines, shown_of, most_lines}
 use Rattle.listing_parser.specs.Directives.{FunctionMark, Unmarked}
@@ -26,7 +26,8 @@ use Rattle.listing_parser.proofs.ReplaceLemmas.{once_parts, are_ops, still_once}
 use Rattle.listing_parser.proofs.CanonicalLines.{is_clear, unnamed, told_of, labels_only, canonical_text, canonical_line_checked}
 use Rattle.listing_parser.proofs.JoinedLines.{Ends, IsOpen, AreEnded, inside_ends, text, text_ended, joined_split, ReadsAs, AreRead, all_same, all_read}
 use Rattle.listing_parser.proofs.OldLines.{FrontReads, content_newline, IsOld, AreOld, old_read}
-use Rattle.listing_parser.proofs.ReplacedTargets.{ops_first, IsWindow, window_next, window_here, op_next, other_next, opens, code_opens, from_here, or_behind, has_name, named_without, is_op_first, still_aimed, keeps}
+use Rattle.listing_parser.proofs.ReplacedTargets.{ops_first, IsWindow, window_next, window_here, op_next, other_next, opens, code_opens, from_here, has_name, named_without, is_op_first, still_aimed, keeps}
+use Rattle.common_lemmas.proofs.Booleans.{or_false}
 
 -- ---- an instruction that vanishes has no label ----
 
@@ -63,7 +64,7 @@ opens_named name (l ∷ ls) e = elim (cases_Bool (is_among name l.names)) [
 only_here : (name : Name) (k : ℕ) (known : List Name) (l : ListingLine) (ls : List ListingLine) → first_twice k known (l ∷ ls) ≡ None → is_among name l.names ≡ true → has_name name ls ≡ false
 only_here name k known l ls e a =
     no_more name (k + 1) (known ++ defined_in l) ls (once_parts k known l ls e).1
-    (among_append name known (defined_in l) ∙ or_behind (is_among name known) (is_among name (defined_in l)) (among_front name l.names (set_names l.statement) a))
+    (among_append name known (defined_in l) ∙ or_right (is_among name known) (is_among name (defined_in l)) (among_front name l.names (set_names l.statement) a))
 
 later : (name : Name) (k : ℕ) (known : List Name) (l : ListingLine) (ls : List ListingLine) → first_twice k known (l ∷ ls) ≡ None → opens name ls ≡ true → is_among name l.names ≡ false
 later name k known l ls e o = elim (cases_Bool (is_among name l.names)) [
@@ -120,7 +121,7 @@ unmarked waits r rs ns e f =
 
 -- a line without a mark and without labels
 passed_over : (waits : Bool) (r : Read) (rs : List Read) → r.line.names ≡ [] → r.mark ≡ Unmarked → functions waits (r ∷ rs) ≡ functions waits rs
-passed_over waits r rs e f = unmarked waits r rs [] e f ∙ ap (λ (b : Bool). functions b rs) (or_last waits)
+passed_over waits r rs e f = unmarked waits r rs [] e f ∙ ap (λ (b : Bool). functions b rs) (or_false waits)
 
 -- ---- the new lines are read ----
 
@@ -197,7 +198,7 @@ all_inside (b ∷ bs) e = let a = and_parts (is_clear b) (list_all is_clear bs) 
 pub own_inside : (i : Instr) → names_no_label i ≡ true → list_all is_inside (9 ∷ text_of (shown_of i None)) ≡ true
 own_inside i e = all_inside (text_of (shown_of i None)) (canonical_text i e).clear.all
 
-own_is : (i : Instr) → own_line i ≡ (9 ∷ text_of (shown_of i None)) ++ 10 ∷ []
+pub own_is : (i : Instr) → own_line i ≡ (9 ∷ text_of (shown_of i None)) ++ 10 ∷ []
 unfolding own_line
 own_is i = refl
 

@@ -1,7 +1,7 @@
 -- Labels, and what needs them, where lines are replaced.
 use Rattle.std.proofs.Common.{◌≡◌, ◌∙◌, inl, inr, ℕ, zero, suc, ◌+◌, ◌-◌, ◌/◌, ◌%◌, ◌==◌, ◌&&◌, ◌||◌, Bool, true, false, not, List, [], ◌∷◌, ◌++◌, length, map, drop, take, refl, sym, ap, arith, subst, true≢false, Option, Some, None, is_some, append_assoc, length-append, eqb-true}
 use Rattle.std.specs.Prelude.{nat_lt, nat_le, slice_get, if◌then◌else◌}
-use Rattle.std.proofs.lemmas.Bool.{cases_Bool, and_parts, and_from, le-ltb}
+use Rattle.std.proofs.lemmas.Bool.{cases_Bool, and_parts, and_from, le-ltb, or_right}
 use Rattle.thumb_instr.specs.declared.instr.Instr.{Instr}
 use Rattle.thumb_instr.specs.declared.instr.Instr.TheVariants as instr
 use Rattle.thumb_model.specs.Listing.{Name, Mention, Value, Number, OfName, Statement, Nothing, Instruction, Words, Aligns, Sets, ListingLine, Place, Op, Word, places_in, places_of, labels_from, is_op_place, has_label}
@@ -13,6 +13,7 @@ use Rattle.thumb_model.proofs.LinesReplaced.{places_replaced}
 use Rattle.listing_parser.proofs.FirstTwice.{first_twice}
 use Rattle.listing_parser.specs.Targets.{from_label, onward, reaches, is_literal, is_code_label, is_label, is_aimed, is_aimed_at, is_word_of, are_words_of, is_on_target, first_target}
 use Rattle.listing_parser.proofs.LabelLemmas.{label_at, label_among, code_place, one_label}
+use Rattle.common_lemmas.proofs.Booleans.{same_tests}
 
 -- ---- the first place ----
 
@@ -260,15 +261,11 @@ or_second : (a b c : Bool) → (b ≡ true → c ≡ true) → (a || b) ≡ true
 or_second true b c f e = refl
 or_second false b c f e = f e
 
-pub or_behind : (a b : Bool) → b ≡ true → (a || b) ≡ true
-or_behind true b e = refl
-or_behind false b e = e
-
 pub named_without : (name : Name) (n : ℕ) (ls : List ListingLine) → has_name name (without n ls) ≡ true → has_name name ls ≡ true
 named_without name n [] e = e
 named_without name zero (l ∷ ls) e = e
 named_without name (suc n) (l ∷ ls) e = elim (cases_Bool (is_op l.statement)) [
-  | inl o ↦ or_behind (is_among name l.names) (has_name name ls) (named_without name n ls (rw o at e))
+  | inl o ↦ or_right (is_among name l.names) (has_name name ls) (named_without name n ls (rw o at e))
   | inr o ↦ or_second (is_among name l.names) (has_name name (without (suc n) ls)) (has_name name ls) (named_without name (suc n) ls) (rw o at e)
 ]
 
@@ -389,18 +386,13 @@ still_aimed write lines new marked n p j k is (l ∷ ls) keeps e =
           (still_aimed write lines new marked n (p - length (places_in l.statement)) (j + 1) (k + 1) is ls keeps parts.1))
     ]
 
-pub same_bool : (a b : Bool) → (a ≡ true → b ≡ true) → (b ≡ true → a ≡ true) → a ≡ b
-same_bool true b f g = sym (f refl)
-same_bool false true f g = g refl
-same_bool false false f g = refl
-
 -- where the code labels of the old lines are kept, all that needs labels is
 pub keeps : (write : Instr → List ℕ) (n p : ℕ) (is : List Instr) (ls : List ListingLine) → first_twice 1 [] ls ≡ None → first_twice 1 [] (replaced_lines write p (suc n) is ls) ≡ None → IsWindow p n (places_of ls)
     → ((name : Name) → is_code_label ls name ≡ true → is_code_label (replaced_lines write p (suc n) is ls) name ≡ true) → Keeps ls (replaced_lines write p (suc n) is ls)
 keeps write n p is ls once again h kept =
     let new : List ListingLine = replaced_lines write p (suc n) is ls in
     record {
-      code = λ name. same_bool (is_code_label new name) (is_code_label ls name)
+      code = λ name. same_tests (is_code_label new name) (is_code_label ls name)
           (λ e. code_opens name ls once ∙ opens_old name write n p is ls h (sym (code_opens name new again) ∙ e))
           (kept name);
       named = λ name e. label_named name 0 ls ∙ named_old name write n p is ls (sym (label_named name 0 new) ∙ e);

@@ -7,10 +7,11 @@ use Rattle.std.proofs.lemmas.Option.{slice_get_past, slice_get_read, slice_get-m
 use Rattle.listing_parser.specs.declared.line.Value.{Value as Values}
 use Rattle.listing_parser.specs.Views.{value_view}
 use Rattle.thumb_model.specs.Listing.{ListingLine, Place, Word, places_in, places_of}
-use Rattle.thumb_model.proofs.Lists.{get_front, get_back}
+use Rattle.thumb_model.proofs.Lists.{get_back}
 use Rattle.listing_parser.specs.TableWords.{spots_at, spots_from, passed_from}
 use Rattle.listing_parser.specs.declared.index.Spot.{Spot}
 use Rattle.listing_parser.specs.declared.index.Passed.{Passed}
+use Rattle.common_lemmas.proofs.Lists.{get_front}
 
 spots_at_length : (line item : ℕ) (ps : List Place) → length (spots_at line item ps) ≡ length ps
 spots_at_length line item [] = refl

@@ -12,6 +12,7 @@ use Rattle.listing_parser.proofs.LabelLemmas.{among_append, among_front, among_l
 use Rattle.thumb_model.specs.Layout.{is_among}
 use Rattle.listing_parser.specs.Targets.{defined_in, DefineOnce, IsAgain, Known, Twice, IsFirstAgain}
 use Rattle.listing_parser.proofs.FirstTwice.{first_twice, is_again}
+use Rattle.common_lemmas.proofs.Booleans.{or_false}
 
 pub among_keys : (name : Name) (ks : List (Vec ℕ Global)) → list_any (λ (k : Vec ℕ Global). bytes_eq name k.items) ks ≡ is_among name (map (λ (k : Vec ℕ Global). k.items) ks)
 among_keys name [] = refl
@@ -38,16 +39,12 @@ again_then known ns ms b e h = sym (again_append known ns ms ∙ ap (λ (x : Boo
 pub again_else : (known more ns ms : List Name) (a b : Bool) → b ≡ is_again known ns → b ≡ false → more ≡ known ++ ns → a ≡ is_again more ms → a ≡ is_again known (ns ++ ms)
 again_else known more ns ms a b e h all f = f ∙ ap (λ (k : List Name). is_again k ms) all ∙ sym (again_append known ns ms ∙ ap (λ (x : Bool). x || is_again (known ++ ns) ms) (sym e ∙ h))
 
-pub or_last : (a : Bool) → (a || false) ≡ a
-or_last true = refl
-or_last false = refl
-
 -- a name that was added, or was there
 pub added_among : (q name : Name) (old new : List Name) (b : Bool) → b ≡ is_among name old → (b ≡ false → new ≡ old ++ name ∷ []) → (b ≡ true → new ≡ old) → is_among q new ≡ (is_among q old || bytes_eq q name)
 added_among q name old new true e added kept = ap (is_among q) (kept refl) ∙ there (bytes_eq q name) refl where
   there : (c : Bool) → bytes_eq q name ≡ c → is_among q old ≡ (is_among q old || c)
   there true h = let same : q ≡ name = (bytes_eq-Decides q name).0 h in let known : is_among q old ≡ true = rw same (sym e) in rw known refl
-  there false h = sym (or_last (is_among q old))
+  there false h = sym (or_false (is_among q old))
 added_among q name old new false e added kept = ap (is_among q) (added refl) ∙ among_append q old (name ∷ []) ∙ ap (λ c. is_among q old || c) (last (bytes_eq q name)) where
   last : (c : Bool) → (c || false) ≡ c
   last true = refl
@@ -129,7 +126,7 @@ pub again_decides : (known names : List Name) (b : Bool) → b ≡ is_again know
 again_decides known names b e = (λ t. is_told known names (sym e ∙ t), λ a. e ∙ told_is known names a)
 
 pub one_again : (name : Name) (known : List Name) → is_among name known ≡ is_again known (name ∷ [])
-one_again name known = sym (or_last (is_among name known))
+one_again name known = sym (or_false (is_among name known))
 
 pub again_is : (known names : List Name) (b : Bool) → Decides b (IsAgain known names) → b ≡ is_again known names
 again_is known names b d = one_answer b (is_again known names) d (again_decides known names (is_again known names) refl)

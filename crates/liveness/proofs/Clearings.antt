@@ -1,7 +1,7 @@
 -- The walk that clears, against the law of marks.
 use Rattle.std.proofs.Common.{◌≡◌, ◌≢◌, ℕ, zero, suc, ◌+◌, ◌<◌, ◌≤◌, ◌==◌, ◌&&◌, ◌||◌, not, Bool, true, false, List, [], ◌∷◌, ◌++◌, length, Option, Some, None, refl, sym, ap, ◌∙◌, subst, ◌⊎◌, inl, inr, arith, ◌↔◌, eqb-true}
 use Rattle.std.specs.Prelude.{slice_get}
-use Rattle.std.proofs.lemmas.Bool.{or_cases}
+use Rattle.std.proofs.lemmas.Bool.{or_cases, not-true, and_parts, and_from, not_from_false}
 use Rattle.thumb_instr.specs.declared.items.Items.{Items}
 use Rattle.thumb_instr.specs.Items.{one_of, has}
 use Rattle.thumb_model.specs.Listing.{Code, IsPoint}
@@ -30,23 +30,6 @@ use Rattle.liveness.proofs.Stacks.{one_more}
 use Rattle.liveness.proofs.Counts.{has_point}
 use Rattle.liveness.proofs.Passings.{uses_read, ways_there, passes_by, passes_any_by}
 use Rattle.liveness.proofs.Aheads.{ahead_forward}
-
--- ---- tests ----
-
-pub and_both : (a b : Bool) → a ≡ true → b ≡ true → (a && b) ≡ true
-and_both true b e f = f
-and_both false b e f = absurd (cc)
-
-pub and_parts : (a b : Bool) → (a && b) ≡ true → (a ≡ true) × (b ≡ true)
-and_parts true b e = (refl, e)
-and_parts false b e = absurd (cc)
-
-pub not_true : (a : Bool) → a ≡ false → not a ≡ true
-not_true a e = ap not e
-
-pub true_not : (a : Bool) → not a ≡ true → a ≡ false
-true_not true e = absurd (cc)
-true_not false e = refl
 
 -- ---- code points ----
 
@@ -99,13 +82,13 @@ module _ (t : Change) (all : List (Option Ways)) (g : Graph) (forward : PointSet
         go true e = absurd (let f = fewer p e in cc)
 
     pushed : (p : ℕ) → in_sets k.before.sets.items x p ≡ true → in_sets k'.before.sets.items x p ≡ false → pending k' x p ≡ true
-    pushed p h n = and_both _ _ (on.pushed p x (sym (here p) ∙ h) n) (and_both _ _ (began p ∙ below p x h) (not_true _ n))
+    pushed p h n = and_from _ _ (on.pushed p x (sym (here p) ∙ h) n) (and_from _ _ (began p ∙ below p x h) (not_from_false _ n))
 
     stays : (p : ℕ) → p ≢ q → pending k x p ≡ true → pending k' x p ≡ true
     stays p d h =
         let s = and_parts (one_of p k.stack.places) _ h in
         let c = and_parts (has (start_at k p) x) _ s.1 in
-        and_both _ _ (on.kept p (other (or_cases (one_of p k₁.stack.places) (p == q) (sym (one_more p q k₁.stack.places) ∙ sym (ap (one_of p) stack) ∙ s.0)))) (and_both _ _ (began p ∙ c.0) (not_true _ (still p (true_not _ c.1))))
+        and_from _ _ (on.kept p (other (or_cases (one_of p k₁.stack.places) (p == q) (sym (one_more p q k₁.stack.places) ∙ sym (ap (one_of p) stack) ∙ s.0)))) (and_from _ _ (began p ∙ c.0) (not_from_false _ (still p (not-true _ c.1))))
       where
         other : (one_of p k₁.stack.places ≡ true) ⊎ ((p == q) ≡ true) → one_of p k₁.stack.places ≡ true
         other (inl o) = o
@@ -115,7 +98,7 @@ module _ (t : Change) (all : List (Option Ways)) (g : Graph) (forward : PointSet
     taken h =
         let s = and_parts (one_of q k.stack.places) _ h in
         let c = and_parts (has (start_at k q) x) _ s.1 in
-        and_both _ _ (ap (λ y. has y x) (start q) ∙ c.0) (ap not (sym (here q)) ∙ c.1)
+        and_from _ _ (ap (λ y. has y x) (start q) ∙ c.0) (ap not (sym (here q)) ∙ c.1)
 
     ways_out : (p r : ℕ) → IsApart t.place (length t.old) p → Passes t.code x p r → AreWays p (ways t.code p) (ways_at all p)
     ways_out p r out a =
@@ -204,7 +187,7 @@ module _ (t : Change) (all : List (Option Ways)) (g : Graph) (forward : List Ite
     lost = λ h. first ∙ gone (in_sets k.before.sets.items x t.place) (lost_at old fresh forward x) (is_lost_there ∙ h);
     first = λ r n.
         let had : has (set_at k.before.sets.items t.place) x ≡ true = (exact t.place x).1 r in
-        and_both _ _ (ap (λ y. one_of y k'.stack.places) (sym by.first) ∙ b.pushed x (ap (λ y. has (set_at k.before.sets.items y) x) by.first ∙ had) (ap (λ y. has (set_at k'.before.sets.items y) x) by.first ∙ n)) (and_both _ _ (ap (λ y. has y x) (b.start t.place) ∙ had) (not_true _ n));
+        and_from _ _ (ap (λ y. one_of y k'.stack.places) (sym by.first) ∙ b.pushed x (ap (λ y. has (set_at k.before.sets.items y) x) by.first ∙ had) (ap (λ y. has (set_at k'.before.sets.items y) x) by.first ∙ n)) (and_from _ _ (ap (λ y. has y x) (b.start t.place) ∙ had) (not_from_false _ n));
   })
     where
       gone : (a l : Bool) → l ≡ true → (a && not l) ≡ false

@@ -13,6 +13,7 @@ use Rattle.liveness.specs.declared.counted.PointSets.{PointSets}
 use Rattle.liveness.specs.Counted.{points_with, AreCounted}
 pub use Rattle.liveness.proofs.Settles.{nothing_at}
 use Rattle.liveness.proofs.Paths.{has_zero as has_nothing}
+use Rattle.word_bits.proofs.Words.{from_bool-le}
 
 -- one set of a list is changed
 pub with_set : (x : ℕ) (ms : List Bool) (ss : List Items) (p : ℕ) (s : Items) → p < length ss → length ss ≤ length ms
@@ -23,15 +24,11 @@ with_set x [] (t ∷ ss) p s h l = absurd (omega arith)
 with_set x (m ∷ ms) (t ∷ ss) zero s h l = omega arith
 with_set x (m ∷ ms) (t ∷ ss) (suc p) s h l = let r = with_set x ms ss p s (omega arith) (omega arith) in omega arith
 
-one_at_most : (b : Bool) → from_bool b ≤ 1
-one_at_most true = omega arith
-one_at_most false = omega arith
-
 pub points_bound : (x : ℕ) (ms : List Bool) (ss : List Items) → points_with x ms ss ≤ length ss
 unfolding points_with
 points_bound x [] ss = omega arith
 points_bound x (m ∷ ms) [] = omega arith
-points_bound x (m ∷ ms) (s ∷ ss) = let r = points_bound x ms ss in let b = one_at_most (m && has s.bits x) in omega arith
+points_bound x (m ∷ ms) (s ∷ ss) = let r = points_bound x ms ss in let b = from_bool-le (m && has s.bits x) in omega arith
 
 -- a place that lacks the item isn't counted
 pub not_all : (x : ℕ) (ms : List Bool) (ss : List Items) (p : ℕ) → p < length ss → has (set_at ss p) x ≡ false → points_with x ms ss + 1 ≤ length ss
@@ -43,7 +40,7 @@ not_all x (m ∷ ms) (s ∷ ss) zero h n = let r = points_bound x ms ss in let b
     none : (a b : Bool) → b ≡ false → from_bool (a && b) ≡ 0
     none true b e = ap from_bool e
     none false b e = refl
-not_all x (m ∷ ms) (s ∷ ss) (suc p) h n = let r = not_all x ms ss p (omega arith) n in let b = one_at_most (m && has s.bits x) in omega arith
+not_all x (m ∷ ms) (s ∷ ss) (suc p) h n = let r = not_all x ms ss p (omega arith) n in let b = from_bool-le (m && has s.bits x) in omega arith
 
 -- a marked place that has it is
 pub has_some : (x : ℕ) (ms : List Bool) (ss : List Items) (p : ℕ) → marked ms p ≡ true → has (set_at ss p) x ≡ true → 0 < points_with x ms ss

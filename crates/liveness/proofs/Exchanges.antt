@@ -9,7 +9,7 @@ use Rattle.thumb_instr.specs.Shape.{uses_of, writes_of}
 use Rattle.thumb_instr.specs.Items.{one_of, has}
 use Rattle.thumb_model.specs.Listing.{Code}
 use Rattle.thumb_model.specs.Flow.{Way as ModelWay, Onward, way, ways_of, ways}
-use Rattle.thumb_model.proofs.Lists.{get_front, get_back}
+use Rattle.thumb_model.proofs.Lists.{get_back}
 use Rattle.shrinking_sets.specs.Straight.{is_straight, nop, nops, reads_first, writes_in, IsApart}
 use Rattle.shrinking_sets.proofs.Exchange.{Runs, old_runs, new_runs, apart_or, straight_at, ways_same, straight_way}
 use Rattle.padded_code.specs.Spread.{first_of, others_of, spread}
@@ -24,8 +24,9 @@ use Rattle.liveness.specs.Passing.{writes_among, reads_from, writes_from}
 use Rattle.liveness.specs.Window.{nth_or_nop, AreAscending, ArePut, GivesWay}
 use Rattle.liveness.proofs.Callers.{among}
 use Rattle.liveness.proofs.Passings.{ways_there}
-use Rattle.listing_parser.proofs.TwiceLemmas.{or_last as or_false}
 use Rattle.padded_code.proofs.Spread.{length_nops as nops_length}
+use Rattle.common_lemmas.proofs.Booleans.{or_false}
+use Rattle.common_lemmas.proofs.Lists.{get_front}
 
 -- ---- what a window reads and writes ----
 

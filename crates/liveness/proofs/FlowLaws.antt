@@ -1,14 +1,14 @@
 -- Flows of a listing in which a window gave way.
 use Rattle.std.proofs.Common.{◌≡◌, ℕ, zero, suc, ◌+◌, ◌-◌, ◌&&◌, ◌||◌, not, Bool, true, false, List, [], ◌∷◌, ◌++◌, length, map, Option, Some, None, refl, sym, ap, ◌∙◌, subst, inl, inr, arith}
 use Rattle.std.specs.Prelude.{slice_get}
-use Rattle.std.proofs.lemmas.Bool.{cases_lt}
+use Rattle.std.proofs.lemmas.Bool.{cases_lt, or_cases}
 use Rattle.thumb_instr.specs.declared.instr.Instr.{Instr}
 use Rattle.thumb_instr.specs.declared.items.Items.{Items}
 use Rattle.thumb_instr.specs.Items.{one_of, has}
 use Rattle.thumb_instr.specs.Shape.{uses_of, writes_of}
 use Rattle.thumb_model.specs.Listing.{Code}
 use Rattle.thumb_model.specs.Flow.{Way, Leads, Onward, ToPlace, AnyPoint, Out, ways_of, ways}
-use Rattle.thumb_model.proofs.Lists.{get_front, get_back}
+use Rattle.thumb_model.proofs.Lists.{get_back}
 use Rattle.liveness.specs.declared.flowing.Flow.{Flow}
 use Rattle.liveness.specs.Kept.{some_reads, if_onward, onward_writes, HasThese, FlowOf, AreFlowsFrom, is_straight}
 use Rattle.code_flow.specs.declared.way.Way.{Way as Ways}
@@ -16,7 +16,7 @@ use Rattle.code_flow.specs.Flow.{AreWays}
 use Rattle.liveness.specs.Through.{uses_among, passed}
 use Rattle.liveness.proofs.Moves.{move_leads, move_way}
 use Rattle.liveness.proofs.GivesWay.{straight_way}
-use Rattle.liveness.proofs.Paths.{or_cases}
+use Rattle.common_lemmas.proofs.Lists.{get_front}
 
 -- ---- what a flow says ----
 

@@ -15,11 +15,12 @@ use Rattle.liveness.specs.Live.{Sets, set_at, IsLive}
 use Rattle.liveness.specs.Kept.{FlowOf, AreFlowsFrom, KeepsAt, replaced_sets}
 use Rattle.liveness.specs.Changes.{AreReadFrom, WasLive}
 use Rattle.liveness.specs.Through.{live_through, nothing, AreThrough}
-use Rattle.liveness.proofs.Moves.{fits_in, get_within, map_back, move_way, some_same}
+use Rattle.liveness.proofs.Moves.{fits_in, get_within, move_way, some_same}
 use Rattle.liveness.proofs.FlowLaws.{flow_back}
 use Rattle.liveness.proofs.GivesWay.{GivesWay, gives_way}
 use Rattle.liveness.proofs.Keeping.{alone_reads}
 use Rattle.liveness.proofs.KeptSets.{IsTested, is_live}
+use Rattle.common_lemmas.proofs.Lists.{map_back}
 
 -- lists with the same elements
 same_elements : (xs ys : List Instr) → length xs ≡ length ys → ((k : ℕ) (x : Instr) → slice_get xs k ≡ Some x → slice_get ys k ≡ Some x) → xs ≡ ys

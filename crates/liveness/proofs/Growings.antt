@@ -18,7 +18,7 @@ use Rattle.liveness.specs.Live.{set_at}
 use Rattle.liveness.specs.Passes.{there, gained, weight_below, total, AreSound}
 use Rattle.liveness.specs.Graph.{some_leads, some_return, ways_in, ways_at, JumpsTo, AreCallers, AreReturns, IsGraph}
 use Rattle.liveness.proofs.Weights.{grows, total_set}
-use Rattle.liveness.proofs.Paths.{found, way_gains, gained_reads, comes_from}
+use Rattle.liveness.proofs.Paths.{way_gains, gained_reads, comes_from}
 use Rattle.liveness.specs.declared.counted.PointSets.{PointSets}
 use Rattle.liveness.specs.Stack.{Stack}
 use Rattle.liveness.specs.Counted.{AreCounted}
@@ -31,6 +31,7 @@ use Rattle.liveness.proofs.Passings.{passes_there, passes_any, passes_leads, pas
 use Rattle.liveness.proofs.Walks.{put_here, put_else}
 use Rattle.liveness.proofs.Clearings.{point_marked, marked_point}
 use Rattle.liveness.proofs.KeptSets.{set_within as has_within}
+use Rattle.thumb_model.proofs.Lists.{present_at as found}
 
 -- what is read there is gained
 gains_read : (p x : ℕ) (b : List Items) (w : ℕ) (ms : List ModelWay) (es : List Way) → AreWays p ms es → some_reads ms x ≡ true → gained es b w x ≡ true
@@ -179,11 +180,4 @@ pub both_told : (all : List (Option Ways)) (g : Graph) (p : ℕ) (one two three 
 both_told all g p one two three before on jumps kept w q h = elim (w.told p q h) [
   | inl e ↦ kept q (on q (before q e h))
   | inr j ↦ kept q (jumps w.callers q j)
-]
-
--- a place from which a way leads to any code point is one
-pub is_return_place : (all : List (Option Ways)) (q : ℕ) → some_return (ways_at all q) ≡ true → q < length all
-is_return_place all q h = elim (cases_lt q (length all)) [
-  | inl l ↦ l
-  | inr l ↦ absurd (let f : some_return (ways_in None) ≡ true = ap (λ o. some_return (ways_in o)) (sym (slice_get_past all q l)) ∙ h in cc)
 ]

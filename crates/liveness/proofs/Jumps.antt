@@ -2,7 +2,7 @@
 use Rattle.std.proofs.Common.{◌≡◌, ◌≢◌, ℕ, zero, suc, ◌+◌, ◌<◌, ◌≤◌, ◌==◌, Bool, true, false, List, [], ◌∷◌, ◌++◌, length, length-append, take, get_or, Option, Some, None, if◌then◌else◌, refl, sym, ap, ◌∙◌, subst, ◌⊎◌, inl, inr, arith, eq-eqb, eqb-true, ne_eqb}
 use Rattle.std.specs.Prelude.{slice_get, slice_set}
 use Rattle.std.proofs.lemmas.Option.{slice_get_past}
-use Rattle.std.proofs.lemmas.Bool.{cases_eq, cases_lt}
+use Rattle.std.proofs.lemmas.Bool.{cases_eq, cases_lt, or_cases}
 use Rattle.std.proofs.lemmas.List.{length-set}
 use Rattle.thumb_instr.specs.declared.instr.Instr.{Instr}
 use Rattle.thumb_instr.specs.declared.instr.Instr.TheVariants as instr
@@ -10,7 +10,7 @@ use Rattle.thumb_instr.specs.Items.{one_of}
 use Rattle.thumb_instr.proofs.Listed.{one_of_append}
 use Rattle.thumb_model.specs.Listing.{Place as Standing, Op, Word, Code}
 use Rattle.thumb_model.specs.Flow.{Way as ModelWay, Leads, Onward, ToPlace, AnyPoint, Out as Outside, ways_of, ways_on, ways}
-use Rattle.thumb_model.proofs.Lists.{get_front, get_back}
+use Rattle.thumb_model.proofs.Lists.{get_back}
 use Rattle.code_flow.specs.declared.way.Next.{Next}
 use Rattle.code_flow.specs.declared.way.Next.TheVariants.{Place, Points, Out}
 use Rattle.code_flow.specs.declared.way.Way.{Way}
@@ -22,8 +22,9 @@ use Rattle.code_flow.specs.Points.{marked}
 use Rattle.liveness.specs.Ways.{AreAllWays}
 use Rattle.liveness.specs.Graph.{leads_to, some_leads, some_return, other_than, jump_from, ways_in, ways_at, JumpsTo, IsLast, IsJump, AreCallers, AreReturns}
 use Rattle.liveness.proofs.Moves.{get_within, some_same}
-use Rattle.liveness.proofs.Paths.{or_cases, or_left, or_right}
+use Rattle.liveness.proofs.Paths.{or_left, or_right}
 use Rattle.liveness.proofs.Waits.{is_one, one_is}
+use Rattle.common_lemmas.proofs.Lists.{get_front}
 
 -- ---- no way but the first leads to a place that it names ----
 
@@ -240,22 +241,6 @@ jump_told all n c t rest k j ms ms' a g r told kept here = (j.place, (a.jumps k 
           let at : q ≡ j.place = omega (arith, l, o.4, ap (λ (y : Jump). y.place) is) in
           ap (marked ms') at ∙ here
     ]
-
-pub among_these : (xs : List ℕ) (i : ℕ) → i < length xs → one_of (get_or xs i 0) xs ≡ true
-among_these [] i h = absurd (omega arith)
-among_these (x ∷ xs) zero h = or_left _ _ (eq-eqb x x refl)
-among_these (x ∷ xs) (suc i) h = or_right (get_or xs i 0 == x) _ (among_these xs i (omega arith))
-
-pub one_more : (q : ℕ) (xs : List ℕ) (i : ℕ) → i < length xs → one_of q (take (suc i) xs) ≡ true → (one_of q (take i xs) ≡ true) ⊎ (q ≡ get_or xs i 0)
-one_more q [] i h o = absurd (omega arith)
-one_more q (x ∷ xs) zero h o = inr (one_is q x o)
-one_more q (x ∷ xs) (suc i) h o = elim (or_cases (q == x) (one_of q (take (suc i) xs)) o) [
-  | inl e ↦ inl (or_left _ _ e)
-  | inr e ↦ elim (one_more q xs i (omega arith) e) [
-    | inl f ↦ inl (or_right (q == x) _ f)
-    | inr f ↦ inr f
-  ]
-]
 
 -- ---- the places from which a way leads to any code point ----
 

@@ -1,7 +1,7 @@
 -- Live items where a window gave way.
 use Rattle.std.proofs.Common.{◌≡◌, ℕ, zero, suc, ◌+◌, ◌<◌, ◌≤◌, ◌&&◌, not, Bool, true, false, List, [], ◌∷◌, length, drop, Option, Some, refl, sym, ap, ◌∙◌, subst, ◌⊎◌, inl, inr, arith}
 use Rattle.std.specs.Prelude.{slice_get}
-use Rattle.std.proofs.lemmas.Bool.{cases_lt, cases_eq}
+use Rattle.std.proofs.lemmas.Bool.{cases_lt, cases_eq, or_cases}
 use Rattle.thumb_instr.specs.declared.instr.Instr.{Instr}
 use Rattle.thumb_instr.specs.Items.{one_of}
 use Rattle.thumb_instr.specs.Shape.{uses_of, writes_of}
@@ -12,10 +12,12 @@ use Rattle.thumb_model.proofs.Moved.{IsOutside}
 use Rattle.liveness.specs.declared.flowing.Flow.{Flow}
 use Rattle.liveness.specs.Kept.{FlowOf, AreFlowsFrom}
 use Rattle.liveness.specs.Through.{live_through, read_along, nothing}
-use Rattle.liveness.proofs.Moves.{get_map, map_back, drop_at, drop_whole, move_leads, move_way, Runs, runs_at}
+use Rattle.liveness.proofs.Moves.{drop_at, drop_whole, move_leads, move_way, Runs, runs_at}
 use Rattle.liveness.proofs.GivesWay.{GivesWay}
 use Rattle.liveness.proofs.FlowLaws.{reader, passer}
-use Rattle.liveness.proofs.Paths.{or_cases, or_left, or_right}
+use Rattle.liveness.proofs.Paths.{or_left, or_right}
+use Rattle.common_lemmas.proofs.Lists.{get_map, map_back}
+use Rattle.shrinking_sets.proofs.Cleared.{passing, passes, only}
 
 -- ---- through straight code ----
 
@@ -38,16 +40,6 @@ either (i ∷ is) x A B (inr t) =
       | inl l ↦ inl (inr (t.0, l))
       | inr r ↦ inr (r.0, λ b. inr (t.0, r.1 b))
     ]
-
-pub passes : (a b : Bool) → (a && not b) ≡ true → (a ≡ true) × (b ≡ false)
-passes true false e = (refl, refl)
-passes true true e = absurd (cc)
-passes false b e = absurd (cc)
-
-pub passing : (a b : Bool) → a ≡ true → b ≡ false → (a && not b) ≡ true
-passing true false e f = refl
-passing true true e f = absurd (cc)
-passing false b e f = absurd (cc)
 
 -- the same as a test
 tested : (is : List Instr) (x : ℕ) (after : ℕ → Bool) → Through is x (after x ≡ true) → live_through is after x ≡ true
@@ -76,14 +68,6 @@ through_reads code (i ∷ is) q end x e r (inr t) =
 -- what straight code reads is read before it
 pub alone_reads : (code : Code) (is : List Instr) (q x : ℕ) → Runs code q is → live_through is nothing x ≡ true → Reads code x q
 alone_reads code is q x r h = through_reads code is q (q + length is) x refl r (through_map is x (nothing x ≡ true) (Reads code x (q + length is)) (not_nothing x (Reads code x (q + length is))) (told is x nothing h))
-
--- a way of a place with one
-pub only : (ws : List Way) (v : Way) (k : ℕ) (w : Way) → ws ≡ v ∷ [] → slice_get ws k ≡ Some w → v ≡ w
-only ws v k w e g = go k (ap (λ us. slice_get us k) (sym e) ∙ g)
-  where
-    go : (k : ℕ) → slice_get (v ∷ []) k ≡ Some w → v ≡ w
-    go zero f = let o : (let a : Option Way = Some v in a) ≡ Some w = f in cc
-    go (suc k) f = absurd (cc)
 
 -- ---- an item ----
 

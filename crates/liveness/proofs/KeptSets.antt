@@ -9,17 +9,19 @@ use Rattle.thumb_instr.specs.Items.{has}
 use Rattle.thumb_instr.specs.Shape.{uses_of, writes_of}
 use Rattle.thumb_model.specs.Listing.{Code}
 use Rattle.thumb_model.specs.Flow.{Way, Onward, way, ways, Follows, Reads, LiveAfter}
-use Rattle.thumb_model.proofs.Lists.{get_drop, get_take, get_front, get_back, length_map, take_all, length_drop}
+use Rattle.thumb_model.proofs.Lists.{get_drop, get_take, get_back, length_map, take_all, length_drop}
 use Rattle.thumb_model.proofs.Moved.{IsOutside}
 use Rattle.liveness.specs.declared.flowing.Flow.{Flow}
 use Rattle.liveness.specs.declared.kept.NewSets.{NewSets}
 use Rattle.liveness.specs.Live.{Sets, word_of, set_at, IsLive}
 use Rattle.liveness.specs.Kept.{AreFlowsFrom, replaced_sets}
 use Rattle.liveness.specs.Through.{live_through, IsReadStill, AreThrough}
-use Rattle.liveness.proofs.Moves.{get_map, map_back, drop_at, move_way, runs_at}
+use Rattle.liveness.proofs.Moves.{drop_at, move_way, runs_at}
 use Rattle.liveness.proofs.GivesWay.{GivesWay}
-use Rattle.liveness.proofs.Keeping.{only, still_read, enters, read_before, read_within, within_read}
+use Rattle.liveness.proofs.Keeping.{still_read, enters, read_before, read_within, within_read}
 use Rattle.liveness.proofs.Paths.{has_zero}
+use Rattle.common_lemmas.proofs.Lists.{get_map, get_front, map_back}
+use Rattle.shrinking_sets.proofs.Cleared.{only}
 
 -- what is tested of a window and of new instructions, and the sets that are made
 pub record IsTested (window new : List Instr) (before after : Items) (ahead : List Flow) (kept : List NewSets) : Type 0 where

@@ -18,7 +18,7 @@ mod Counts
 mod Passings
 mod Aheads
 mod Walks
-mod Callers
+pub mod Callers
 mod Clearings
 mod Stepping
 mod Windows

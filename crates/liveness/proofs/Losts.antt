@@ -1,7 +1,7 @@
 -- Places that lost an item in the end.
 use Rattle.std.proofs.Common.{◌≡◌, ◌≢◌, ℕ, zero, suc, ◌<◌, ◌≤◌, ◌==◌, ◌&&◌, not, Bool, true, false, List, [], ◌∷◌, ◌++◌, length, if◌then◌else◌, refl, sym, ap, ◌∙◌, subst, ◌⊎◌, inl, inr, arith, ◌↔◌, eq-eqb, eqb-true, ne_eqb}
 use Rattle.std.specs.Prelude.{slice_set}
-use Rattle.std.proofs.lemmas.Bool.{cases_Bool, cases_lt, or_cases, or_left, or_right}
+use Rattle.std.proofs.lemmas.Bool.{cases_Bool, cases_lt, or_cases, or_left, or_right, not-true, and_parts, and_from, not_from_false}
 use Rattle.std.proofs.lemmas.Nat.Bits.{bit_at-zero, same_from_bits_below}
 use Rattle.thumb_instr.specs.declared.items.Items.{Items}
 use Rattle.thumb_instr.specs.Items.{one_of, has}
@@ -14,7 +14,6 @@ use Rattle.liveness.specs.declared.walk.Walk.{Walk}
 use Rattle.liveness.specs.KeptLive.{LosesAt}
 use Rattle.liveness.specs.Walk.{start_at}
 use Rattle.liveness.proofs.Aheads.{mark_kept, mark_back}
-use Rattle.liveness.proofs.Clearings.{and_both, and_parts, not_true, true_not}
 use Rattle.liveness.proofs.Stacks.{one_more}
 
 -- ---- whether a word has an item ----
@@ -39,13 +38,13 @@ is_zero w l none = same_from_bits_below 19 w 0 l (omega arith) (λ x b. elim (bi
 
 pub loses_some : (m : Items) (old new : ℕ) → ((x : ℕ) → has m.bits x ≡ (has old x && not (has new x))) → m.bits ≢ 0 → LosesAt old new
 loses_some m old new is some = elim (some_item 19 m.bits (λ x l. has_none m.bits x m.is_small l)) [
-  | inl r ↦ let t = and_parts (has old r.0) _ (sym (is r.0) ∙ r.1) in (r.0, t.0, true_not (has new r.0) t.1)
+  | inl r ↦ let t = and_parts (has old r.0) _ (sym (is r.0) ∙ r.1) in (r.0, t.0, not-true (has new r.0) t.1)
   | inr none ↦ absurd (some (is_zero m.bits m.is_small none))
 ]
 
 pub some_lost : (m : Items) (old new : ℕ) → ((x : ℕ) → has m.bits x ≡ (has old x && not (has new x))) → LosesAt old new → m.bits ≢ 0
 some_lost m old new is r e =
-    let t : has m.bits r.0 ≡ true = is r.0 ∙ and_both (has old r.0) _ r.1 (not_true (has new r.0) r.2) in
+    let t : has m.bits r.0 ≡ true = is r.0 ∙ and_from (has old r.0) _ r.1 (not_from_false (has new r.0) r.2) in
     let f : has m.bits r.0 ≡ false = ap (λ w. has w r.0) e ∙ ap (λ n. n == 1) (bit_at-zero r.0) in
     cc
 
@@ -55,10 +54,10 @@ module _ (m old new : Items) (was before : List Items) (p : ℕ) (at : set_at wa
   minus x = is x ∙ ap (λ y. has y x && not (has new.bits x)) (sym at) ∙ ap (λ y. has (set_at was p) x && not (has y x)) (sym now)
 
   pub tells_lost : not (m.bits == 0) ≡ true → LosesAt (set_at was p) (set_at before p)
-  tells_lost h = loses_some m (set_at was p) (set_at before p) minus (λ e. absurd (let t : (m.bits == 0) ≡ true = eq-eqb m.bits 0 e in let f = true_not (m.bits == 0) h in cc))
+  tells_lost h = loses_some m (set_at was p) (set_at before p) minus (λ e. absurd (let t : (m.bits == 0) ≡ true = eq-eqb m.bits 0 e in let f = not-true (m.bits == 0) h in cc))
 
   pub lost_tells : LosesAt (set_at was p) (set_at before p) → not (m.bits == 0) ≡ true
-  lost_tells l = not_true (m.bits == 0) (ne_eqb m.bits 0 (some_lost m (set_at was p) (set_at before p) minus l))
+  lost_tells l = not_from_false (m.bits == 0) (ne_eqb m.bits 0 (some_lost m (set_at was p) (set_at before p) minus l))
 
 -- ---- places that are told ----
 

@@ -21,21 +21,13 @@ use Rattle.thumb_model.proofs.Points.{IsLabelsPlace, label_of_name, label_of_pla
 use Rattle.liveness.specs.Kept.{KeepsAt}
 use Rattle.listing_parser.proofs.ReplaceLemmas.{and_first as and_left}
 use Rattle.listing_parser.proofs.ReadingLemmas.{and_second as and_right}
+use Rattle.common_lemmas.proofs.Lists.{get_map}
+use Rattle.rule_model.proofs.Table.{one_way, no_call}
 
 -- ---- lists ----
 
 pub some_same : {A : Type 0} (a b : A) → (let o : Option A = Some a in o) ≡ Some b → a ≡ b
 some_same a b e = cc
-
-pub get_map : {A B : Type 0} (f : A → B) (xs : List A) (k : ℕ) (x : A) → slice_get xs k ≡ Some x → slice_get (map f xs) k ≡ Some (f x)
-get_map f [] k x e = absurd (cc)
-get_map f (y ∷ xs) zero x e = ap (λ z. Some (f z)) (some_same y x e)
-get_map f (y ∷ xs) (suc k) x e = get_map f xs k x e
-
-pub map_back : {A B : Type 0} (f : A → B) (xs : List A) (k : ℕ) (y : B) → slice_get (map f xs) k ≡ Some y → (x : A) × (slice_get xs k ≡ Some x) × (y ≡ f x)
-map_back f [] k y e = absurd (cc)
-map_back f (x ∷ xs) zero y e = (x, refl, sym (some_same (f x) y e))
-map_back f (x ∷ xs) (suc k) y e = map_back f xs k y e
 
 pub get_within : {A : Type 0} (xs : List A) (k : ℕ) (x : A) → slice_get xs k ≡ Some x → k < length xs
 get_within [] k x e = absurd (cc)
@@ -57,27 +49,6 @@ drop_whole (x ∷ xs) zero e = absurd (omega arith)
 drop_whole (x ∷ xs) (suc k) e = drop_whole xs k (omega arith)
 
 -- ---- rows ----
-
--- a row: a letter goes to the next place alone
-pub letter_way : (o : Option ℕ) (i : Instr) → is_in_window i ≡ true → ways_of o i ≡ way (uses_of i) (writes_of i) Onward ∷ []
-letter_way o (instr.Mov d m) h = refl
-letter_way o (instr.Three s d n m) h = refl
-letter_way o (instr.Two t d m) h = refl
-letter_way o (instr.Movs d m) h = refl
-letter_way o (instr.ShiftLeft d m i) h = refl
-letter_way o (instr.ShiftRight s d m i) h = refl
-letter_way o (instr.ThreeNumber s d n i) h = refl
-letter_way o (instr.TwoNumber t d i) h = refl
-letter_way o (instr.Add k) h = refl
-letter_way o (instr.Extend k d m) h = refl
-letter_way o (instr.Reverse r d m) h = refl
-letter_way o i h = absurd (cc)
-
--- a row: and is no call
-no_call : (i : Instr) → is_in_window i ≡ true → is_call_instr i ≡ false
-no_call (instr.Blx m) h = absurd (cc)
-no_call (instr.Call d) h = absurd (cc)
-no_call i h = refl
 
 -- a way whose place moved
 abbrev pub move_leads : (ℕ → ℕ) → Leads → Leads
@@ -152,7 +123,7 @@ letter_at (k ∷ is) (suc j) i h e = letter_at is j i (and_right (is_in_window k
 pub runs_from : (code : Code) (q : ℕ) (is : List Instr) → list_all is_in_window is ≡ true → ((j : ℕ) (i : Instr) → slice_get is j ≡ Some i → slice_get code.places (q + j) ≡ Some (plain i)) → Runs code q is
 runs_from code q [] h s = tt
 runs_from code q (i ∷ is) h s = (
-  ap (ways_on code) (ap (slice_get code.places) (let e : q ≡ q + 0 = omega arith in e) ∙ s 0 i refl) ∙ letter_way None i (and_left (is_in_window i) _ h),
+  ap (ways_on code) (ap (slice_get code.places) (let e : q ≡ q + 0 = omega arith in e) ∙ s 0 i refl) ∙ one_way None i (and_left (is_in_window i) _ h),
   runs_from code (q + 1) is (and_right (is_in_window i) _ h) (λ j k e. ap (slice_get code.places) (let e : q + 1 + j ≡ q + suc j = omega arith in e) ∙ s (suc j) k e),
 )
 

@@ -16,12 +16,13 @@ use Rattle.liveness.specs.Ways.{AreAllWays}
 use Rattle.liveness.specs.Graph.{leads_to, some_leads, is_return, some_return, ways_in, ways_at, IsGraph}
 use Rattle.liveness.specs.Through.{uses_among}
 use Rattle.liveness.specs.declared.graph.Graph.{Graph}
-use Rattle.liveness.proofs.Paths.{within, found}
 use Rattle.liveness.proofs.Jumps.{leads_told}
 use Rattle.liveness.specs.Within.{IsWired}
 use Rattle.liveness.specs.Passing.{passes_to, passes_points, Keeps}
 use Rattle.shrinking_sets.proofs.Cleared.{passing as both}
 use Rattle.listing_parser.proofs.ReplaceLemmas.{and_first as and_left}
+use Rattle.thumb_model.proofs.Lists.{present_at}
+use Rattle.thumb_model.proofs.Shared.{within}
 
 -- ---- one way, and two ----
 
@@ -54,7 +55,7 @@ no_ways false = refl
 -- a place of the code has ways by the list
 pub ways_there : (code : Code) (all : List (Option Ways)) → AreAllWays code all → length all ≡ length code.places → (p k : ℕ) (v : ModelWay) → slice_get (ways code p) k ≡ Some v → AreWays p (ways code p) (ways_at all p)
 ways_there code all a m p k v g =
-    let e = found all p (let l = within code p k v g in omega (arith, l, m)) in
+    let e = present_at all p (let l = within code p k v g in omega (arith, l, m)) in
     subst (λ (o : Option (Option Ways)). AreWays p (ways code p) (ways_in o)) (sym e.1) (a p e.0 e.1)
 
 -- it reads what they read

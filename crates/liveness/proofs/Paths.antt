@@ -2,7 +2,7 @@
 use Rattle.std.proofs.Common.{◌≡◌, ℕ, zero, suc, ◌+◌, ◌<◌, ◌==◌, ◌&&◌, ◌||◌, not, Bool, true, false, List, [], ◌∷◌, length, Option, Some, None, refl, sym, ap, ◌∙◌, subst, ◌⊎◌, inl, inr, arith, ◌↔◌}
 use Rattle.std.specs.Prelude.{slice_get}
 use Rattle.std.proofs.lemmas.Option.{slice_get_past}
-use Rattle.std.proofs.lemmas.Bool.{cases_lt}
+use Rattle.std.proofs.lemmas.Bool.{cases_lt, not-true, or_cases}
 use Rattle.std.proofs.lemmas.Nat.Bits.{bit_at-zero}
 use Rattle.thumb_instr.specs.declared.items.Items.{Items}
 use Rattle.thumb_instr.specs.Items.{has}
@@ -19,14 +19,8 @@ use Rattle.liveness.specs.Passes.{there, gained, led, AreSound, AreClosed}
 pub use Rattle.std.proofs.lemmas.Bool.{or_left, or_right}
 use Rattle.listing_parser.proofs.ReplaceLemmas.{and_first as and_left}
 use Rattle.listing_parser.proofs.ReadingLemmas.{and_second as and_right}
-
-pub or_cases : (a b : Bool) → (a || b) ≡ true → (a ≡ true) ⊎ (b ≡ true)
-or_cases true b e = inl refl
-or_cases false b e = inr e
-
-pub not_false : (a : Bool) → not a ≡ true → a ≡ false
-not_false true e = absurd (cc)
-not_false false e = refl
+use Rattle.thumb_model.proofs.Lists.{present_at}
+use Rattle.thumb_model.proofs.Shared.{within}
 
 -- nothing is in the empty word
 pub has_zero : (x : ℕ) → has 0 x ≡ false
@@ -40,7 +34,7 @@ helps : (p : ℕ) (b : List Items) (w x : ℕ) (v : ModelWay) (e : Way) → IsWa
 helps p b w x v e i h =
     elim (or_cases _ _ h) [
       | inl u ↦ inl (sym (i.uses x) ∙ u)
-      | inr u ↦ inr (sym (i.writes x) ∙ not_false _ (and_right _ _ u), subst (λ (n : Next). has (there n b w) x ≡ true) i.leads (and_left _ _ u))
+      | inr u ↦ inr (sym (i.writes x) ∙ not-true _ (and_right _ _ u), subst (λ (n : Next). has (there n b w) x ≡ true) i.leads (and_left _ _ u))
     ]
 
 pub some_way : (p : ℕ) (b : List Items) (w x : ℕ) (vs : List ModelWay) (es : List Way) → AreWays p vs es → gained es b w x ≡ true → (k : ℕ) × (v : ModelWay) × (slice_get vs k ≡ Some v) × Helps p b w x v
@@ -111,14 +105,6 @@ gained_reads code p b w x es s a h =
     go k v g (inl r) = now p k v g r
     go k v g (inr r) = let f = goes_to code b w s p x v.leads r.1 in later p k v f.0 g r.0 f.1 f.2
 
--- a place that has a way is one
-pub within : (code : Code) (p k : ℕ) (v : ModelWay) → slice_get (ways code p) k ≡ Some v → p < length code.places
-within code p k v e =
-    elim (cases_lt p (length code.places)) [
-      | inl l ↦ l
-      | inr l ↦ absurd (let f : slice_get (ways_on code None) k ≡ Some v = ap (λ (o : Option Place). slice_get (ways_on code o) k) (sym (slice_get_past code.places p l)) ∙ e in cc)
-    ]
-
 -- the sets are finished
 pub record AreFinished (code : Code) (all : List (Option Ways)) (b a : List Items) (w : ℕ) : Type 0 where
   pub as_many : length all ≡ length code.places
@@ -126,17 +112,12 @@ pub record AreFinished (code : Code) (all : List (Option Ways)) (b a : List Item
   pub sound : AreSound code b w
   pub closed : AreClosed all b a w
 
-pub found : {A : Type 0} (xs : List A) (p : ℕ) → p < length xs → (e : A) × (slice_get xs p ≡ Some e)
-found [] p h = absurd (omega arith)
-found (x ∷ xs) zero h = (x, refl)
-found (x ∷ xs) (suc p) h = found xs p (omega arith)
-
 closed_reads : (code : Code) (all : List (Option Ways)) (b a : List Items) (w x : ℕ) → AreFinished code all b a w → (p : ℕ) → Reads code x p → has (set_at b p) x ≡ true
 closed_reads code all b a w x f p₀ r = go p₀ r
   where
     at : (p k : ℕ) (v : ModelWay) → slice_get (ways code p) k ≡ Some v → Helps p b w x v → has (set_at b p) x ≡ true
     at p k v g h =
-        let e = found all p (let l = within code p k v g in let m = f.as_many in omega arith) in
+        let e = present_at all p (let l = within code p k v g in let m = f.as_many in omega arith) in
         (f.closed p e.0 e.1).before x (way_gains p b w x (ways code p) (way_list e.0) (f.has_ways p e.0 e.1) k v g h)
 
     go : (p : ℕ) → Reads code x p → has (set_at b p) x ≡ true
@@ -145,7 +126,7 @@ closed_reads code all b a w x f p₀ r = go p₀ r
 
 finished_after : (code : Code) (all : List (Option Ways)) (b a : List Items) (w : ℕ) → AreFinished code all b a w → (p x : ℕ) → p < length code.places → (has (set_at a p) x ≡ true) ↔ LiveAfter code p x
 finished_after code all b a w f p x l =
-    let e = found all p (let m = f.as_many in omega arith) in
+    let e = present_at all p (let m = f.as_many in omega arith) in
     let c = f.closed p e.0 e.1 in
     (λ h. forth e.0 e.1 (sym (c.after x) ∙ h), λ v. c.after x ∙ back e.0 e.1 v)
   where

@@ -5,7 +5,7 @@ use Rattle.std.specs.Int.{from_bool}
 use Rattle.std.proofs.lemmas.Bool.{cases_eq, cases_lt, lt-ltb, le-ltb}
 use Rattle.std.proofs.lemmas.List.{get_or-set_same, get_or-set_other}
 use Rattle.thumb_instr.specs.Items.{has}
-use Rattle.listing_parser.proofs.TwiceLemmas.{or_last as or_false}
+use Rattle.common_lemmas.proofs.Booleans.{or_false}
 
 pub none_yet : (w : ℕ) (cs : List ℕ) → ((x : ℕ) → has w x ≡ false) → (x : ℕ) → has w x ≡ (nat_lt x 0 && nat_lt 0 (get_or cs x 0))
 none_yet w cs n x = n x ∙ sym (ap (λ b. b && nat_lt 0 (get_or cs x 0)) (le-ltb x 0 (omega arith)))

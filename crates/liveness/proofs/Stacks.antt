@@ -10,7 +10,8 @@ use Rattle.kept_places.specs.Marks.{marked}
 use Rattle.kept_places.proofs.Ranks.{marked_within, marked_set, marked_other, unmarked}
 use Rattle.liveness.specs.Stacked.{AreDistinct, count_marked, AreStacked}
 use Rattle.liveness.specs.declared.stack.PlaceStack.TheInside.{Inside}
-use Rattle.listing_parser.proofs.TwiceLemmas.{or_last as or_false}
+use Rattle.word_bits.proofs.Words.{from_bool-le}
+use Rattle.common_lemmas.proofs.Booleans.{or_false}
 
 -- ---- members ----
 
@@ -51,10 +52,6 @@ distinct_less (q ∷ ps) p d =
 
 -- ---- how many ----
 
-one_at_most : (b : Bool) → from_bool b ≤ 1
-one_at_most true = omega arith
-one_at_most false = omega arith
-
 count_set : (ms : List Bool) (p : ℕ) (b : Bool) → p < length ms → count_marked (slice_set ms p b) + from_bool (marked ms p) ≡ count_marked ms + from_bool b
 unfolding count_marked
 count_set [] p b h = absurd (omega arith)
@@ -64,7 +61,7 @@ count_set (m ∷ ms) (suc p) b h = let r = count_set ms p b (omega arith) in ome
 pub count_bound : (ms : List Bool) → count_marked ms ≤ length ms
 unfolding count_marked
 count_bound [] = omega arith
-count_bound (m ∷ ms) = let h = count_bound ms in let b = one_at_most m in omega arith
+count_bound (m ∷ ms) = let h = count_bound ms in let b = from_bool-le m in omega arith
 
 -- an unmarked place is no member yet, and there is room for it
 pub room_left : (s : Inside) (p : ℕ) → AreStacked s → p < length s.marks.items → marked s.marks.items p ≡ false → length s.places.items < vec_capacity s.places

@@ -14,7 +14,7 @@ use Rattle.code_flow.specs.declared.way.Ways.{Ways}
 use Rattle.liveness.specs.Live.{word_of, set_at}
 use Rattle.liveness.specs.Graph.{IsGraph}
 use Rattle.liveness.specs.declared.graph.Graph.{Graph}
-use Rattle.liveness.proofs.Paths.{within, AreFinished, finished_live}
+use Rattle.liveness.proofs.Paths.{AreFinished, finished_live}
 use Rattle.liveness.specs.declared.kept_live.KeptFlow.{KeptFlow}
 use Rattle.liveness.specs.declared.walk.Walk.{Walk}
 use Rattle.liveness.specs.Ahead.{IsAhead}
@@ -25,6 +25,7 @@ use Rattle.liveness.specs.Walk.{IsFitWalk}
 use Rattle.liveness.specs.Within.{IsInside}
 use Rattle.liveness.proofs.Aheads.{mark_kept}
 use Rattle.liveness.proofs.Walks.{put_here, put_else}
+use Rattle.thumb_model.proofs.Shared.{within}
 
 -- nothing is read from past the end
 reads_inside : (code : Code) (x p : ℕ) → Reads code x p → p < length code.places

@@ -6,10 +6,11 @@ use Rattle.thumb_instr.specs.declared.instr.Instr.{Instr}
 use Rattle.thumb_instr.specs.declared.items.Items.{Items}
 use Rattle.thumb_instr.specs.Items.{one_of, has}
 use Rattle.thumb_instr.specs.Shape.{uses_of, writes_of}
-use Rattle.thumb_model.proofs.Lists.{get_front, get_back, length_drop}
+use Rattle.thumb_model.proofs.Lists.{get_back, length_drop}
 use Rattle.liveness.specs.declared.kept.NewSets.{NewSets}
 use Rattle.liveness.specs.Through.{live_through, nothing, AreThrough}
 use Rattle.liveness.proofs.Paths.{has_zero}
+use Rattle.common_lemmas.proofs.Lists.{get_front}
 
 -- an item is live before straight code by whether it is live after it
 same_after : (is : List Instr) (x : ℕ) (a b : ℕ → Bool) → a x ≡ b x → live_through is a x ≡ live_through is b x

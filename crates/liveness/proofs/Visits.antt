@@ -1,7 +1,7 @@
 -- One visit more.
 use Rattle.std.proofs.Common.{◌≡◌, ◌≢◌, ℕ, ◌<◌, ◌&&◌, ◌||◌, not, Bool, true, false, List, [], ◌∷◌, length, Option, Some, refl, sym, ap, ◌∙◌, subst, ◌⊎◌, inl, inr, arith, ◌↔◌, eq-eqb}
 use Rattle.std.specs.Prelude.{slice_get, slice_set}
-use Rattle.std.proofs.lemmas.Bool.{cases_eq}
+use Rattle.std.proofs.lemmas.Bool.{cases_eq, or_cases}
 use Rattle.thumb_instr.specs.declared.items.Items.{Items}
 use Rattle.thumb_instr.specs.Items.{one_of, has}
 use Rattle.thumb_model.specs.Listing.{Code, IsPoint}
@@ -16,7 +16,7 @@ use Rattle.code_flow.specs.Points.{marked}
 use Rattle.liveness.specs.Graph.{leads_to, some_leads, is_return, some_return, ways_in, ways_at}
 use Rattle.liveness.specs.Passes.{there, gained, led, weight_below, IsVisit, AreSound, IsClosed}
 use Rattle.liveness.proofs.Weights.{grows, total_set, get_here, get_else}
-use Rattle.liveness.proofs.Paths.{gained_reads, or_cases, or_left, or_right}
+use Rattle.liveness.proofs.Paths.{gained_reads, or_left, or_right}
 use Rattle.liveness.proofs.Waits.{not_one}
 
 -- a visit keeps the sets sound

@@ -13,12 +13,9 @@ use Rattle.code_flow.proofs.Marking.{set_here, set_else}
 use Rattle.liveness.proofs.Paths.{or_left, or_right}
 use Rattle.code_flow.proofs.Reaches.{in_both, marked_within}
 pub use Rattle.code_flow.proofs.Reaches.{is_one, one_is}
+use Rattle.word_bits.proofs.Words.{from_bool-le}
 
 -- ---- how many are marked ----
-
-one_at_most : (b : Bool) → from_bool b ≤ 1
-one_at_most true = omega arith
-one_at_most false = omega arith
 
 count_set : (ms : List Bool) (p : ℕ) (b : Bool) → p < length ms → count_marked (slice_set ms p b) + from_bool (marked ms p) ≡ count_marked ms + from_bool b
 unfolding count_marked
@@ -29,7 +26,7 @@ count_set (m ∷ ms) (suc p) b h = let r = count_set ms p b (omega arith) in ome
 pub count_bound : (ms : List Bool) → count_marked ms ≤ length ms
 unfolding count_marked
 count_bound [] = omega arith
-count_bound (m ∷ ms) = let h = count_bound ms in let b = one_at_most m in omega arith
+count_bound (m ∷ ms) = let h = count_bound ms in let b = from_bool-le m in omega arith
 
 count_all : (n : ℕ) → count_marked (replicate n true) ≡ n
 unfolding count_marked
@@ -126,7 +123,7 @@ taken w w' p a l m less f was still = record {
     ]
 
     few : left w' ≤ count_marked w'.marks.items
-    few = omega (arith, a.few, less, ap count_marked m, count_set w.marks.items p false l, one_at_most (marked w.marks.items p))
+    few = omega (arith, a.few, less, ap count_marked m, count_set w.marks.items p false l, from_bool-le (marked w.marks.items p))
 
 -- the last of those that wait again
 pub last_within : (w : Waiting) (rest : List ℕ) (p : ℕ) → AreWaiting w → w.again.items ≡ rest ++ p ∷ [] → p < length w.marks.items

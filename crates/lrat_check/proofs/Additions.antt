@@ -11,10 +11,11 @@ use Rattle.lrat_check.specs.declared.line.Line.{Line}
 use Rattle.lrat_check.specs.Text.{Content, content_of}
 use Rattle.lrat_check.specs.Proofs.{added, additions}
 use Rattle.lrat_check.specs.Runs.{contents_of}
-use Rattle.lrat_check.proofs.Turns.{got, drop_got}
+use Rattle.cnf_gates.proofs.Text.{drop_from}
+use Rattle.common_lemmas.proofs.Lists.{get_of_or}
 
 pub content_at : (lines : List Line) (i : ℕ) (line : Line) → i < length lines → line ≡ get_or lines i line → slice_get (contents_of lines) i ≡ Some (content_of line)
-content_at lines i line b e = slice_get-map content_of lines i ∙ ap (option_map content_of) (got lines i line b e)
+content_at lines i line b e = slice_get-map content_of lines i ∙ ap (option_map content_of) (get_of_or lines i line b e)
 
 take_got : {X : Type 0} (xs : List X) (i : ℕ) (x : X) → slice_get xs i ≡ Some x → take (i + 1) xs ≡ take i xs ++ x ∷ []
 take_got xs i x e = take_more xs i x (slice_get_within xs i x e) ∙ ap (λ y. take i xs ++ y ∷ []) (get_or_from_slice_get xs i x x e)
@@ -31,7 +32,7 @@ module _ (lines : List Content) (i : ℕ) (line : Content) (at : slice_get lines
   before_none clauses e = ap (λ ys. clauses ++ ys) (additions_more ∙ ap (λ ys. additions (take i lines) ++ ys) e ∙ append-nil (additions (take i lines)))
 
   pub additions_left : additions (drop i lines) ≡ added line ++ additions (drop (i + 1) lines)
-  additions_left = ap additions (drop_got lines i line at)
+  additions_left = ap additions (drop_from lines i line at)
 
   pub additions_clause : (clause : List ℕ) → added line ≡ clause ∷ [] → additions (drop i lines) ≡ clause ∷ additions (drop (i + 1) lines)
   additions_clause clause e = additions_left ∙ ap (λ xs. xs ++ additions (drop (i + 1) lines)) e

@@ -22,10 +22,11 @@ use Rattle.lrat_check.specs.Faults.{IsFaultOf}
 use Rattle.lrat_check.specs.Proofs.{Tests, Then, Known, started, with_clause, without_all, after_line, Accepts, AllAccepted, added, additions, LinesVerdict}
 use Rattle.lrat_check.specs.ProofCosts.{line_cost, lines_cost}
 use Rattle.lrat_check.specs.Checked.{known_of}
-use Rattle.lrat_check.proofs.Turns.{drop_got, then_passed}
+use Rattle.lrat_check.proofs.Turns.{then_passed}
 use Rattle.lrat_check.proofs.Determined.{lines_one}
 use Rattle.lrat_check.proofs.Additions.{additions_more}
 use Rattle.lrat_check.proofs.Faulty.{deletes_or_dies}
+use Rattle.cnf_gates.proofs.Text.{drop_from}
 
 pub same_known : (a b : Known) → ((id : ℕ) → a.live id ≡ b.live id) → a.last ≡ b.last → a ≡ b
 same_known a b h e = let f : a.live ≡ b.live = fun_ext h in λ i. record { live = f i; last = e i }
@@ -78,7 +79,7 @@ pub record LinesRest {F : Type 0} (fault : ℕ → F) (known : Known) (n : ℕ) 
   pub leads : (o : Option F) → LinesVerdict fault known n lines o → whole o
 
 pub line_at : {F : Type 0} (fault : ℕ → F) (known : Known) (n : ℕ) (lines : List Content) (i : ℕ) (line : Content) (o : Option F) → slice_get lines i ≡ Some line → Then (Tests (Accepts known line) (fault n)) (LinesVerdict fault (after_line known line) (n + 1) (drop (i + 1) lines)) o → LinesVerdict fault known n (drop i lines) o
-line_at fault known n lines i line o e p = subst (λ ys. LinesVerdict fault known n ys o) (sym (drop_got lines i line e)) p
+line_at fault known n lines i line o e p = subst (λ ys. LinesVerdict fault known n ys o) (sym (drop_from lines i line e)) p
 
 pub line_step : {F : Type 0} (fault : ℕ → F) (known later : Known) (n : ℕ) (lines : List Content) (i : ℕ) (line : Content) (whole : Option F → Type 0) → slice_get lines i ≡ Some line → LinesRest fault known n (drop i lines) whole → Accepts known line → later ≡ after_line known line → LinesRest fault later (n + 1) (drop (i + 1) lines) whole
 line_step fault known later n lines i line whole e rest p q =
@@ -108,7 +109,7 @@ cost_at old (addition id literals hints) = refl
 cost_at old (deletion id ids) = refl
 
 pub cost_left : (known : Known) (lines : List Content) (i : ℕ) (line : Content) → slice_get lines i ≡ Some line → lines_cost known (drop i lines) ≡ line_cost known line + lines_cost (after_line known line) (drop (i + 1) lines)
-cost_left known lines i line e = ap (lines_cost known) (drop_got lines i line e)
+cost_left known lines i line e = ap (lines_cost known) (drop_from lines i line e)
 
 -- the cost of the line at a place, and of those after it
 pub cost_next : (old new : State) (lines : List Content) (i : ℕ) (line : Content) (now next bound : ℕ) → slice_get lines i ≡ Some line → Leads old line new → now + lines_cost (known_of old) (drop i lines) ≤ bound → next ≤ now + cost_of old line → next + lines_cost (known_of new) (drop (i + 1) lines) ≤ bound
@@ -125,7 +126,7 @@ cost_within old lines i line now next bound e h k =
     omega (arith, h, k, s, t)
 
 -- an empty clause is among those so far
-any_left : (xs ys : List (List ℕ)) → Any (λ c. c ≡ []) xs → Any (λ c. c ≡ []) (xs ++ ys)
+pub any_left : (xs ys : List (List ℕ)) → Any (λ c. c ≡ []) xs → Any (λ c. c ≡ []) (xs ++ ys)
 any_left xs ys h = let p : Contains (xs ++ ys) h.1 = Contains-append_left xs ys h.1 (h.0, h.2, h.3) in (p.0, h.1, p.1, p.2, h.4)
 
 any_push : (xs : List (List ℕ)) (c : List ℕ) → Any (λ c. c ≡ []) (xs ++ c ∷ []) → Any (λ c. c ≡ []) xs ⊎ (c ≡ [])

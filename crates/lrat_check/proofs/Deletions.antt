@@ -112,11 +112,3 @@ IsAfter-next live now later ids i id b e r h =
 
 pub IsAfter-none : (live : ℕ → Option (List ℕ)) → IsAfter live [] live
 IsAfter-none live q = (λ p. absurd (omega (arith, p.1)), λ p. refl)
-
-pub not_true : (b : Bool) → not b ≡ true → b ≡ false
-not_true true h = cc
-not_true false h = refl
-
-pub not_false : (b : Bool) → not b ≡ false → b ≡ true
-not_false true h = refl
-not_false false h = cc

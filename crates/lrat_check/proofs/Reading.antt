@@ -4,7 +4,7 @@ use Rattle.std.specs.Prelude.{All, is_some}
 use Rattle.std.specs.List.{slice_split, count_by, position_or_len}
 use Rattle.std.specs.Borrow.{Bor}
 use Rattle.std.proofs.Math.Dec.{eqb}
-use Rattle.std.proofs.lemmas.Bool.{false≢true}
+use Rattle.std.proofs.lemmas.Bool.{false≢true, not-true}
 use Rattle.std.proofs.lemmas.List.{map_push, append-nil, length-drop, take_all}
 use Rattle.std.proofs.lemmas.List.Elements.{All-head, All-tail, All-push}
 use Rattle.std.proofs.lemmas.List.Splits.{length-slice_split, slice_split_first, slice_split_none}
@@ -12,7 +12,6 @@ use Rattle.std.proofs.lemmas.List.Sums.{prefix_len_passes}
 use Rattle.lrat_check.specs.Text.{end_word}
 use Rattle.lrat_check.specs.Reading.{words_left}
 use Rattle.lrat_check.proofs.Texts.{All-middle, split_unique}
-use Rattle.clause_model.proofs.Sound.{flip as not_true}
 
 -- a word ends at the first blank, or where the bytes end
 pub split_at_blank : (bytes : List ℕ) (n : ℕ) → n ≡ position_or_len (λ b. eqb b 32) bytes → n < length bytes → slice_split (λ b. eqb b 32) bytes ≡ take n bytes ∷ slice_split (λ b. eqb b 32) (take (length bytes - (n + 1)) (drop (n + 1) bytes))
@@ -22,7 +21,7 @@ split_at_blank bytes n e b =
     at ∙ ap (λ (rest : List ℕ). take n bytes ∷ slice_split (λ c. eqb c 32) rest) (sym (take_all (length bytes - (n + 1)) (drop (n + 1) bytes) fits))
 
 pub split_no_blank : (bytes : List ℕ) (n : ℕ) → n ≡ position_or_len (λ b. eqb b 32) bytes → length bytes ≤ n → slice_split (λ b. eqb b 32) bytes ≡ bytes ∷ []
-split_no_blank bytes n e b = slice_split_none (λ c. eqb c 32) bytes (λ k d l. not_true (eqb (get_or bytes k d) 32) (prefix_len_passes (λ c. not (eqb c 32)) bytes k d (omega (arith, e, b, l))))
+split_no_blank bytes n e b = slice_split_none (λ c. eqb c 32) bytes (λ k d l. not-true (eqb (get_or bytes k d) 32) (prefix_len_passes (λ c. not (eqb c 32)) bytes k d (omega (arith, e, b, l))))
 
 -- what is left has a word, where something is left
 some_left : (bytes : List ℕ) → slice_split (λ b. eqb b 32) bytes ≡ [] → ⊥

@@ -17,6 +17,7 @@ use Rattle.clause_model.proofs.LiteralLaws.{code_of-number_of, number_of_differs
 use Rattle.lrat_check.specs.Numbers.{IsId, IsHint, AllWithin}
 use Rattle.lrat_check.specs.Text.{Content, addition, deletion, text_of, words_of, middle_of, id_of, spaced, literal_text, end_word, deletion_word, HasGoodParts, IsLine}
 use Rattle.lrat_check.proofs.Numerals.{same_number, id_fits, hint_fits, literal_fits}
+use Rattle.std.proofs.lemmas.Bool.{and_parts}
 
 -- ---- blanks
 
@@ -65,16 +66,12 @@ split-join x (y ∷ words) h =
 pub own : IsNumeralModel (λ ds. all_ascii_digits ds ≡ true) (digits_value 10)
 own = numerals_by_value (λ ds. all_ascii_digits ds ≡ true) tells_all_ascii_digits
 
-both : (a b : Bool) → (a && b) ≡ true → (a ≡ true) × (b ≡ true)
-both true b e = (refl, e)
-both false b e = absurd (true≢false (sym e))
-
 pub digit_no_blank : (d : ℕ) → is_ascii_digit d ≡ true → eqb d 32 ≡ false
 digit_no_blank d e = grind arith
 
 pub digits_no_blank : (ds : List ℕ) → all_ascii_digits ds ≡ true → HasNoBlank ds
 digits_no_blank [] e = All-nil (λ b. eqb b 32 ≡ false)
-digits_no_blank (d ∷ ds) e = let b = both (is_ascii_digit d) (all_ascii_digits ds) e in All-cons (λ b. eqb b 32 ≡ false) d ds (digit_no_blank d b.0) (digits_no_blank ds b.1)
+digits_no_blank (d ∷ ds) e = let b = and_parts (is_ascii_digit d) (all_ascii_digits ds) e in All-cons (λ b. eqb b 32 ≡ false) d ds (digit_no_blank d b.0) (digits_no_blank ds b.1)
 
 numeral_no_blank : (z : ℤ) → FitsSigned w64 z → HasNoBlank (signed_decimal z)
 numeral_no_blank (pos n) f = digits_no_blank (decimal n) (digits_decimal own n (omega (arith, f)))

@@ -4,26 +4,18 @@ use Rattle.std.proofs.Math.Seq.{drop-cons}
 use Rattle.std.proofs.lemmas.List.{drop_all}
 use Rattle.std.proofs.lemmas.Option.{slice_get-get_or, get_or_from_slice_get, slice_get_within}
 use Rattle.lrat_check.specs.Proofs.{Then, InTurn}
+use Rattle.cnf_gates.proofs.Text.{drop_from}
 
 -- the answer of the elements still to come is the whole's
 pub record Rest {X F : Type 0} (test : ℕ → X → Option F → Type 0) (m : ℕ) (xs : List X) (whole : Option F → Type 0) : Type 0 where
   pub leads : (o : Option F) → InTurn test m xs o → whole o
-
-pub got : {X : Type 0} (xs : List X) (i : ℕ) (x : X) → i < length xs → x ≡ get_or xs i x → slice_get xs i ≡ Some x
-got xs i x h e = slice_get-get_or xs i x h ∙ ap (λ y. Some y) (sym e)
-
-pub drop_got : {X : Type 0} (xs : List X) (i : ℕ) (x : X) → slice_get xs i ≡ Some x → drop i xs ≡ x ∷ drop (i + 1) xs
-drop_got xs i x e =
-    let w : i < length xs = slice_get_within xs i x e in
-    let g : get_or xs i x ≡ x = get_or_from_slice_get xs i x x e in
-    rw (add-one, drop-cons xs i x, g) refl
 
 pub then_passed : {F : Type 0} (a b : Option F → Type 0) (o : Option F) → a None → b o → Then a b o
 then_passed a b None p q = (p, q)
 then_passed a b (Some f) p q = inr (p, q)
 
 pub turn_at : {X F : Type 0} (test : ℕ → X → Option F → Type 0) (m : ℕ) (xs : List X) (i : ℕ) (x : X) (o : Option F) → slice_get xs i ≡ Some x → Then (test m x) (InTurn test (m + 1) (drop (i + 1) xs)) o → InTurn test m (drop i xs) o
-turn_at test m xs i x o e p = subst (λ ys. InTurn test m ys o) (sym (drop_got xs i x e)) p
+turn_at test m xs i x o e p = subst (λ ys. InTurn test m ys o) (sym (drop_from xs i x e)) p
 
 pub turn_step : {X F : Type 0} (test : ℕ → X → Option F → Type 0) (m : ℕ) (xs : List X) (i : ℕ) (x : X) (whole : Option F → Type 0) → slice_get xs i ≡ Some x → Rest test m (drop i xs) whole → test m x None → Rest test (m + 1) (drop (i + 1) xs) whole
 turn_step test m xs i x whole e rest p = record { leads = λ o later. rest.leads o (turn_at test m xs i x o e (then_passed (test m x) (InTurn test (m + 1) (drop (i + 1) xs)) o p later)) }

@@ -12,6 +12,7 @@ use Rattle.padded_code.specs.Padding.{nop, kept, ranked, IsPadded}
 use Rattle.padded_code.specs.Exchange.{marks_after, places_after, exchanged, put_at, AreKeptFrom, GivesWay}
 use Rattle.padded_code.proofs.Kept.{AreNops}
 use Rattle.padded_code.proofs.Padded.{code_alike, label_in}
+use Rattle.thumb_model.proofs.Shared.{op_within}
 
 -- ---- one element of a list ----
 
@@ -26,12 +27,6 @@ get_other (x ∷ xs) zero zero y h = absurd (h refl)
 get_other (x ∷ xs) zero (suc q) y h = refl
 get_other (x ∷ xs) (suc p) zero y h = refl
 get_other (x ∷ xs) (suc p) (suc q) y h = get_other xs p q y (λ e. h (ap suc e))
-
--- where an instruction stands
-op_within : (ps : List Place) (p : ℕ) → is_op_place (slice_get ps p) ≡ true → p < length ps
-op_within [] p h = absurd (cc)
-op_within (x ∷ ps) zero h = omega arith
-op_within (x ∷ ps) (suc p) h = let r = op_within ps p h in omega arith
 
 -- one stands where one stood, though another was put somewhere
 op_set : (ps : List Place) (p q : ℕ) (y : Place) → is_op_place (Some y) ≡ true → is_op_place (slice_get ps q) ≡ true → is_op_place (slice_get (set ps p y) q) ≡ true

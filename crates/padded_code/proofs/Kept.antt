@@ -93,21 +93,3 @@ returns_ranked (false ∷ gs) (x ∷ ps) to p q e n =
 returns_ranked (true ∷ gs) (x ∷ ps) to p q e n =
     returns_ranked gs ps to (p + 1) q (λ s. ap to (let f : p + 1 + s ≡ p + suc s = omega arith in f) ∙ e (suc s)) (λ k t. n (suc k) t)
     ∙ ap (λ y. map to (if is_call y then (p + 1) ∷ return_places (p + 1) ps else return_places (p + 1) ps)) (same_Some nop x (sym (n 0 refl)))
-
--- ---- code points ----
-
-pub one_of_map : (to : ℕ → ℕ) (q : ℕ) (xs : List ℕ) → one_of q xs ≡ true → one_of (to q) (map to xs) ≡ true
-one_of_map to q [] h = absurd (cc)
-one_of_map to q (x ∷ xs) h =
-    elim (q == x) as (λ b. (q == x) ≡ b → (b || one_of q xs) ≡ true → ((to q == to x) || one_of (to q) (map to xs)) ≡ true) [
-      | true ↦ λ t g. ap (λ b. b || one_of (to q) (map to xs)) (eq-eqb (to q) (to x) (ap to (eqb-true q x t)))
-      | false ↦ λ t g. or_right (to q == to x) _ (one_of_map to q xs g)
-    ] refl h
-
-pub one_of_unmap : (to : ℕ → ℕ) (r : ℕ) (xs : List ℕ) → one_of r (map to xs) ≡ true → (q : ℕ) × (one_of q xs ≡ true) × (to q ≡ r)
-one_of_unmap to r [] h = absurd (cc)
-one_of_unmap to r (x ∷ xs) h =
-    elim (r == to x) as (λ b. (r == to x) ≡ b → (b || one_of r (map to xs)) ≡ true → (q : ℕ) × (one_of q (x ∷ xs) ≡ true) × (to q ≡ r)) [
-      | true ↦ λ t g. (x, ap (λ b. b || one_of x xs) (eq-eqb x x refl), sym (eqb-true r (to x) t))
-      | false ↦ λ t g. (let f = one_of_unmap to r xs g in (f.0, or_right (f.0 == x) _ f.1, f.2))
-    ] refl h

@@ -19,7 +19,7 @@ use Rattle.padded_code.proofs.Exchanged.{stays_padded}
 
 -- ---- windows ----
 
-plain_op : (is : List Instr) (j : ℕ) → j < length is → is_op_place (slice_get (map plain is) j) ≡ true
+pub plain_op : (is : List Instr) (j : ℕ) → j < length is → is_op_place (slice_get (map plain is) j) ≡ true
 plain_op [] j h = absurd (omega arith)
 plain_op (i ∷ is) zero h = refl
 plain_op (i ∷ is) (suc j) h = plain_op is j (omega arith)

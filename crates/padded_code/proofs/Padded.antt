@@ -16,7 +16,8 @@ use Rattle.thumb_model.specs.Flow.{Way, way, Leads, Onward, ToPlace, AnyPoint, O
 use Rattle.kept_places.specs.Marks.{is_gone, rank}
 use Rattle.padded_code.specs.Padding.{nop, ranked, IsPadded}
 use Rattle.kept_places.proofs.Ranks.{rank_gone, rank_kept}
-use Rattle.padded_code.proofs.Kept.{kept_at, at_rank, place_ranked, label_places_ranked, returns_ranked, one_of_map, one_of_unmap}
+use Rattle.padded_code.proofs.Kept.{kept_at, at_rank, place_ranked, label_places_ranked, returns_ranked}
+use Rattle.thumb_model.proofs.Shared.{within, one_of_map, one_of_unmap}
 
 -- ---- ways whose places move ----
 
@@ -59,14 +60,6 @@ way_forth to ws k w e = slice_get-map (way_to to) ws k ∙ ap (option_map (way_t
 pub nop_way : (code : Code) (k : ℕ) (w : Way) → slice_get (ways_on code (Some nop)) k ≡ Some w → way [] [] Onward ≡ w
 nop_way code zero w e = same_Some (way [] [] Onward) w e
 nop_way code (suc k) w e = absurd (cc)
-
--- a place that has a way is one
-within : (code : Code) (p k : ℕ) (w : Way) → slice_get (ways code p) k ≡ Some w → p < length code.places
-within code p k w e =
-    elim (cases_lt p (length code.places)) [
-      | inl l ↦ l
-      | inr l ↦ absurd (let f : slice_get (ways_on code None) k ≡ Some w = ap (λ (o : Option Place). slice_get (ways_on code o) k) (sym (slice_get_past code.places p l)) ∙ e in cc)
-    ]
 
 module _ (gone : List Bool) (padded code : Code) (s : IsPadded gone padded code) where
   abbrev to : ℕ → ℕ

@@ -187,7 +187,7 @@ stands gone places from r (p ∷ ps) (i ∷ is) m n e a =
     stands_one gone places from r p i ps is m n e a
     (stands gone (set places p (plain i)) (suc p) (suc r) ps is (m ∙ sym (length-set places p (plain i))) (still_nops gone places p (plain i) a.1 n) (rank_kept gone p a.1 ∙ ap suc a.2) a.3)
 
-length_after : (ps : List ℕ) (is : List Instr) (places : List Place) → length (places_after ps is places) ≡ length places
+pub length_after : (ps : List ℕ) (is : List Instr) (places : List Place) → length (places_after ps is places) ≡ length places
 length_after [] is places = refl
 length_after (p ∷ ps) [] places = length_after ps [] (set places p nop) ∙ length-set places p nop
 length_after (p ∷ ps) (i ∷ is) places = length_after ps is (set places p (plain i)) ∙ length-set places p (plain i)

@@ -29,7 +29,7 @@ alone_sound rules h entry instance rule at = h entry rule (alone_is rules entry 
 
 -- ---- no scratch register ----
 
-above_most : (k : ℕ) (xs : List ℕ) → AreBelow k xs → above xs ≤ k
+pub above_most : (k : ℕ) (xs : List ℕ) → AreBelow k xs → above xs ≤ k
 above_most k [] h = omega arith
 above_most k (x ∷ xs) h = let rest = above_most k xs h.1 in let here = h.0 in omega arith
 

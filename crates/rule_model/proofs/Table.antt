@@ -49,7 +49,7 @@ last_of (i ∷ j ∷ is) l s =
     (r.0, ap (slice_get (map plain (i ∷ j ∷ is))) (let e : length (i ∷ j ∷ is) - 1 ≡ suc (length (j ∷ is) - 1) = omega arith in e) ∙ r.1, r.2)
 
 -- a row: what may stand in a window is no call
-no_call : (i : Instr) → is_in_window i ≡ true → is_call_instr i ≡ false
+pub no_call : (i : Instr) → is_in_window i ≡ true → is_call_instr i ≡ false
 no_call (instr.Blx m) h = absurd (cc)
 no_call (instr.Call d) h = absurd (cc)
 no_call i h = refl

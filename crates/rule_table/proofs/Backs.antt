@@ -14,6 +14,7 @@ use Rattle.rule_table.specs.Canonical.{has, with_first, firsts, name_in, numbers
 use Rattle.rule_table.proofs.Orders.{name_stands, has_firsts}
 use Rattle.rule_table.proofs.Renamings.{AllNamed, ComesBack, renamed_back}
 use Rattle.seq_enum.proofs.CostReading.{itself as eqb_same}
+use Rattle.thumb_model.proofs.Small.{below_append}
 
 abbrev pub eight : List ℕ
 eight = 0 ∷ 1 ∷ 2 ∷ 3 ∷ 4 ∷ 5 ∷ 6 ∷ 7 ∷ []
@@ -114,10 +115,6 @@ names_below registers names are (x ∷ xs) h k =
     let is : item_under names x ≡ b.name.number = ap (λ o. number_or o x) b.named_so in
     (subst (λ (n : ℕ). n < length registers) (sym is) b.low, names_below registers names are xs h.1 k.1)
 
-below_both : (k : ℕ) (xs ys : List ℕ) → AreBelow k xs → AreBelow k ys → AreBelow k (xs ++ ys)
-below_both k [] ys g h = h
-below_both k (x ∷ xs) ys g h = (g.0, below_both k xs ys g.1 h)
-
 pub all_below : (registers names : List Low) → AreNames registers names → (is : List Instr) → list_all is_in_window is ≡ true → AllIn (numbers_of registers) (flat_map named is)
     → AreBelow (length registers) (flat_map named (map (renamed names) is))
 all_below registers names are [] w k = tt
@@ -125,7 +122,7 @@ all_below registers names are (i ∷ is) w k =
     let both = and_parts (is_in_window i) (list_all is_in_window is) w in
     let split = all_split (numbers_of registers) (named i) (flat_map named is) k in
     let first : AreBelow (length registers) (map (item_under names) (named i)) = names_below registers names are (named i) (named_low i both.0) split.0 in
-    below_both (length registers) (named (renamed names i)) (flat_map named (map (renamed names) is))
+    below_append (length registers) (named (renamed names i)) (flat_map named (map (renamed names) is))
     (subst (AreBelow (length registers)) (sym (named_renamed names i both.0)) first)
     (all_below registers names are is both.1 split.1)
 

@@ -101,9 +101,6 @@ line_inside End is = refl
 
 -- ---- tails
 
-numbers : (m n : ℕ) → m < 2 ^ 64 → n < 2 ^ 64 → decimal m ≡ decimal n → m ≡ n
-numbers = decimal_injective
-
 -- a decimal number isn't an instruction
 no_instr : (n : ℕ) (i : _) → n < 2 ^ 64 → IsInstr i → decimal n ≡ instr_text i → ⊥
 no_instr n i small is e =
@@ -131,7 +128,7 @@ families a b c d e f g h is also same =
 tails_tell : (i j : Item) → IsItem i → IsItem j → word_of i ≡ word_of j → tail_of i ≡ tail_of j → i ≡ j
 tails_tell (Number f m) (Number g n) a b w e =
     let same : f ≡ g = cc in
-    ap (λ h. Number h m) same ∙ ap (Number g) (numbers m n (within_small f m a) (within_small g n b) e)
+    ap (λ h. Number h m) same ∙ ap (Number g) (decimal_injective m n (within_small f m a) (within_small g n b) e)
 tails_tell (Number f m) (Left i) a b w e = absurd (no_instr m i (within_small f m a) b e)
 tails_tell (Pool ms) (Pool ns) a b w e = ap Pool (pools_tell ms ns a b e)
 tails_tell (Costs ms) (Costs ns) a b w e = ap Costs (costs_tell ms ns a b e)
@@ -143,7 +140,7 @@ tails_tell (Right i) (Right j) a b w e = ap Right (instr_tells i j a b e)
 tails_tell (Mask m) (Mask n) a b w e = ap Mask (mask_tells m n a b e)
 tails_tell Proof Proof a b w e = refl
 tails_tell (Logged c) (Logged d) a b w e = ap Logged (text_of-injective c d a b e)
-tails_tell (Open m) (Open n) a b w e = ap Open (numbers m n a b e)
+tails_tell (Open m) (Open n) a b w e = ap Open (decimal_injective m n a b e)
 tails_tell (Family k l m n) (Family o p q r) a b w e = families k l m n o p q r a b e
 tails_tell End End a b w e = refl
 tails_tell i j a b w e = absurd cc

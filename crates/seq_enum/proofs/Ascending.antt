@@ -6,8 +6,10 @@ use Rattle.std.proofs.lemmas.Bool.Decides.{eqb_tells, leb_tells}
 use Rattle.std.proofs.lemmas.Option.{slice_get_past, same_Some}
 use Rattle.seq_enum.specs.Alphabet.{numbers_from, ascends_from, IsPlace}
 use Rattle.seq_enum.specs.Places.{place_of}
-use Rattle.seq_enum.proofs.Numbered.{length-numbers, numbers_at, number_here, number_past, get_front, get_back}
+use Rattle.seq_enum.proofs.Numbered.{numbers_at, number_here, number_past, get_back}
 pub use Rattle.ascii_scan.proofs.NumeralLemmas.{both}
+use Rattle.common_lemmas.proofs.Lists.{get_front}
+use Rattle.seq_enum.proofs.CostLines.{length-from}
 
 -- the first k numbers, and the same without one
 abbrev pub firsts : ℕ → List ℕ
@@ -72,7 +74,7 @@ others_is k d h =
 
 pub length-others : (k d : ℕ) → d < k → length (firsts_but k d) ≡ k - 1
 length-others k d h = ap length (others_is k d h)
-    ∙ omega (arith, length-append (numbers_from 0 d) (numbers_from (suc d) (k - suc d)), length-numbers 0 d, length-numbers (suc d) (k - suc d))
+    ∙ omega (arith, length-append (numbers_from 0 d) (numbers_from (suc d) (k - suc d)), length-from 0 d, length-from (suc d) (k - suc d))
 
 pub first_others : (k : ℕ) → length (firsts_but k 0) ≡ k - 1
 unfolding numbers_from
@@ -82,11 +84,11 @@ first_others (suc k) = length-others (suc k) 0 (omega arith)
 pub others_below : (k d i : ℕ) → d < k → i < d → slice_get (firsts_but k d) i ≡ Some i
 others_below k d i h low =
     ap (λ ns. slice_get ns i) (others_is k d h)
-    ∙ get_front (numbers_from 0 d) _ i (omega (arith, length-numbers 0 d)) ∙ numbers_at 0 d i low ∙ ap Some (omega arith)
+    ∙ get_front (numbers_from 0 d) _ i (omega (arith, length-from 0 d)) ∙ numbers_at 0 d i low ∙ ap Some (omega arith)
 
 pub others_above : (k d i : ℕ) → d < k → d ≤ i → i + 1 < k → slice_get (firsts_but k d) i ≡ Some (i + 1)
 others_above k d i h low high =
-    let size : length (numbers_from 0 d) ≡ d = length-numbers 0 d in
+    let size : length (numbers_from 0 d) ≡ d = length-from 0 d in
     let past : length (numbers_from 0 d) ≤ i = omega arith in
     let back : i - length (numbers_from 0 d) < k - suc d = omega arith in
     let is : suc d + (i - length (numbers_from 0 d)) ≡ i + 1 = omega arith in

@@ -15,12 +15,10 @@ use Rattle.seq_enum.specs.declared.cost_text.Said.{Said}
 use Rattle.seq_enum.specs.Alphabet.{numbers_from}
 use Rattle.seq_enum.specs.Costs.{mnemonics, line_of, IsSaid}
 use Rattle.seq_enum.proofs.EndedLines.{IsInside}
+use Rattle.common_lemmas.proofs.Lists.{same_bytes as bytes_same}
 
 same_bytes : (xs ys : List ℕ) → xs ≡ ys → bytes_eq xs ys ≡ true
 same_bytes xs ys e = (bytes_eq-Decides xs ys).1 e
-
-bytes_same : (xs ys : List ℕ) → bytes_eq xs ys ≡ true → xs ≡ ys
-bytes_same xs ys e = (bytes_eq-Decides xs ys).0 e
 
 -- no blank stands in it
 pub tested : List ℕ → Bool

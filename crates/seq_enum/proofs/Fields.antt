@@ -5,8 +5,9 @@ use Rattle.std.proofs.lemmas.Option.{slice_get-map, slice_get_within, same_Some}
 use Rattle.std.proofs.lemmas.List.{length-map}
 use Rattle.thumb_instr.specs.declared.within.Within.{Within}
 use Rattle.seq_enum.specs.Alphabet.{numbers_from, if_within, those_within, inside, registers, others}
-use Rattle.seq_enum.proofs.Numbered.{length-numbers, numbers_at}
+use Rattle.seq_enum.proofs.Numbered.{numbers_at}
 use Rattle.seq_enum.proofs.Ascending.{firsts, firsts_but}
+use Rattle.seq_enum.proofs.CostLines.{length-from}
 
 module _ {a b : ℕ} where
   abbrev pub numbers : List (Within a b) → List ℕ
@@ -62,5 +63,5 @@ other_numbers k d h = numbers_but (λ n. not (n == d.number)) (registers k) ∙ 
 pub register_low : (k j : ℕ) (d : Within 0 8) → k ≤ 8 → slice_get (registers k) j ≡ Some d → d.number < k
 register_low k j d few e =
     let at : slice_get (firsts k) j ≡ Some d.number = number_by (registers k) (firsts k) (register_numbers k few) j d e in
-    let within : j < k = omega (arith, slice_get_within (firsts k) j d.number at, length-numbers 0 k) in
+    let within : j < k = omega (arith, slice_get_within (firsts k) j d.number at, length-from 0 k) in
     omega (arith, same_Some (0 + j) d.number (sym (numbers_at 0 k j within) ∙ at))

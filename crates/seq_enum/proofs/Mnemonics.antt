@@ -22,10 +22,11 @@ use Rattle.thumb_instr.specs.Roles.{roles}
 use Rattle.thumb_instr.proofs.PartLemmas.{same_parts, gives_back}
 use Rattle.seq_enum.specs.Alphabet.{numbers_from, those_within, IsPlace, grid2, grid3, rows, registers, members, alphabet}
 use Rattle.seq_enum.specs.Places.{rank, digits3, paired, values, seconds, second_count, parts_in}
-use Rattle.seq_enum.proofs.Numbered.{numbers_at, length-numbers, IsPlace-lists, IsPlace-unmap, flat_map_at}
+use Rattle.seq_enum.proofs.Numbered.{numbers_at, IsPlace-lists, IsPlace-unmap, flat_map_at}
 use Rattle.seq_enum.proofs.Ascending.{length-others, first_others}
 use Rattle.seq_enum.proofs.Fields.{numbers, within_numbers, within_length, register_numbers, other_numbers}
 use Rattle.seq_enum.proofs.Grids.{length-grid3, grid3_some, grid3_from, grid3_at, map-grid2, map-grid3, grid3-single, IsPlace-grid3}
+use Rattle.seq_enum.proofs.CostLines.{length-from}
 
 -- ---- the instructions of a mnemonic are those of its parts
 
@@ -74,7 +75,7 @@ seconds_are k pool t d other = refl
 
 each_second : (k : ℕ) (pool : List ℕ) (t : Kind) (j d : ℕ) → slice_get (values k pool (roles t).first) j ≡ Some d → length (seconds k pool t d) ≡ second_count k pool t
 each_second k pool (kind.ThreeNumber s) j d e =
-    let within : j < k = omega (arith, slice_get_within (numbers_from 0 k) j d e, length-numbers 0 k) in
+    let within : j < k = omega (arith, slice_get_within (numbers_from 0 k) j d e, length-from 0 k) in
     let low : d < k = omega (arith, within, same_Some (0 + j) d (sym (numbers_at 0 k j within) ∙ e)) in
     length-others k d low ∙ sym (length-others k 0 (omega (arith, low)))
 each_second k pool t j d e = refl
@@ -136,7 +137,7 @@ ranks : map rank rows ≡ map (λ i. Some i) (numbers_from 0 37)
 unfolding rows numbers_from
 ranks = refl
 
-length-rows : length rows ≡ 37
+pub length-rows : length rows ≡ 37
 unfolding rows
 length-rows = refl
 
@@ -222,7 +223,7 @@ pub size_formula : (k : ℕ) (pool : List ℕ) → k ≤ 8 → length (alphabet 
     ≡ 2 * (k * k * k) + 2 * (k * ((k - 1) * length (those_within 0 8 pool))) + 4 * (k * length (those_within 0 256 pool))
     + (k * (k * length (those_within 1 32 pool)) + 2 * (k * (k * length (those_within 1 33 pool)))) + 26 * (k * k)
 unfolding alphabet rows
-size_formula k pool few = length-total k pool rows few all_some ∙ simp (length-numbers, first_others, within_length) (omega arith)
+size_formula k pool few = length-total k pool rows few all_some ∙ simp (length-from, first_others, within_length) (omega arith)
 
 -- at most as many instructions as four registers and sixteen numbers give
 pub size_bound : (k a b c d : ℕ) → k ≤ 4 → a ≤ 16 → b ≤ 16 → c ≤ 16 → d ≤ 16

@@ -7,15 +7,12 @@ use Rattle.std.proofs.Math.Seq.{drop-cons}
 use Rattle.std.proofs.lemmas.Nat.{div-add-mod', mod_below}
 use Rattle.std.proofs.lemmas.Option.{slice_get-map, slice_get_within, slice_get_past, option_and_then_some, same_Some}
 use Rattle.seq_enum.specs.Alphabet.{numbers_from, IsPlace}
+use Rattle.common_lemmas.proofs.Lists.{get_front}
+use Rattle.seq_enum.proofs.CostLines.{length-from}
 
 pub zero_or_more : (n : ℕ) → (n ≡ 0) ⊎ (0 < n)
 zero_or_more zero = inl refl
 zero_or_more (suc n) = inr (omega arith)
-
-pub length-numbers : (first count : ℕ) → length (numbers_from first count) ≡ count
-unfolding numbers_from
-length-numbers first zero = refl
-length-numbers first (suc count) = ap suc (length-numbers (suc first) count)
 
 -- the number at a place
 pub numbers_at : (first count i : ℕ) → i < count → slice_get (numbers_from first count) i ≡ Some (first + i)
@@ -29,7 +26,7 @@ numbers_at first (suc count) (suc i) h =
 
 pub numbers_past : (first count i : ℕ) → count ≤ i → slice_get (numbers_from first count) i ≡ None
 numbers_past first count i h =
-    slice_get_past (numbers_from first count) i (omega (arith, length-numbers first count))
+    slice_get_past (numbers_from first count) i (omega (arith, length-from first count))
 
 -- the numbers below `count` by place
 pub number_here : (count i n : ℕ) → i < count → n ≡ i → slice_get (numbers_from 0 count) i ≡ Some n
@@ -38,13 +35,7 @@ number_here count i n h e = numbers_at 0 count i h ∙ ap Some (omega (arith, e)
 pub number_past : (count i : ℕ) → count ≤ i → slice_get (numbers_from 0 count) i ≡ None
 number_past count i h = numbers_past 0 count i h
 
-pub ruleset numbers_by_place = (number_here, number_past, length-numbers)
-
--- the first list, then the second
-pub get_front : {A : Type 0} (xs ys : List A) (i : ℕ) → i < length xs → slice_get (xs ++ ys) i ≡ slice_get xs i
-get_front [] ys i h = absurd (omega arith)
-get_front (x ∷ xs) ys zero h = refl
-get_front (x ∷ xs) ys (suc i) h = get_front xs ys i (omega arith)
+pub ruleset numbers_by_place = (number_here, number_past, length-from)
 
 pub get_back : {A : Type 0} (xs ys : List A) (i : ℕ) → length xs ≤ i → slice_get (xs ++ ys) i ≡ slice_get ys (i - length xs)
 get_back [] ys i h = ap (slice_get ys) (omega arith)

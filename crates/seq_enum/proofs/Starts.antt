@@ -7,7 +7,9 @@ use Rattle.std.specs.List.{flat_map}
 use Rattle.seq_enum.specs.Alphabet.{rows, members, alphabet}
 use Rattle.seq_enum.specs.Numberings.{AreStarts}
 use Rattle.thumb_instr.specs.declared.kind.Kind.{Kind}
-use Rattle.seq_enum.proofs.Numbered.{get_front, get_back}
+use Rattle.seq_enum.proofs.Numbered.{get_back}
+use Rattle.common_lemmas.proofs.Lists.{get_front, take_whole}
+use Rattle.seq_enum.proofs.Mnemonics.{length-rows}
 
 -- a front has no more than all
 pub front_fewer : {X A : Type 0} (f : X → List A) (n : ℕ) (xs : List X) → length (flat_map f (take n xs)) ≤ length (flat_map f xs)
@@ -19,10 +21,6 @@ take_front : {X : Type 0} (i : ℕ) (xs ys : List X) → i ≤ length xs → tak
 take_front zero xs ys h = refl
 take_front (suc i) [] ys h = absurd (omega arith)
 take_front (suc i) (x ∷ xs) ys h = ap (λ zs. x ∷ zs) (take_front i xs ys (omega arith))
-
-take_whole : {X : Type 0} (xs : List X) → take (length xs) xs ≡ xs
-take_whole [] = refl
-take_whole (x ∷ xs) = ap (λ zs. x ∷ zs) (take_whole xs)
 
 before_or_last : (i n : ℕ) → i < suc n → (i < n) ⊎ (i ≡ n)
 before_or_last i zero h = inr (omega arith)
@@ -64,17 +62,13 @@ starts_next k pool rows row i starts next total count h s e n f =
       )),
     )
 
-pub rows_many : length rows ≡ 37
-unfolding rows
-rows_many = refl
-
 pub starts_fewer : (k : ℕ) (pool : List ℕ) (n : ℕ) → length (flat_map (members k pool) (take n rows)) ≤ length (alphabet k pool)
 unfolding alphabet
 starts_fewer k pool n = front_fewer (members k pool) n rows
 
 pub starts_at : (k : ℕ) (pool starts xs : List ℕ) (r i : ℕ) → AreStarts k pool rows starts → xs ≡ starts → r ≡ i → r < 37 → get_or xs r 0 ≡ length (flat_map (members k pool) (take i rows))
 starts_at k pool starts xs r i s e f h =
-    let low : r < length rows = omega (arith, h, rows_many) in
+    let low : r < length rows = omega (arith, h, length-rows) in
     let within : r < length starts = omega (arith, low, s.as_many) in
     ap (λ ys. get_or ys r 0) e
     ∙ same_Some _ _ (sym (slice_get-get_or starts r 0 within) ∙ s.each r low)

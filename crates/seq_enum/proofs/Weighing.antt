@@ -67,7 +67,7 @@ get_small [] m all = omega arith
 get_small (x ∷ xs) zero all = (All-head (λ n. (1 ≤ n) × (n ≤ 64)) x xs all).1
 get_small (x ∷ xs) (suc m) all = get_small xs m (All-tail (λ n. (1 ≤ n) × (n ≤ 64)) x xs all)
 
-All-from_slice_get : {X : Type 0} (P : X → Type 0) (xs : List X) → ((i : ℕ) (x : X) → slice_get xs i ≡ Some x → P x) → All P xs
+pub All-from_slice_get : {X : Type 0} (P : X → Type 0) (xs : List X) → ((i : ℕ) (x : X) → slice_get xs i ≡ Some x → P x) → All P xs
 All-from_slice_get P [] each = All-nil P
 All-from_slice_get P (x ∷ xs) each = All-cons P x xs (each 0 x refl) (All-from_slice_get P xs (λ i. each (suc i)))
 

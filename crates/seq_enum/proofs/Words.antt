@@ -12,7 +12,9 @@ use Rattle.std.proofs.lemmas.Bool.Decides.{leb_tells}
 use Rattle.thumb_instr.specs.declared.instr.Instr.{Instr}
 use Rattle.seq_enum.specs.Alphabet.{IsPlace, numbers_from, words, sequences, sequences_of, alphabet}
 use Rattle.seq_enum.specs.Places.{sum_below}
-use Rattle.seq_enum.proofs.Numbered.{length-flat_map-even, get-flat_map-digits, IsPlace-flat_map, IsPlace-map, IsPlace-lists, flat_map_at, get_front, get_back, numbers_at, length-numbers, piece_here, piece_later}
+use Rattle.seq_enum.proofs.Numbered.{length-flat_map-even, get-flat_map-digits, IsPlace-flat_map, IsPlace-map, IsPlace-lists, flat_map_at, get_back, numbers_at, piece_here, piece_later}
+use Rattle.common_lemmas.proofs.Lists.{get_front}
+use Rattle.seq_enum.proofs.CostLines.{length-from}
 
 pub length-words : (letters : List Instr) (n : ℕ) → length (words letters n) ≡ length letters ^ n
 unfolding words
@@ -120,7 +122,7 @@ pub word_here : (letters : List Instr) (n left : ℕ) → n < 6 → left < lengt
     → slice_get (flat_map (words letters) (drop n (numbers_from 0 6))) left ≡ slice_get (words letters n) left
 word_here letters n left h low =
     let at : get_or (numbers_from 0 6) n 0 ≡ n = number_here n h in
-    let within : n < length (numbers_from 0 6) = omega (arith, length-numbers 0 6) in
+    let within : n < length (numbers_from 0 6) = omega (arith, length-from 0 6) in
     let fits : left < length (words letters (get_or (numbers_from 0 6) n 0)) = rw at (rw length-words low) in
     piece_here (words letters) (numbers_from 0 6) n left 0 within fits ∙ ap (λ m. slice_get (words letters m) left) at
 
@@ -129,7 +131,7 @@ pub word_later : (letters : List Instr) (n left : ℕ) → n < 6 → length lett
     ≡ slice_get (flat_map (words letters) (drop (n + 1) (numbers_from 0 6))) (left - length letters ^ n)
 word_later letters n left h past =
     let at : get_or (numbers_from 0 6) n 0 ≡ n = number_here n h in
-    let within : n < length (numbers_from 0 6) = omega (arith, length-numbers 0 6) in
+    let within : n < length (numbers_from 0 6) = omega (arith, length-from 0 6) in
     let size : length (words letters (get_or (numbers_from 0 6) n 0)) ≡ length letters ^ n = rw at (length-words letters n) in
     piece_later (words letters) (numbers_from 0 6) n left 0 within (omega arith)
     ∙ ap (λ m. slice_get (flat_map (words letters) (drop (n + 1) (numbers_from 0 6))) (left - m)) size
@@ -217,7 +219,7 @@ pub shorter_is : (letters : List Instr) (n : ℕ) → n ≤ 6 → length (flat_m
 unfolding sum_below
 shorter_is letters zero h = refl
 shorter_is letters (suc n) h =
-    let within : n < length (numbers_from 0 6) = omega (arith, length-numbers 0 6) in
+    let within : n < length (numbers_from 0 6) = omega (arith, length-from 0 6) in
     let at : get_or (numbers_from 0 6) n 0 ≡ n = number_here n (omega arith) in
     ap (λ ns. length (flat_map (words letters) ns)) (take-suc (numbers_from 0 6) n 0 within ∙ ap (λ m. take n (numbers_from 0 6) ++ m ∷ []) at)
     ∙ ap length (flat_map-append (words letters) (take n (numbers_from 0 6)) (n ∷ []))
@@ -238,7 +240,7 @@ IsPlace-sequences k pool w h q in_words =
     let at : IsPlace (Some n) (numbers_from 0 6) n = record {
       stands = λ i e. rw (← same_Some n i e) (numbers_at 0 6 n (omega arith) ∙ ap Some (omega arith));
       found = λ i e.
-          let low : i < 6 = omega (arith, slice_get_within (numbers_from 0 6) i n e, length-numbers 0 6) in
+          let low : i < 6 = omega (arith, slice_get_within (numbers_from 0 6) i n e, length-from 0 6) in
           sym e ∙ numbers_at 0 6 i low ∙ ap Some (omega arith);
     } in
     rw (← shorter_is letters n (omega arith))

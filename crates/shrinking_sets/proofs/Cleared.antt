@@ -24,7 +24,7 @@ passing true false e f = refl
 passing true true e f = absurd (cc)
 passing false b e f = absurd (cc)
 
-passes : (a b : Bool) → (a && not b) ≡ true → (a ≡ true) × (b ≡ false)
+pub passes : (a b : Bool) → (a && not b) ≡ true → (a ≡ true) × (b ≡ false)
 passes true false e = (refl, refl)
 passes true true e = absurd (cc)
 passes false b e = absurd (cc)

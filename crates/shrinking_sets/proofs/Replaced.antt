@@ -6,8 +6,9 @@ use Rattle.std.specs.List.{list_all}
 use Rattle.thumb_instr.specs.declared.instr.Instr.{Instr}
 use Rattle.thumb_model.specs.Listing.{Place, plain, Label, Code}
 use Rattle.thumb_model.specs.Replaced.{moved, move_label, replaced}
-use Rattle.thumb_model.proofs.Lists.{get_drop, get_take, get_front, get_back, length_map, take_all, take_short, length_drop}
+use Rattle.thumb_model.proofs.Lists.{get_drop, get_take, get_back, length_map, take_all, take_short, length_drop}
 use Rattle.shrinking_sets.specs.Straight.{is_straight, IsApart, IsExchange}
+use Rattle.common_lemmas.proofs.Lists.{get_front}
 
 get_map : (is : List Instr) (k : ℕ) (i : Instr) → slice_get is k ≡ Some i → slice_get (map plain is) k ≡ Some (plain i)
 get_map [] k i e = absurd (cc)

@@ -16,6 +16,7 @@ use Rattle.steady_layout.proofs.Nearer.{IsWithin, IsTold, AreTold, address_of, a
 use Rattle.steady_layout.proofs.Padding.{some_bytes, size_most, ends_told}
 use Rattle.steady_layout.proofs.Walks.{after, look, ending, steady_by, AreLess, IsLater, ahead_earlier, Tails, no_tails, ahead, backs_later, Known, IsWalked, walk, ending_append, steady_append}
 use Rattle.steady_layout.proofs.Cuts.{most, IsNoLonger, ending_is, look_bare, look_unnamed, steady_bare, ArePlain, AreTwos, IsCut}
+use Rattle.thumb_model.proofs.Shared.{two_bytes}
 
 -- ---- the definitions' layout is that of the greatest sizes ----
 
@@ -151,11 +152,6 @@ cut_stays base ls news c h =
 abbrev AreIn : List Instr → Type 0
 AreIn [] = Unit {0}
 AreIn (i ∷ is) = (is_in_window i ≡ true) × AreIn is
-
--- what may stand in a window has two bytes: a row
-two_bytes : (i : Instr) → is_in_window i ≡ true → instr_size i ≡ 2
-two_bytes (instr.Mov d m) h = refl
-two_bytes i h = cc
 
 pub twos_of : (is : List Instr) → AreIn is → AreTwos is
 twos_of [] h = tt

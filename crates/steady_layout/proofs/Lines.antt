@@ -9,10 +9,10 @@ use Rattle.listing_parser.specs.declared.line.ListingLine.{ListingLine as Lines}
 use Rattle.listing_parser.specs.TableWords.{label_line}
 use Rattle.listing_parser.specs.Views.{line_view, statement_view}
 use Rattle.listing_parser.proofs.LabelLemmas.{labelled}
-use Rattle.label_layout.proofs.Sums.{next_line}
 use Rattle.steady_layout.specs.declared.starts.Start.{Start}
 use Rattle.steady_layout.specs.Steady.{behind, label_start, steady_aim, steady_at, all_steady}
 use Rattle.steady_layout.specs.Starts.{starts_from}
+use Rattle.listing_parser.proofs.Shared.{next_line}
 
 pub as_many : (here : Start) (ls : List ListingLine) → length (starts_from here ls) ≡ length ls
 as_many here [] = refl

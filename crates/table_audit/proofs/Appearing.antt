@@ -4,7 +4,7 @@ use Rattle.std.specs.List.{flat_map, list_all}
 use Rattle.std.proofs.lemmas.Option.{same_Some, slice_get_within}
 use Rattle.std.proofs.lemmas.Bool.{eq-eqb, eqb-true, cases_Bool, and_parts}
 use Rattle.seq_enum.specs.Alphabet.{numbers_from}
-use Rattle.seq_enum.proofs.Numbered.{numbers_at, length-numbers, get_front, get_back}
+use Rattle.seq_enum.proofs.Numbered.{numbers_at, get_back}
 use Rattle.thumb_instr.specs.Window.{Low, named, is_in_window}
 use Rattle.thumb_instr.specs.declared.instr.Instr.{Instr}
 use Rattle.thumb_instr.specs.declared.instr.Instr.TheVariants as instr
@@ -12,7 +12,9 @@ use Rattle.rule_table.specs.Canonical.{firsts, has, with_first, numbers_of, appe
 use Rattle.rule_table.proofs.Orders.{low-step, instr-step, firsts-grows}
 use Rattle.table_audit.specs.Shorter.{named_count}
 use Rattle.table_audit.specs.Orders.{IsAstray, IsInOrder}
-use Rattle.fingerprints.proofs.PrintCandidates.{numbers_split}
+use Rattle.common_lemmas.proofs.Lists.{get_front}
+use Rattle.seq_enum.proofs.CostLines.{length-from}
+use Rattle.seq_enum.proofs.Weighing.{numbers_split}
 
 -- ---- r0, r1 and so on ----
 
@@ -51,11 +53,11 @@ with_next count = rw (has_high 0 count count (omega arith)) (sym (numbers_split 
 pub with_astray : (count r : ℕ) → count < r → IsAstray (with_first (numbers_from 0 count) r)
 with_astray count r h =
     let no : has (numbers_from 0 count) r ≡ false = has_high 0 count r (omega arith) in
-    let last : count - length (numbers_from 0 count) ≡ 0 = omega (arith, length-numbers 0 count) in
+    let last : count - length (numbers_from 0 count) ≡ 0 = omega (arith, length-from 0 count) in
     rw no (record {
       place = count;
       register = r;
-      stands = get_back (numbers_from 0 count) (r ∷ []) count (omega (arith, length-numbers 0 count)) ∙ ap (slice_get (r ∷ [])) last;
+      stands = get_back (numbers_from 0 count) (r ∷ []) count (omega (arith, length-from 0 count)) ∙ ap (slice_get (r ∷ [])) last;
       elsewhere = λ e. omega (arith, e, h);
     })
 
@@ -80,7 +82,7 @@ astray_stays seen (r ∷ rs) a = astray_stays (with_first seen r) rs (astray_mor
 -- and is not r0, r1 and so on
 pub not_astray : (count : ℕ) → IsAstray (numbers_from 0 count) → ⊥
 not_astray count a =
-    let low : a.place < count = omega (arith, slice_get_within (numbers_from 0 count) a.place a.register a.stands, length-numbers 0 count) in
+    let low : a.place < count = omega (arith, slice_get_within (numbers_from 0 count) a.place a.register a.stands, length-from 0 count) in
     a.elsewhere (same_Some _ _ (sym (numbers_at 0 count a.place low ∙ ap Some (zero-add a.place)) ∙ a.stands))
 
 -- ---- a loop over registers ----
@@ -128,7 +130,7 @@ names_start is = refl
 
 pub in_order : (side : List Instr) (n : ℕ) → 0 < length side → list_all is_in_window side ≡ true → appearing side ≡ numbers_from 0 n → n ≤ 4 → IsInOrder side × (n ≡ named_count side)
 in_order side n some windows order few =
-    let count : named_count side ≡ n = ap length order ∙ length-numbers 0 n in (
+    let count : named_count side ≡ n = ap length order ∙ length-from 0 n in (
       record {
         some = some;
         windows = windows;
@@ -142,7 +144,7 @@ pub out_of_order : (side : List Instr) → IsAstray (appearing side) → IsInOrd
 out_of_order side astray o = not_astray (named_count side) (subst IsAstray o.in_order astray)
 
 pub too_many : (side : List Instr) (n : ℕ) → appearing side ≡ numbers_from 0 n → 4 < n → IsInOrder side → ⊥
-too_many side n order many o = omega (arith, o.few, ap length order, length-numbers 0 n, many)
+too_many side n order many o = omega (arith, o.few, ap length order, length-from 0 n, many)
 
 pub above_zero : (n : ℕ) → (n == 0) ≡ false → 0 < n
 above_zero zero h = absurd (cc)

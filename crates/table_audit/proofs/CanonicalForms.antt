@@ -16,23 +16,7 @@ use Rattle.table_audit.specs.Canonical.{CanonicalFormIsSide}
 use Rattle.window_exec.proofs.Differences.{either}
 use Rattle.table_audit.proofs.Names.{count_same}
 use Rattle.table_audit.proofs.OneToOne.{AreDistinct, firsts_distinct, firsts_below, firsts_mapped, one_to_one, counted_under}
-
--- ---- what may stand in a window when it is renamed may do so itself ----
-
-window_under : (registers : List Low) (k : ℕ) (i : Instr) → k ≤ 8 → AreBelow k (named i) → is_in_window (renamed registers i) ≡ true → is_in_window i ≡ true
-window_under registers k (instr.Mov d m) few b h =
-    and_from (nat_lt d.number 8) (nat_lt m.number 8) (lt-ltb d.number 8 (omega (arith, b.0, few))) (lt-ltb m.number 8 (omega (arith, b.1.0, few)))
-window_under registers k (instr.Add r) few b h =
-    and_from (nat_lt r.target.number 8) (nat_lt r.source.number 8) (lt-ltb r.target.number 8 (omega (arith, b.0, few))) (lt-ltb r.source.number 8 (omega (arith, b.1.0, few)))
-window_under registers k i few b h = h
-
-windows_under : (registers : List Low) (k : ℕ) (is : List Instr) → k ≤ 8 → AreBelow k (flat_map named is) → list_all is_in_window (map (renamed registers) is) ≡ true
-    → list_all is_in_window is ≡ true
-windows_under registers k [] few b h = refl
-windows_under registers k (i ∷ is) few b h =
-    let low = below_parts k (named i) (flat_map named is) b in
-    let both = and_parts (is_in_window (renamed registers i)) (list_all is_in_window (map (renamed registers) is)) h in
-    and_from (is_in_window i) (list_all is_in_window is) (window_under registers k i few low.0 both.0) (windows_under registers k is few low.1 both.1)
+use Rattle.thumb_instr.proofs.Shared.{window_back, windows_back, named_all}
 
 -- ---- what is normal when it is renamed is normal itself ----
 
@@ -68,16 +52,6 @@ normals_under registers (i ∷ is) h =
     let head : normal_of (renamed registers i) ≡ renamed registers i = cc in
     let tail : map normal_of (map (renamed registers) is) ≡ map (renamed registers) is = cc in
     ap (λ j. j ∷ map normal_of is) (normal_under registers i head) ∙ ap (λ js. i ∷ js) (normals_under registers is tail)
-
--- ---- registers ----
-
-pub names_under : (registers : List Low) (is : List Instr) → list_all is_in_window is ≡ true → flat_map named (map (renamed registers) is) ≡ map (item_under registers) (flat_map named is)
-names_under registers [] w = refl
-names_under registers (i ∷ is) w =
-    let both = and_parts (is_in_window i) (list_all is_in_window is) w in
-    ap (λ us. us ++ flat_map named (map (renamed registers) is)) (named_renamed registers i both.0)
-    ∙ ap (λ us. map (item_under registers) (named i) ++ us) (names_under registers is both.1)
-    ∙ sym (map-append (item_under registers) (named i) (flat_map named is))
 
 -- ---- masks ----
 
@@ -117,9 +91,9 @@ form_is_side window items seq given mask w c =
     let few : length registers ≤ 4 = omega (arith, size, ap length order, w.registers) in
     let distinct : AreDistinct (numbers_of registers) = subst AreDistinct (sym order) (firsts_distinct [] (flat_map named normals) tt) in
     let windows : list_all is_in_window seq ≡ true =
-    windows_under registers (length registers) seq (omega (arith, few)) c.below (ap (list_all is_in_window) c.under ∙ windows_normal window w.windows) in
+    windows_back registers (length registers) seq (omega (arith, few)) c.below (ap (list_all is_in_window) c.under ∙ windows_normal window w.windows) in
     let normal : map normal_of seq ≡ seq = normals_under registers seq (ap (map normal_of) c.under ∙ normals_again window ∙ sym c.under) in
-    let names : flat_map named normals ≡ map (item_under registers) (flat_map named seq) = ap (flat_map named) (sym c.under) ∙ names_under registers seq windows in
+    let names : flat_map named normals ≡ map (item_under registers) (flat_map named seq) = ap (flat_map named) (sym c.under) ∙ named_all registers seq windows in
     let mapped : firsts [] (map (item_under registers) (flat_map named seq)) ≡ map (item_under registers) (appearing seq) =
     firsts_mapped (length registers) (item_under registers) (one_to_one registers distinct) [] (flat_map named seq) tt c.below in
     let taken : map (item_under registers) (appearing seq) ≡ numbers_of registers = sym mapped ∙ ap (firsts []) (sym names) ∙ sym order in

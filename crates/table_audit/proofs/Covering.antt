@@ -23,7 +23,7 @@ use Rattle.table_audit.proofs.Numbering.{below_in, below_from}
 use Rattle.table_audit.proofs.Below.{length_within, some_below}
 use Rattle.table_audit.proofs.Settling.{below_same}
 use Rattle.table_audit.proofs.Tellings.{told_is}
-use Rattle.table_audit.proofs.Walking.{present_at}
+use Rattle.thumb_model.proofs.Lists.{present_at}
 
 -- ---- how long the sequences below are ----
 

@@ -10,16 +10,19 @@ use Rattle.std.proofs.lemmas.Option.{slice_get_within, slice_get_cases, slice_ge
 use Rattle.thumb_instr.specs.declared.instr.Instr.{Instr}
 use Rattle.seq_enum.specs.Alphabet.{numbers_from, ascends_from, words, sequences_of}
 use Rattle.seq_enum.specs.Costs.{cost_under, weight_under}
-use Rattle.seq_enum.proofs.Numbered.{get_front, get_back, get-flat_map, get-flat_map-digits, length-numbers, numbers_at}
+use Rattle.seq_enum.proofs.Numbered.{get_back, get-flat_map, get-flat_map-digits, numbers_at}
 use Rattle.seq_enum.proofs.Words.{length-words, word_length, power_small}
 use Rattle.fingerprints.specs.Outcomes.{sequences_below}
 use Rattle.fingerprints.proofs.Growing.{below_none, below_more, below_longest}
-use Rattle.fingerprints.proofs.Looking.{filter_has, filter_in, filter_does, filter_ascends, numbers_ascend}
-use Rattle.fingerprints.proofs.PrintCandidates.{numbers_split}
+use Rattle.fingerprints.proofs.Looking.{filter_has, filter_in, filter_does}
 use Rattle.table_audit.specs.Shorter.{is_lighter}
 use Rattle.table_audit.specs.Lighter.{AreLighter, is_light_letter, is_light_at}
 use Rattle.table_audit.proofs.Below.{weight_push, few_numbers}
 use Rattle.table_audit.proofs.Upcoming.{ascends_append, ascends_rises}
+use Rattle.common_lemmas.proofs.Lists.{get_front}
+use Rattle.seq_enum.proofs.Ascending.{ascends_numbers, ascends_filter}
+use Rattle.seq_enum.proofs.CostLines.{length-from}
+use Rattle.seq_enum.proofs.Weighing.{numbers_split}
 
 -- ---- a sequence by its number ----
 
@@ -228,18 +231,18 @@ pub record Queue (costs : Option (List ℕ)) (letters : List Instr) (limit n pla
   pub closed : (i q : ℕ) → i < place → IsBehind letters (get_or numbers i 0) q → IsLight costs letters limit n q → Contains numbers q
   pub fresh : (q i : ℕ) → Contains numbers q → place ≤ i → i < length numbers → q ≤ get_or numbers i 0 * length letters
 
-number_in : (first count q : ℕ) → Contains (numbers_from first count) q → (first ≤ q) × (q < first + count)
+pub number_in : (first count q : ℕ) → Contains (numbers_from first count) q → (first ≤ q) × (q < first + count)
 number_in first count q c =
-    let size = length-numbers first count in
+    let size = length-from first count in
     let low : c.0 < count = omega (arith, c.1, size) in
     let is : first + c.0 ≡ q = sym (get_or_from_slice_get (numbers_from first count) c.0 (first + c.0) q (numbers_at first count c.0 low)) ∙ c.2 in
     (omega (arith, is), omega (arith, is, low))
 
-in_numbers : (first count q : ℕ) → first ≤ q → q < first + count → Contains (numbers_from first count) q
+pub in_numbers : (first count q : ℕ) → first ≤ q → q < first + count → Contains (numbers_from first count) q
 in_numbers first count q h k =
     let low : q - first < count = omega (arith, h, k) in
     let is : first + (q - first) ≡ q = omega (arith, h) in
-    let size = length-numbers first count in
+    let size = length-from first count in
     (q - first, omega (arith, low, size), get_or_from_slice_get (numbers_from first count) (q - first) (first + (q - first)) q (numbers_at first count (q - first) low) ∙ is)
 
 get_append : (xs ys : List ℕ) (i : ℕ) → i < length xs → get_or (xs ++ ys) i 0 ≡ get_or xs i 0
@@ -278,7 +281,7 @@ pub queue_next : (costs : Option (List ℕ)) (letters : List Instr) (limit n pla
     → Queue costs letters limit n (place + 1) new
 queue_next costs letters limit n place numbers new w low queue at is = subst (Queue costs letters limit n (place + 1)) (sym is) (record {
   start = Contains-append_left numbers added 0 queue.start;
-  ascending = ascends_append 0 begin numbers added (omega arith) queue.ascending before (filter_ascends keeps begin range (numbers_ascend begin (length letters)));
+  ascending = ascends_append 0 begin numbers added (omega arith) queue.ascending before (ascends_filter keeps begin range (ascends_numbers begin (length letters)));
   light = λ q c. elim (Contains-append_cases numbers added q c) [
     | inl old ↦ queue.light q old
     | inr more ↦ tested_light costs letters limit n number w at here_light q (range_of q more).0 (filter_does keeps range q more)
@@ -333,7 +336,7 @@ queue_next costs letters limit n place numbers new w low queue at is = subst (Qu
     range_of q c = number_in begin (length letters) q (filter_in keeps range q c)
 
     whole_ascends : ascends_from 0 (numbers ++ added) ≡ true
-    whole_ascends = ascends_append 0 begin numbers added (omega arith) queue.ascending before (filter_ascends keeps begin range (numbers_ascend begin (length letters)))
+    whole_ascends = ascends_append 0 begin numbers added (omega arith) queue.ascending before (ascends_filter keeps begin range (ascends_numbers begin (length letters)))
 
     later : (i : ℕ) → place < i → i < length (numbers ++ added) → number < get_or (numbers ++ added) i 0
     later i h k =

@@ -17,7 +17,7 @@ use Rattle.bit_blast.specs.declared.slots.Slot.TheVariants.{Plain, Hole}
 use Rattle.bit_blast.specs.Slots.{Byte, IsValue, filled, slot, slots, instance}
 use Rattle.bit_blast.proofs.Holes.{by_test, slots_over, filled_over, side_length, side_named, side_window}
 use Rattle.seq_enum.specs.Alphabet.{numbers_from, inside}
-use Rattle.seq_enum.proofs.Numbered.{numbers_at, get_front, get_back}
+use Rattle.seq_enum.proofs.Numbered.{numbers_at, get_back}
 use Rattle.seq_enum.proofs.Fields.{numbers, within_numbers, number_by}
 use Rattle.rule_table.specs.Canonical.{appearing}
 use Rattle.rule_table.specs.Table.{Rule, Family, Table}
@@ -27,6 +27,7 @@ use Rattle.table_audit.specs.Families.{entry_at, symbol_of, values_of, raised}
 use Rattle.table_audit.specs.Acceptance.{EntryVerdict, IsAccepted}
 use Rattle.table_audit.specs.Soundness.{items_in, rewriting_rule, instances_of, numbers_in, numbers_of, IsSound}
 use Rattle.table_audit.proofs.Raising.{entry_stands}
+use Rattle.common_lemmas.proofs.Lists.{get_front}
 
 -- ---- a side with a value in its holes ----
 

@@ -14,11 +14,11 @@ use Rattle.lrat_check.proofs.Turns.{turn_each}
 use Rattle.table_audit.specs.Shorter.{sequences_below}
 use Rattle.table_audit.specs.Acceptance.{StateTest, StatesVerdict, lengths_below, WideVerdict}
 use Rattle.table_audit.proofs.Numbering.{length-sequences_below}
-use Rattle.table_audit.proofs.Walking.{present_at}
+use Rattle.thumb_model.proofs.Lists.{present_at}
 
 -- ---- states ----
 
-states_count : (n : ℕ) (g : Lcg) → length (states_from n g) ≡ n
+pub states_count : (n : ℕ) (g : Lcg) → length (states_from n g) ≡ n
 unfolding states_from
 states_count zero g = refl
 states_count (suc n) g = ap suc (states_count n _)

@@ -13,15 +13,13 @@ use Rattle.table_audit.specs.Shorter.{named_count, IsCanonicalSide}
 use Rattle.table_audit.specs.Soundness.{items_in}
 use Rattle.table_audit.proofs.Appearing.{has_low}
 pub use Rattle.window_exec.proofs.Differences.{of_four}
+use Rattle.common_lemmas.proofs.Booleans.{eqb_sym}
 
 -- ---- membership, said in two ways ----
 
-eqb_turned : (a b : ℕ) → (a == b) ≡ (b == a)
-eqb_turned a b = grind arith
-
 pub one_of_has : (x : ℕ) (xs : List ℕ) → one_of x xs ≡ has xs x
 one_of_has x [] = refl
-one_of_has x (y ∷ ys) = rw (eqb_turned x y, one_of_has x ys) refl
+one_of_has x (y ∷ ys) = rw (eqb_sym x y, one_of_has x ys) refl
 
 -- a register is named where it is one of the names
 named_is : (x : ℕ) (is : List Instr) → is_named x is ≡ has (flat_map named is) x

@@ -10,10 +10,12 @@ use Rattle.std.proofs.lemmas.Bool.Decides.{leb_tells}
 use Rattle.thumb_instr.specs.declared.instr.Instr.{Instr}
 use Rattle.seq_enum.specs.Alphabet.{numbers_from, alphabet, words, sequences, sequences_of, IsOver}
 use Rattle.seq_enum.specs.Places.{sum_below}
-use Rattle.seq_enum.proofs.Numbered.{get_front, get_back, flat_map_from, get-flat_map}
+use Rattle.seq_enum.proofs.Numbered.{get_back, flat_map_from, get-flat_map}
 use Rattle.seq_enum.proofs.Words.{length-words, words_parts}
-use Rattle.fingerprints.proofs.PrintCandidates.{numbers_split, length_within}
+use Rattle.fingerprints.proofs.PrintCandidates.{length_within}
 use Rattle.table_audit.specs.Shorter.{sequences_below}
+use Rattle.common_lemmas.proofs.Lists.{get_front}
+use Rattle.seq_enum.proofs.Weighing.{numbers_split}
 
 -- all sequences are those below n instructions and the longer ones behind them
 sequences_split : (k : ℕ) (pool : List ℕ) (n : ℕ) → n ≤ 6 → sequences k pool ≡ sequences_below k pool n ++ flat_map (words (alphabet k pool)) (numbers_from n (6 - n))

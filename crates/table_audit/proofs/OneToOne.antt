@@ -9,6 +9,7 @@ use Rattle.std.proofs.lemmas.Option.{same_Some, slice_get-map, slice_get-get_or}
 use Rattle.thumb_instr.specs.Window.{Low, AreBelow, item_under, number_or}
 use Rattle.seq_enum.specs.Alphabet.{numbers_from}
 use Rattle.rule_table.specs.Canonical.{has, with_first, firsts, numbers_of}
+use Rattle.rule_table.proofs.Shared.{has_at}
 
 -- ---- no two are the same ----
 
@@ -35,12 +36,6 @@ pub firsts_distinct : (seen rs : List ℕ) → AreDistinct seen → AreDistinct 
 unfolding firsts
 firsts_distinct seen [] d = d
 firsts_distinct seen (r ∷ rs) d = firsts_distinct (with_first seen r) rs (distinct_first seen r d)
-
--- each stands at one place
-has_at : (xs : List ℕ) (i r : ℕ) → slice_get xs i ≡ Some r → has xs r ≡ true
-has_at [] i r e = absurd (cc)
-has_at (x ∷ xs) zero r e = or_left (x == r) (has xs r) (eq-eqb x r (same_Some _ _ e))
-has_at (x ∷ xs) (suc i) r e = or_right (x == r) (has xs r) (has_at xs i r e)
 
 again : (x : ℕ) (xs : List ℕ) (i r : ℕ) → has xs x ≡ false → x ≡ r → slice_get xs i ≡ Some r → ⊥
 again x xs i r new same e = true≢false (sym (has_at xs i x (e ∙ ap Some (sym same))) ∙ new)

@@ -25,7 +25,7 @@ use Rattle.table_audit.specs.Acceptance.{IsUntold, IsFirstUntold, ToldVerdict}
 use Rattle.table_audit.proofs.Numbering.{below_in}
 use Rattle.table_audit.proofs.Below.{none_below}
 use Rattle.table_audit.proofs.Upcoming.{ascends_above, ascends_drop}
-use Rattle.table_audit.proofs.Walking.{present_at}
+use Rattle.thumb_model.proofs.Lists.{present_at}
 
 -- ---- the first so far ----
 
@@ -260,7 +260,7 @@ not_here k pool n q letters o few is low e f =
 
 -- ---- the table of the first state ----
 
-same_state : (a b : WState) → seen a ≡ seen b → a ≡ b
+pub same_state : (a b : WState) → seen a ≡ seen b → a ≡ b
 same_state a b e = ap (λ (s : Seen). let t : WState = record { r = s.r; nzcv = s.nzcv } in t) e
 
 head_is : {X : Type 0} (x y : X) (xs ys : List X) → (let l : List X = x ∷ xs in l) ≡ y ∷ ys → x ≡ y

@@ -31,9 +31,10 @@ use Rattle.table_audit.specs.Families.{entry_of, symbol_of, IsRaisable, raised_f
 use Rattle.table_audit.specs.Soundness.{items_in, rewriting_rule, IsShortest, IsSoundFamily, IsSound}
 use Rattle.table_audit.proofs.Fitting.{formula_fits, ordered_of}
 use Rattle.table_audit.proofs.Raising.{entry_stands, verdict_raised}
-use Rattle.table_audit.proofs.Walking.{over_more, mask_more, own_within, counted_over}
+use Rattle.table_audit.proofs.Walking.{mask_more, own_within, counted_over}
 use Rattle.table_audit.proofs.Instances.{numbers_sound}
 use Rattle.table_audit.proofs.Names.{count_same, all_named, has_one, one_has, of_four}
+use Rattle.rule_model.proofs.Table.{over_wider}
 
 -- ---- the words of listed states ----
 
@@ -79,7 +80,7 @@ equal_sides t n e f masks p v words x h =
     let registers = alphabet_registers t.header e.left in
     let within : own ≤ registers = own_within t.header e.left f.canonical in
     let same : AreEqual e.left e.right e.mask =
-    (no_model_is_equal e.left e.right e.mask registers (over_more own registers e.left within f.left) f.right masks (mask_more own registers e.mask within f.mask)).0 none in
+    (no_model_is_equal e.left e.right e.mask registers (over_wider own registers e.left within f.left) f.right masks (mask_more own registers e.mask within f.mask)).0 none in
     same v words x (has_one e.mask x h).0
 
 -- a state that tells a sequence shows that it leaves another value
@@ -116,7 +117,7 @@ sound_rule t n e valid sides masks p =
       near = omega (arith, most, is, scratch);
       no_longer = sides.no_longer;
       left = subst (λ k. AreOver k e.left) (sym is) f.left;
-      right = over_more (register_count e.right) (rule_registers (rewriting_rule e)) e.right (omega arith) (counted_over (alphabet_registers t.header e.left) e.right f.right);
+      right = over_wider (register_count e.right) (rule_registers (rewriting_rule e)) e.right (omega arith) (counted_over (alphabet_registers t.header e.left) e.right f.right);
       mask = mask_over t (register_count e.left) e is f;
       all_named = λ x low. all_named e.left sides.canonical x (omega (arith, low, is));
       equal = equal_sides t n e f masks p;
@@ -140,7 +141,7 @@ equal_with_each t n f e fits masks raisable p x within v words i h =
     let wider : own ≤ registers = own_within t.header e.left fits.canonical in
     let small : f.low < 256 = omega (arith, raisable.from, raisable.to, raisable.bytes) in
     let same : AreEqualForAll e.left e.right (symbol_of f) e.mask =
-    (no_model_is_equal_for_all e.left e.right (symbol_of f) e.mask registers small (over_more own registers e.left wider fits.left) fits.right masks (mask_more own registers e.mask wider fits.mask)).0 none in
+    (no_model_is_equal_for_all e.left e.right (symbol_of f) e.mask registers small (over_wider own registers e.left wider fits.left) fits.right masks (mask_more own registers e.mask wider fits.mask)).0 none in
     same x within v words i (has_one e.mask i h).0
 
 -- with the family's own number the left side is itself

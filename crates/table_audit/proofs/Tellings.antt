@@ -9,14 +9,14 @@ use Rattle.std.proofs.lemmas.Option.{slice_get_cases, slice_get-map}
 use Rattle.thumb_instr.specs.declared.instr.Instr.{Instr}
 use Rattle.thumb_model.specs.Effect.{after_all}
 use Rattle.window_exec.specs.State.{values_of, seen, Seen, Differ, Tells}
-use Rattle.lrat_check.proofs.Turns.{got}
 use Rattle.fingerprints.specs.declared.trials.Trial.{Trial}
 use Rattle.table_audit.specs.Shorter.{values_in, IsTold}
 use Rattle.fingerprints.specs.Trials.{start_of, AreTrials}
+use Rattle.common_lemmas.proofs.Lists.{get_of_or}
 
 -- what a list's element becomes stands at its place
 pub listed : {X Y : Type 0} (f : X → Y) (xs : List X) (i : ℕ) (x : X) → i < length xs → x ≡ get_or xs i x → slice_get (map f xs) i ≡ Some (f x)
-listed f xs i x low is = slice_get-map f xs i ∙ ap (option_map f) (got xs i x low is)
+listed f xs i x low is = slice_get-map f xs i ∙ ap (option_map f) (get_of_or xs i x low is)
 
 -- ---- trials ----
 

@@ -5,12 +5,13 @@ use Rattle.std.specs.List.Sorted.{IsNonDecreasingBy}
 use Rattle.std.proofs.lemmas.Bool.{and_parts, and_from, leb-true, ltb-true, ltb-false, ne_eqb}
 use Rattle.std.proofs.lemmas.Option.{same_Some}
 use Rattle.seq_enum.specs.Alphabet.{ascends_from}
-use Rattle.fingerprints.proofs.Looking.{ascends_lower}
 use Rattle.rule_table.specs.declared.table.Open as code
 use Rattle.rule_table.specs.Views.{opened_of}
 use Rattle.rule_table.specs.Table.{Opened, numbers_of}
 use Rattle.table_audit.specs.Shorter.{is_named}
 use Rattle.table_audit.specs.Naming.{is_number}
+use Rattle.common_lemmas.proofs.Booleans.{or_false}
+use Rattle.seq_enum.proofs.Ascending.{ascends_lower}
 
 -- the numbers from one on that ascend hold it only in front
 pub named_high : (opens : List Opened) (low n : ℕ) → n < low → ascends_from low (numbers_of opens) ≡ true → is_named opens n ≡ false
@@ -22,10 +23,6 @@ named_high (o ∷ opens) low n h a =
     let other : (o.number == n) ≡ false = ne_eqb o.number n (λ e. omega (arith, e, least, h)) in
     rw other (named_high opens (suc o.number) n (omega arith) parts.1)
 
-or_none : (b : Bool) → (b || false) ≡ b
-or_none true = refl
-or_none false = refl
-
 -- a number is named open where the first that isn't below it is it
 pub named_at : (opens : List Opened) (low p n : ℕ) → ascends_from low (numbers_of opens) ≡ true
     → ((k : ℕ) (o : Opened) → k < p → slice_get opens k ≡ Some o → o.number < n) → ((k : ℕ) (o : Opened) → p ≤ k → slice_get opens k ≡ Some o → n ≤ o.number)
@@ -35,7 +32,7 @@ named_at [] low p n a before after = refl
 named_at (o ∷ opens) low zero n a before after =
     let parts = and_parts (nat_le low o.number) (ascends_from (suc o.number) (numbers_of opens)) a in
     let past : n ≤ o.number = after 0 o (omega arith) refl in
-    ap (λ b. (o.number == n) || b) (named_high opens (suc o.number) n (omega (arith, past)) parts.1) ∙ or_none (o.number == n)
+    ap (λ b. (o.number == n) || b) (named_high opens (suc o.number) n (omega (arith, past)) parts.1) ∙ or_false (o.number == n)
 named_at (o ∷ opens) low (suc p) n a before after =
     let parts = and_parts (nat_le low o.number) (ascends_from (suc o.number) (numbers_of opens)) a in
     let less : o.number < n = before 0 o (omega arith) refl in

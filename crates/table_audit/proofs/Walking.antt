@@ -11,12 +11,9 @@ use Rattle.rule_table.specs.Header.{Header}
 use Rattle.table_audit.specs.Shorter.{named_count, alphabet_registers, IsCanonicalSide}
 use Rattle.table_audit.proofs.Numbering.{over_sequences}
 use Rattle.table_audit.proofs.Fitting.{are_over, ordered_of}
+use Rattle.rule_model.proofs.Table.{over_wider}
 
 -- ---- registers below k are below more ----
-
-pub over_more : (k m : ℕ) (s : List Instr) → k ≤ m → AreOver k s → AreOver m s
-over_more k m [] h o = tt
-over_more k m (i ∷ is) h o = (o.0, below_more k m (named i) h o.1, over_more k m is h o.2)
 
 below_above : (xs : List ℕ) → AreBelow (above xs) xs
 below_above [] = tt
@@ -26,7 +23,7 @@ below_above (x ∷ xs) = (omega arith, below_more (above xs) (above (x ∷ xs)) 
 pub counted_over : (k : ℕ) (s : List Instr) → AreOver k s → AreOver (register_count s) s
 counted_over k [] o = tt
 counted_over k (i ∷ is) o =
-    (o.0, below_more (above (named i)) (register_count (i ∷ is)) (named i) (omega arith) (below_above (named i)), over_more (register_count is) (register_count (i ∷ is)) is (omega arith) (counted_over k is o.2))
+    (o.0, below_more (above (named i)) (register_count (i ∷ is)) (named i) (omega arith) (below_above (named i)), over_wider (register_count is) (register_count (i ∷ is)) is (omega arith) (counted_over k is o.2))
 
 pub mask_more : (k m mask : ℕ) → k ≤ m → IsMaskOver k mask → IsMaskOver m mask
 mask_more k m mask h over x at = elim (over x at) [
@@ -40,11 +37,3 @@ own_within h left c = omega (arith, (ordered_of left c).few)
 
 pub numbered_over : (k : ℕ) (pool : List ℕ) (q : ℕ) (s : List Instr) → k ≤ 4 → slice_get (sequences k pool) q ≡ Some s → AreOver k s
 numbered_over k pool q s few e = are_over k pool s (omega arith) (over_sequences k pool q s e)
-
--- ---- elements ----
-
-pub present_at : {X : Type 0} (xs : List X) (i : ℕ) → i < length xs → (x : X) × (slice_get xs i ≡ Some x)
-present_at xs i low = elim (slice_get_cases xs i).1 [
-  | inl p ↦ (p.0, p.2)
-  | inr p ↦ absurd (omega (arith, low, p.0))
-]

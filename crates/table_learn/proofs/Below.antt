@@ -11,12 +11,12 @@ use Rattle.table_audit.specs.Shorter.{alphabet_registers, with_scratch, IsBelow,
 use Rattle.table_audit.specs.Acceptance.{lengths_below, width_of}
 use Rattle.table_audit.proofs.Below.{below_found, length_within}
 use Rattle.table_audit.proofs.Numbering.{below_in, below_from, length-sequences_below}
-use Rattle.table_audit.proofs.Walking.{present_at}
 use Rattle.table_learn.specs.Learnt.{Settings, Window}
 use Rattle.table_learn.specs.Given.{IsWindow}
 use Rattle.table_learn.specs.Searching.{width_at}
 use Rattle.table_learn.proofs.Monotone.{least_letters, sum_more, shorter_more}
 use Rattle.table_learn.proofs.Registers.{few_registers, some_registers, narrow_registers}
+use Rattle.thumb_model.proofs.Lists.{present_at}
 
 -- ---- the sequence of a number ----
 

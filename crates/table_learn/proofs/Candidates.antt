@@ -20,7 +20,6 @@ use Rattle.fingerprints.proofs.Choosing.{told_or_candidate}
 use Rattle.table_audit.specs.Shorter.{alphabet_registers, sequences_below}
 use Rattle.table_audit.specs.Acceptance.{lengths_below}
 use Rattle.table_audit.proofs.Numbering.{below_in, below_from}
-use Rattle.table_audit.proofs.Walking.{present_at}
 use Rattle.table_learn.specs.Learnt.{Settings, Window}
 use Rattle.table_learn.specs.Tellings.{told}
 use Rattle.table_learn.specs.Orders.{AreInOrder, in_order, weight_at, weight_or_none}
@@ -30,6 +29,7 @@ use Rattle.table_learn.proofs.Below.{number_after, longest_in, longest_covers, l
 use Rattle.table_learn.proofs.Costs.{few_numbers}
 use Rattle.table_learn.proofs.Sorting.{order_ascending, order_by_weight, few_by_weight, from_by_weight, to_by_weight}
 use Rattle.table_learn.proofs.Telling.{is_told}
+use Rattle.thumb_model.proofs.Lists.{present_at}
 
 pub table_below : (s : Settings) (w : Window) (k n : ℕ) (letters : List Instr) → k ≡ alphabet_registers s w.seq → letters ≡ alphabet k s.pool → table.sequences_below letters n ≡ sequences_below (alphabet_registers s w.seq) s.pool n
 unfolding table.sequences_below sequences_below

@@ -23,7 +23,7 @@ use Rattle.lrat_check.specs.declared.line.Addition.{Addition}
 use Rattle.lrat_check.specs.Numbers.{is_negative, IsHint}
 use Rattle.lrat_check.specs.Text.{Content, content_of, IsLine}
 use Rattle.lrat_check.specs.Proofs.{Known, started, with_clause, after_line, Accepts, AllAccepted, additions, IsSpentLog, EachIsNew, ProofVerdict}
-use Rattle.lrat_check.proofs.Checks.{same_known, accepted_passed}
+use Rattle.lrat_check.proofs.Checks.{same_known, accepted_passed, any_left}
 use Rattle.cdcl_core.specs.Solved.{RefutesTidily, Adds, literals_in, with_log, Teaches, Refutes, IsLog}
 use Rattle.cdcl_core.proofs.Logs.{asserting_some, with_more}
 use Rattle.table_learn.specs.Learnt.{IsRefutation as IsRefutationOf, IsSpentSearch}
@@ -31,12 +31,6 @@ use Rattle.table_learn.specs.Learnt.{IsRefutation as IsRefutationOf, IsSpentSear
 any_behind : (xs ys : List (List ℕ)) → Any (λ clause. clause ≡ []) ys → Any (λ clause. clause ≡ []) (xs ++ ys)
 any_behind [] ys a = a
 any_behind (x ∷ xs) ys a = let r = any_behind xs ys a in (suc r.0, r.1, omega (arith, r.2), r.3, r.4)
-
-any_before : (xs ys : List (List ℕ)) → Any (λ clause. clause ≡ []) xs → Any (λ clause. clause ≡ []) (xs ++ ys)
-any_before xs ys a =
-    let at : slice_get xs a.0 ≡ Some a.1 = slice_get-get_or xs a.0 a.1 a.2 ∙ ap (λ c. Some c) a.3 in
-    let low : a.0 < length (xs ++ ys) = (let l = length-append xs ys in omega (arith, a.2, l)) in
-    (a.0, a.1, low, get_or_append_left xs ys a.1 a.0 a.2 ∙ a.3, a.4)
 
 -- ---- lines, one after the other
 
@@ -228,7 +222,7 @@ pub refutation_passes : {F : Type 0} (fault : ℕ → F) (unfinished : F) (budge
 refutation_passes fault unfinished budget formula lines g = subst (λ (ls : List Content). ProofVerdict fault unfinished (codes_of formula.clauses) ls None) g.says
     (elim g.refutes.1 [
       | inl e ↦ subst (λ (log : List Line). ProofVerdict fault unfinished (codes_of formula.clauses) (map content_of log) None) (sym e.0)
-          (tt, any_before (codes_of formula.clauses) [] (empty_code formula.clauses e.1))
+          (tt, any_left (codes_of formula.clauses) [] (empty_code formula.clauses e.1))
       | inr r ↦ subst (λ (log : List Line). ProofVerdict fault unfinished (codes_of formula.clauses) (map content_of log) None) (sym r.2) (
         accepted_passed fault (started (codes_of formula.clauses)) 1 _ (refuted_accepted (codes_of formula.clauses) r.0 r.1 (all_teach (codes_of formula.clauses) r.0 r.3) r.4),
         any_behind (codes_of formula.clauses) _ (refuted_empty (codes_of formula.clauses) r.0 r.1 r.4),

@@ -12,6 +12,7 @@ use Rattle.table_audit.specs.Acceptance.{width_of}
 use Rattle.table_learn.specs.Failing.{learn_cost}
 use Rattle.table_learn.specs.Searching.{query_cost}
 use Rattle.table_learn.specs.Progress.{search_cost, drop_cost}
+use Rattle.common_lemmas.proofs.Numbers.{one_more_times}
 
 -- ---- how many there are ----
 
@@ -54,16 +55,13 @@ drop_both : (x l w f g : ℕ) → w * (x * ((f + g) * l)) ≡ w * (x * (f * l)) 
 drop_both x l w f g =
     ap (λ n. w * (x * n)) (share f g l) ∙ ap (λ n. w * n) (both (f * l) (g * l) x) ∙ both (x * (f * l)) (x * (g * l)) w
 
-pub next_share : (n unit : ℕ) → (n + 1) * unit ≡ n * unit + unit
-next_share n unit = grind arith
-
 -- one more candidate's runs and query
 pub query_more : (before after start n u v b l : ℕ) → before ≤ start + n * query_cost b u l → after ≤ before + query_cost b v l → u ≤ v → after ≤ start + (n + 1) * query_cost b v l
 query_more before after start n u v b l h k more =
     let wide : u * (l + l) ≤ v * (l + l) = mul-le-mul_right (l + l) more in
     let each : query_cost b u l ≤ query_cost b v l = omega (arith, wide) in
     let all : n * query_cost b u l ≤ n * query_cost b v l = mul-le-mul_left n each in
-    let next : (n + 1) * query_cost b v l ≡ n * query_cost b v l + query_cost b v l = next_share n (query_cost b v l) in
+    let next : (n + 1) * query_cost b v l ≡ n * query_cost b v l + query_cost b v l = one_more_times n (query_cost b v l) in
     omega (arith, h, k, all, next)
 
 pub query_within : (after start n count unit : ℕ) → after ≤ start + n * unit → n ≤ count → after ≤ start + count * unit

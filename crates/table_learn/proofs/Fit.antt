@@ -1,6 +1,6 @@
 -- Entries fit as more states are found, and pass the audit.
 use Rattle.std.proofs.Common.{◌≡◌, ℕ, suc, ◌+◌, ◌≤◌, ◌⊎◌, ◌==◌, inl, inr, Bool, true, false, not, List, [], ◌∷◌, ◌++◌, Option, Some, None, cond, filter, length, slice_get, refl, sym, ◌∙◌, ap, subst, arith, eqb-true, nat_le}
-use Rattle.std.proofs.lemmas.Bool.{or_cases, or_left, or_right, false≢true, true≢false, and_parts, leb-true, le-leb}
+use Rattle.std.proofs.lemmas.Bool.{or_cases, or_left, or_right, false≢true, true≢false, and_parts, leb-true, le-leb, not-true}
 use Rattle.seq_enum.specs.Alphabet.{ascends_from}
 use Rattle.thumb_instr.specs.declared.instr.Instr.{Instr}
 use Rattle.window_exec.specs.State.{Seen}
@@ -17,8 +17,8 @@ use Rattle.table_learn.specs.Fitness.{IsFit, tells_number, stays_open, without_t
 use Rattle.table_learn.specs.Progress.{table_with}
 use Rattle.table_learn.proofs.Certificates.{refutation_passes, search_spends}
 use Rattle.table_learn.proofs.Telling.{told_is, untold, told_more, told-append, untold_both}
-use Rattle.clause_model.proofs.Sound.{flip as not_flip}
 pub use Rattle.fingerprints.proofs.Letters.{filter_at}
+use Rattle.seq_enum.proofs.Ascending.{ascends_lower}
 
 -- ---- the audit ----
 
@@ -108,14 +108,6 @@ named-filter p (o ∷ opens) q h k =
       ]
     ] refl
 
-pub ascends_lower : (low high : ℕ) (xs : List ℕ) → low ≤ high → ascends_from high xs ≡ true → ascends_from low xs ≡ true
-unfolding ascends_from
-ascends_lower low high [] h a = refl
-ascends_lower low high (x ∷ xs) h a =
-    let parts = and_parts (nat_le high x) (ascends_from (suc x) xs) a in
-    let least : low ≤ x = (let k = leb-true high x parts.0 in omega (arith, h, k)) in
-    rw (le-leb low x least) parts.1
-
 pub ascends-filter : (p : Opened → Bool) (low : ℕ) (opens : List Opened) → ascends_from low (numbers_of opens) ≡ true → ascends_from low (numbers_of (filter p opens)) ≡ true
 unfolding ascends_from
 ascends-filter p low [] a = refl
@@ -149,7 +141,7 @@ fit_without s silent found e f = record {
   names = λ i o at.
       let kept = filter_at (stays_open s found e) e.opens i o at in
       let name = f.names kept.1.0 o kept.1.1 in
-      let quiet : told found e.left name.seq e.mask ≡ false = sym (ap (tells_number found e) (below_is s e.left e.right o.number name.seq name.below)) ∙ not_flip (tells_number found e (below_at s e.left e.right o.number)) kept.0 in
+      let quiet : told found e.left name.seq e.mask ≡ false = sym (ap (tells_number found e) (below_is s e.left e.right o.number name.seq name.below)) ∙ not-true (tells_number found e (below_at s e.left e.right o.number)) kept.0 in
       record {
         seq = name.seq;
         below = name.below;

@@ -9,7 +9,6 @@ use Rattle.thumb_instr.specs.declared.instr.Instr.{Instr}
 use Rattle.thumb_model.specs.Effect.{AreOver}
 use Rattle.seq_enum.specs.Costs.{AreCosts}
 use Rattle.seq_enum.specs.Alphabet.{is_pool, IsOver}
-use Rattle.seq_enum.proofs.Numbered.{get_front}
 use Rattle.std.specs.Int.{w32, rotate_right}
 use Rattle.std.proofs.Math.Nat.{div-le_self}
 use Rattle.std.proofs.lemmas.Nat.{or_of_32}
@@ -21,7 +20,6 @@ use Rattle.rule_table.specs.Table.{Opened, Rule, IsState, IsInstr, IsOpened, IsR
 use Rattle.table_audit.specs.Shorter.{named_count, alphabet_registers, formula_against, sequences_below}
 use Rattle.table_audit.specs.Acceptance.{StateTest, EntryVerdict, IsAccepted, lengths_below, width_of}
 use Rattle.table_audit.proofs.Fitting.{are_over, ordered_of}
-use Rattle.table_audit.proofs.Walking.{over_more}
 use Rattle.rule_table.specs.declared.header.Field.{Field}
 use Rattle.rule_table.specs.declared.header.Field.TheVariants as field
 use Rattle.rule_table.specs.declared.header.HeaderLine.TheVariants.{Number}
@@ -36,6 +34,10 @@ use Rattle.table_learn.proofs.Fit.{turn_all, fit_passes, fit_more, fit_without, 
 use Rattle.table_learn.proofs.Steps.{push_cases}
 use Rattle.table_learn.proofs.Registers.{more_registers, few_registers}
 use Rattle.table_learn.proofs.Wider.{over_wider}
+use Rattle.common_lemmas.proofs.Lists.{get_front}
+use Rattle.seq_enum.proofs.Weighing.{All-from_slice_get}
+use Rattle.rule_model.proofs.Table.{over_wider as over_more}
+use Rattle.table_audit.proofs.Limits.{states_count}
 
 -- ---- lists ----
 
@@ -57,9 +59,6 @@ push_at (y ∷ ys) x = push_at ys x
 map-push : {X Y : Type 0} (f : X → Y) (xs : List X) (x : X) → map f (xs ++ x ∷ []) ≡ map f xs ++ f x ∷ []
 map-push f [] x = refl
 map-push f (y ∷ ys) x = ap (λ zs. f y ∷ zs) (map-push f ys x)
-
-pub all_of : {X : Type 0} (P : X → Type 0) (xs : List X) → ((i : ℕ) (x : X) → slice_get xs i ≡ Some x → P x) → All P xs
-all_of P xs h k d low = h k (get_or xs k d) (slice_get-get_or xs k d low)
 
 -- ---- one more window ----
 
@@ -120,11 +119,6 @@ gain s windows w states more rules e g valid earned same fit = record {
 
 -- ---- before the first window ----
 
-pub length-states_from : (n : ℕ) (g : Lcg) → length (states_from n g) ≡ n
-unfolding states_from
-length-states_from zero g = refl
-length-states_from (suc n) g = ap suc (length-states_from n (next_state g).1)
-
 flags_low : (x : ℕ) → x % 16 < 16
 flags_low x = omega arith
 
@@ -154,7 +148,7 @@ valid_from (suc n) g =
 
 pub start : (s : Settings) (states : List Seen) → states ≡ seeded_states s.seed → Progress s [] states []
 start s states e =
-    let l : length states ≡ 64 = ap length e ∙ length-states_from 64 _ in
+    let l : length states ≡ 64 = ap length e ∙ states_count 64 _ in
     record {
       long = omega (arith, l);
       begins = take_all 64 states (omega (arith, l)) ∙ e;
@@ -184,12 +178,12 @@ pub learnt : (s : Settings) (windows : List Window) (states : List Seen) (rules 
 learnt s windows states rules g narrow = record {
   header = refl;
   entries = g.matched;
-  rights = all_of (KeepsOrLowers s) rules (λ i e at. (g.fits i e at).keeps);
+  rights = All-from_slice_get (KeepsOrLowers s) rules (λ i e at. (g.fits i e at).keeps);
   states = g.earned;
   accepted = accepted s windows states rules g narrow;
-  proofs = all_of (IsProvedBySolver s) rules (λ i e at. (g.fits i e at).proved);
-  logs = all_of (λ e. All (IsOpenBySolver s e) e.opens) rules (λ i e at.
-      all_of (IsOpenBySolver s e) e.opens (λ j o here seq there.
+  proofs = All-from_slice_get (IsProvedBySolver s) rules (λ i e at. (g.fits i e at).proved);
+  logs = All-from_slice_get (λ e. All (IsOpenBySolver s e) e.opens) rules (λ i e at.
+      All-from_slice_get (IsOpenBySolver s e) e.opens (λ j o here seq there.
       let name = (g.fits i e at).names j o here in
       let same : name.seq ≡ seq = one_below s e.left e.right e.right o.number name.seq seq name.below there in
       subst (λ z. IsSpentSearch s.budget (formula_against s e z) o.log) same name.log));
@@ -227,7 +221,7 @@ valid_rule s states e narrow f =
       right = side_instrs s.pool k e.right (few_registers s e.left) f.right;
       mask = f.mask;
       proof = f.lines;
-      opens = all_of IsOpened e.opens (λ i z at.
+      opens = All-from_slice_get IsOpened e.opens (λ i z at.
           let name = f.names i z at in
           let low = low_name s states states e i z f at in
           record { small = omega (arith, low, narrow); log = name.lines });
@@ -274,7 +268,7 @@ pub valid : (s : Settings) (windows : List Window) (states : List Seen) (rules :
 valid s windows states rules is narrow g = record {
   header = is;
   states = g.valid;
-  rules = all_of IsRule rules (λ i e at. valid_rule s states e narrow (g.fits i e at));
+  rules = All-from_slice_get IsRule rules (λ i e at. valid_rule s states e narrow (g.fits i e at));
   families = All-nil IsFamily;
   none_before = λ early. refl;
 }

@@ -14,7 +14,6 @@ use Rattle.rule_table.specs.Text.{rule_items}
 use Rattle.table_audit.specs.Shorter.{named_count, alphabet_registers, below_at}
 use Rattle.table_audit.specs.Acceptance.{width_of}
 use Rattle.table_audit.proofs.Fitting.{are_over, ordered_of}
-use Rattle.table_audit.proofs.Walking.{over_more}
 use Rattle.table_learn.specs.Learnt.{Settings, Window, learnt_from, text_length}
 use Rattle.table_learn.specs.Given.{IsWindow}
 use Rattle.table_learn.specs.Fitness.{IsFit, tells_number, stays_open, without_told}
@@ -26,16 +25,18 @@ use Rattle.fingerprints.specs.declared.tables.Tables.{Tables}
 use Rattle.fingerprints.specs.Outcomes.{Extent}
 use Rattle.fingerprints.specs.Tables.{AreTables, IsFor}
 use Rattle.seq_enum.specs.Alphabet.{alphabet}
-use Rattle.seq_enum.proofs.Numbered.{get_front}
 use Rattle.table_learn.specs.Keeping.{AreKept, IsOfFirst}
 use Rattle.table_learn.specs.declared.learning.Learner.{Learner}
 use Rattle.table_learn.proofs.Fit.{no_longer}
 use Rattle.table_learn.proofs.Below.{width_within}
-use Rattle.table_learn.proofs.Gains.{all_of, gain, low_name}
+use Rattle.table_learn.proofs.Gains.{gain, low_name}
 use Rattle.table_learn.proofs.TextLengths.{text_more}
 use Rattle.table_learn.proofs.Costs.{few_opens, search_within, drop_within}
 use Rattle.table_learn.proofs.Registers.{more_registers, few_registers}
 use Rattle.table_learn.proofs.Steps.{push_cases}
+use Rattle.common_lemmas.proofs.Lists.{get_front}
+use Rattle.seq_enum.proofs.Weighing.{All-from_slice_get}
+use Rattle.rule_model.proofs.Table.{over_wider}
 
 -- ---- nothing found drops nothing ----
 
@@ -81,13 +82,13 @@ side_over s w i =
     let few : named_count w.seq ≤ 4 = o.few in
     let over : AreOver (named_count w.seq) w.seq = are_over (named_count w.seq) s.pool w.seq (omega (arith, few)) i.over in
     let more = more_registers s w.seq few in
-    (few_registers s w.seq, over_more (named_count w.seq) (alphabet_registers s w.seq) w.seq more over, over_more (named_count w.seq) 4 w.seq few over)
+    (few_registers s w.seq, over_wider (named_count w.seq) (alphabet_registers s w.seq) w.seq more over, over_wider (named_count w.seq) 4 w.seq few over)
 
 sided : (s : Settings) (tellers silent : List Seen) (e : Rule) → IsFit s tellers silent e → IsSided e
 sided s tellers silent e f = record { canonical = f.window.canonical; over = (side_over s (learnt_from e) f.window).2; no_longer = no_longer s e f.keeps }
 
 pub all_sided : (s : Settings) (windows : List Window) (old new : List Seen) (rules : List Rule) (e : Rule) → Progress s windows old rules → IsFit s new old e → All IsSided (rules ++ e ∷ [])
-all_sided s windows old new rules e g fit = All-append IsSided rules (e ∷ []) (all_of IsSided rules (λ i z at. sided s old old z (g.fits i z at))) (All-cons IsSided e [] (sided s new old e fit) (All-nil IsSided))
+all_sided s windows old new rules e g fit = All-append IsSided rules (e ∷ []) (All-from_slice_get IsSided rules (λ i z at. sided s old old z (g.fits i z at))) (All-cons IsSided e [] (sided s new old e fit) (All-nil IsSided))
 
 -- how many open numbers an entry has, and how long it is
 pub few_each : (s : Settings) (tellers silent : List Seen) (e : Rule) → IsFit s tellers silent e → (length e.opens ≤ width_of s) × (length e.left ≤ s.left)

@@ -10,7 +10,6 @@ use Rattle.thumb_model.specs.Effect.{AreOver}
 use Rattle.window_exec.specs.State.{Seen}
 use Rattle.lrat_check.specs.declared.line.Line.{Line}
 use Rattle.lrat_check.specs.Text.{content_of, IsLine}
-use Rattle.lrat_check.proofs.Turns.{drop_got}
 use Rattle.bit_blast.specs.Differences.{sides_formula}
 use Rattle.bit_blast.specs.Exactness.{IsMask}
 use Rattle.rule_table.specs.Table.{Opened, Rule}
@@ -23,9 +22,10 @@ use Rattle.table_learn.specs.Tried.{IsRightSide}
 use Rattle.table_learn.proofs.Certificates.{nothing_refutes}
 use Rattle.table_learn.proofs.Rounds.{side_over}
 use Rattle.table_learn.proofs.Steps.{search_proves, search_ends}
+use Rattle.cnf_gates.proofs.Text.{drop_from}
 
 split_at : (candidates : List ℕ) (i d : ℕ) → i < length candidates → drop i candidates ≡ get_or candidates i d ∷ drop (i + 1) candidates
-split_at candidates i d low = drop_got candidates i (get_or candidates i d) (slice_get-get_or candidates i d low)
+split_at candidates i d low = drop_from candidates i (get_or candidates i d) (slice_get-get_or candidates i d low)
 
 -- the candidate at a place is passed
 pub search_next : (s : Settings) (w : Window) (old states later : List Seen) (opens more : List Opened) (candidates : List ℕ) (i d : ℕ) → i < length candidates

@@ -29,6 +29,7 @@ use Rattle.rule_table.specs.Text.{Item, Number, Pool, Costs, State, Entry, Left,
 use Rattle.table_learn.specs.Learnt.{Settings, text_length}
 use Rattle.table_learn.specs.Lengths.{lines_length, log_length, opens_length, rules_length, instr_length, item_length}
 use Rattle.table_learn.specs.Progress.{table_with}
+use Rattle.rule_table.proofs.HexTexts.{length-hex}
 
 -- ---- lines ----
 
@@ -148,11 +149,6 @@ opens_next opens i name total more next low is t m n =
     omega (arith, t, m, n, f, g)
 
 -- ---- states ----
-
-length-hex : (n w : ℕ) → length (hex_of n w) ≡ n
-unfolding hex_of
-length-hex zero w = refl
-length-hex (suc n) w = length-append (hex_of n (w / 16)) _ ∙ (let e = length-hex n (w / 16) in omega (arith, e))
 
 words_length : (r : List ℕ) → length (after_blanks (map (hex_of 8) r)) ≡ 9 * length r
 words_length [] = refl

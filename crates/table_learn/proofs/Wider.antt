@@ -7,7 +7,8 @@ use Rattle.thumb_instr.specs.declared.instr.Instr.TheVariants as instr
 use Rattle.thumb_instr.specs.declared.kind.Kind.{Kind}
 use Rattle.thumb_instr.specs.declared.kind.Kind.TheVariants as kind
 use Rattle.seq_enum.specs.Alphabet.{numbers_from, those_within, grid2, grid3, rows, registers, others, wide, added, members, alphabet, IsOver}
-use Rattle.table_learn.proofs.Elements.{none_in, first_or, here_in, later_in, from_flat, to_flat, from_map, to_map, from_filter, to_filter}
+use Rattle.table_learn.proofs.Elements.{none_in, from_flat, to_flat, from_map, to_map, from_filter, to_filter}
+use Rattle.clause_arena.proofs.Lists.{Contains-first, Contains-later, Contains-cases}
 
 -- each element of the one list is one of the other
 abbrev Are : {X : Type 0} → List X → List X → Type 0
@@ -36,9 +37,9 @@ more_numbers : (first k m : ℕ) → k ≤ m → Are (numbers_from first k) (num
 unfolding numbers_from
 more_numbers first zero m h x c = absurd (none_in x c)
 more_numbers first (suc k) zero h x c = absurd (omega (arith, h))
-more_numbers first (suc k) (suc m) h x c = elim (first_or first (numbers_from (suc first) k) x c) [
-  | inl same ↦ subst (λ z. Contains (first ∷ numbers_from (suc first) m) z) same (here_in first (numbers_from (suc first) m))
-  | inr later ↦ later_in first (numbers_from (suc first) m) x (more_numbers (suc first) k m (omega (arith, h)) x later)
+more_numbers first (suc k) (suc m) h x c = elim (Contains-cases first (numbers_from (suc first) k) x c) [
+  | inl same ↦ subst (λ z. Contains (first ∷ numbers_from (suc first) m) z) same (Contains-first first (numbers_from (suc first) m))
+  | inr later ↦ Contains-later first (numbers_from (suc first) m) x (more_numbers (suc first) k m (omega (arith, h)) x later)
 ]
 
 more_registers : (k m : ℕ) → k ≤ m → Are (registers k) (registers m)

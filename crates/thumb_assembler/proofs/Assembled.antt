@@ -8,11 +8,12 @@ use Rattle.thumb_assembler.specs.Bytes.{AreLineBytes, IsSetBy, AreImage, flaw_of
 use Rattle.std.proofs.Math.ListN.{drop_of_length-le}
 use Rattle.listing_parser.specs.declared.line.ListingLine.{ListingLine as Lines}
 use Rattle.listing_parser.specs.Views.{line_view}
-use Rattle.label_layout.proofs.Sums.{at_end, next_line}
+use Rattle.label_layout.proofs.Sums.{at_end}
 use Rattle.thumb_assembler.specs.declared.errors.Flaw.{Flaw}
 use Rattle.thumb_assembler.specs.Fair.{is_fair, are_fair}
 use Rattle.thumb_assembler.specs.Pushes.{placed, PushedLaid}
 use Rattle.thumb_assembler.proofs.Places.{size_even}
+use Rattle.listing_parser.proofs.Shared.{next_line}
 
 -- what completes the lines that are left completes all, behind these bytes
 pub Completes : ℕ → List ListingLine → ℕ → List ListingLine → List ℕ → Type 0

@@ -4,3 +4,4 @@ pub mod Listed
 pub mod PartLemmas
 pub mod Registers
 pub mod RenamingLemmas
+pub mod Shared

@@ -13,7 +13,7 @@ use Rattle.thumb_model.specs.Naming.{Naming, Fits, is_in_range, points}
 use Rattle.thumb_model.specs.Steps.{label_place}
 use Rattle.thumb_machine.specs.Fitting.{all_apart, apart, is_code_word, is_outside}
 use Rattle.thumb_machine.specs.Laid.{place_name}
-use Rattle.thumb_machine.proofs.PointsMade.{drop_at}
+use Rattle.common_lemmas.proofs.Lists.{drop_at}
 
 -- ---- lists ----
 

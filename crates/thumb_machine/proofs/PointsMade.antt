@@ -8,15 +8,11 @@ use Rattle.thumb_model.specs.Naming.{Naming, points_of, returns_from}
 use Rattle.thumb_model.specs.Steps.{point_among}
 use Rattle.thumb_machine.specs.Making.{merged}
 use Rattle.thumb_machine.specs.Walking.{name_points}
+use Rattle.common_lemmas.proofs.Lists.{drop_at}
 
 pub merged_none : (o : Option ℕ) → merged o None ≡ o
 merged_none None = refl
 merged_none (Some p) = refl
-
-pub drop_at : {A : Type 0} (xs : List A) (p : ℕ) (x : A) → slice_get xs p ≡ Some x → drop p xs ≡ x ∷ drop (suc p) xs
-drop_at [] p x h = absurd (cc)
-drop_at (y ∷ ys) zero x h = ap (λ z. z ∷ ys) (same_Some y x h)
-drop_at (y ∷ ys) (suc p) x h = drop_at ys p x h
 
 -- ---- return points ----
 

@@ -6,6 +6,7 @@ use Rattle.std.proofs.lemmas.Bool.{cases_Bool, and_parts}
 use Rattle.thumb_machine.specs.declared.distinct.Rising.{Rising}
 use Rattle.thumb_machine.specs.Fitting.{all_apart, apart, risen, rises}
 use Rattle.thumb_machine.specs.Walking.{all_pass}
+use Rattle.common_lemmas.proofs.Booleans.{eqb_sym}
 
 one_of_two : (a b : Bool) → (a ≡ true) ⊎ (b ≡ false) → (a || not b) ≡ true
 one_of_two a b (inl e) = rw e refl
@@ -45,9 +46,6 @@ apart_behind r v q (x ∷ xs) order up behind =
     rw more.0 (apart_behind (risen r x.0 x.1) v q xs (stays_ordered r x.0 x.1 order) ups.1 more.1)
 
 -- ---- each two, where each is apart from those behind it ----
-
-eqb_sym : (a b : ℕ) → (a == b) ≡ (b == a)
-eqb_sym a b = grind arith
 
 apart_sym : (x y : ℕ × ℕ) → apart x y ≡ apart y x
 apart_sym x y = ap₂ (λ a b. a || not b) (eqb_sym x.1 y.1) (eqb_sym x.0 y.0)

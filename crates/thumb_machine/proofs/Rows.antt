@@ -5,9 +5,10 @@ use Rattle.std.proofs.lemmas.Bool.{cases_lt, cases_Bool}
 use Rattle.std.proofs.lemmas.Option.{slice_get_past, same_Some}
 use Rattle.thumb_model.specs.Listing.{Code, Place, call_count, is_call}
 use Rattle.thumb_model.specs.Naming.{Naming}
-use Rattle.thumb_model.proofs.Lists.{get_front, get_back}
+use Rattle.thumb_model.proofs.Lists.{get_back}
 use Rattle.thumb_machine.specs.declared.program.PlaceContents.{PlaceContents}
 use Rattle.thumb_machine.specs.Running.{IsPlaceContents}
+use Rattle.common_lemmas.proofs.Lists.{get_front}
 
 pub call_next : (xs : List Place) (p : ℕ) (x : Place) → slice_get xs p ≡ Some x → call_count (take (suc p) xs) ≡ call_count (take p xs) + (if is_call x then 1 else 0)
 call_next [] p x h = absurd (cc)

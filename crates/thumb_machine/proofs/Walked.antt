@@ -9,10 +9,7 @@ use Rattle.thumb_model.proofs.Moved.{returns_append}
 use Rattle.thumb_model.proofs.Returns.{statement_calls}
 use Rattle.thumb_machine.specs.Walking.{all_pass, points_from}
 use Rattle.thumb_machine.proofs.PointsMade.{points_append}
-
-and_assoc : (a b c : Bool) → ((a && b) && c) ≡ (a && (b && c))
-and_assoc true b c = refl
-and_assoc false b c = refl
+use Rattle.common_lemmas.proofs.Booleans.{and_assoc}
 
 -- two lines of tests, line by line
 crossed : (a b c d : Bool) → ((a && b) && (c && d)) ≡ (a && (c && (b && d)))

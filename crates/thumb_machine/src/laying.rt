@@ -1,6 +1,6 @@
 //! The naming that a listing is laid out with.
 ghost use Rattle.std.specs.Prelude.{◌≡◌, ◌<◌, ◌≤◌, ◌+◌, ◌^◌, ◌++◌, ◌∷◌, [], ℕ, true, false, List, Some, map, length, take, option_map, slice_get, IfOk, OnOk, MatchOption};
-ghost use Rattle.thumb_model.specs.Listing.{ListingLine, Name, call_count, places_of};
+ghost use Rattle.thumb_model.specs.Listing.{ListingLine as LineModel, Name, call_count, places_of};
 ghost use Rattle.thumb_model.specs.Naming.{last_is_call, return_address};
 ghost use Rattle.listing_parser.specs.Views.{line_view, place_view, statement_view};
 ghost use Rattle.listing_parser.specs.Targets.{defined_in, set_names};
@@ -133,7 +133,7 @@ fn add_own(
     count: u64,
 ) -> Result<u64, AllocError>
     requires { count < 2 ^ 32 }
-    ensures own { (base : ℕ) (lines : List ListingLine) (known : List Name) → count ≡ length known → AreOwn base lines known words.old.entries →
+    ensures own { (base : ℕ) (lines : List LineModel) (known : List Name) → count ≡ length known → AreOwn base lines known words.old.entries →
         IfOk result (λ r. AreOwn base lines (with_name base lines known (Some name.now.items)) words.new.entries × (r ≡ length (with_name base lines known (Some name.now.items)))) }
     ensures few { IfOk result (λ r. r ≤ count + 1) }
 {

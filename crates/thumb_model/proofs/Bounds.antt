@@ -71,9 +71,3 @@ reversal_small reversal.Revsh x = sign_small_16 (byte x 0 * 2 ^ 8 + byte x 1)
 
 pub and_small : (x y : ℕ) → x < 2 ^ 32 → y < 2 ^ 32 → bit_and x y < 2 ^ 32
 and_small x y h k = and_lt 32 x y h k
-
-pub or_small : (x y : ℕ) → x < 2 ^ 32 → y < 2 ^ 32 → bit_or x y < 2 ^ 32
-or_small x y h k = or_lt 32 x y h k
-
-pub xor_small : (x y : ℕ) → x < 2 ^ 32 → y < 2 ^ 32 → bit_xor x y < 2 ^ 32
-xor_small x y h k = xor_lt 32 x y h k

@@ -24,7 +24,8 @@ use Rattle.thumb_model.specs.Accesses.{is_device, access_size, value_at, with_va
 use Rattle.thumb_model.specs.Acts.{act, branches, jumps, calls_out, calls, calls_by, with_pc, popping, pops_to, pops, hints}
 use Rattle.thumb_instr.specs.Window.{AreBelow}
 use Rattle.thumb_model.proofs.Small.{registers_low}
-use Rattle.thumb_model.proofs.Bounds.{sum_small, shift_small, sign_small_8, sign_small_16, extension_small, reversal_small, and_small, or_small, xor_small}
+use Rattle.thumb_model.proofs.Bounds.{sum_small, shift_small, sign_small_8, sign_small_16, extension_small, reversal_small, and_small}
+use Rattle.std.proofs.lemmas.Nat.{or_of_32, xor_of_32}
 
 -- the items hold words, and the stack pointer a multiple of 4
 pub record AreHeld (v : Values) : Type 0 where
@@ -115,7 +116,7 @@ product_small x y = mod-lt (y * x) {m = 2 ^ 32} (omega arith)
 -- a row: an operation puts words
 two_values : (o : Operation) (d : Within 0 8) (x y c : ℕ) → x < 2 ^ 32 → y < 2 ^ 32 → AreValues (two_outputs o d.number x y c)
 two_values operation.And d x y c hx hy = result_values d _ (and_small x y hx hy)
-two_values o d x y c hx hy = search (arith, result_values, shift_values, sum_values, result_flag_values, sum_flag_values, shift_small, and_small, or_small, xor_small, complement_small, product_small)
+two_values o d x y c hx hy = search (arith, result_values, shift_values, sum_values, result_flag_values, sum_flag_values, shift_small, and_small, or_of_32, xor_of_32, complement_small, product_small)
 
 byte_values : (o : ByteOperation) (d : Within 0 8) (x n : ℕ) → n < 256 → AreValues (byte_outputs o d.number x n)
 byte_values byte.Mov d x n h = result_values d n (omega arith)

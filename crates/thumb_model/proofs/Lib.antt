@@ -15,3 +15,4 @@ pub mod Examples
 pub mod Cuts
 pub mod Reaches
 pub mod Returns
+pub mod Shared

@@ -12,7 +12,8 @@ use Rattle.thumb_model.specs.Naming.{Naming, Fits, points_of, points, returns_fr
 use Rattle.thumb_model.specs.Steps.{label_place, least_or, point_among}
 use Rattle.thumb_model.specs.Literals.{HasLiterals, is_word_place}
 use Rattle.thumb_model.specs.Replaced.{moved, move_label, replaced}
-use Rattle.thumb_model.proofs.Lists.{get_drop, get_take, get_front, get_back, length_map, take_all, take_back, length_drop}
+use Rattle.thumb_model.proofs.Lists.{get_drop, get_take, get_back, length_map, take_all, take_back, length_drop}
+use Rattle.common_lemmas.proofs.Lists.{get_front}
 
 -- ---- calls ----
 

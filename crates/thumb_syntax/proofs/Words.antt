@@ -110,7 +110,7 @@ front_whole p (b ∷ bs) all =
     let r = front_whole p bs parts.1 in
     (rw parts.0 (ap (λ (w : List ℕ). b ∷ w) r.0), rw parts.0 r.1)
 
-front_before : (p : ℕ → Bool) (w : List ℕ) (b : ℕ) (bs : List ℕ) → list_all p w ≡ true → p b ≡ false → (front p (w ++ b ∷ bs) ≡ w) × (rest p (w ++ b ∷ bs) ≡ b ∷ bs)
+pub front_before : (p : ℕ → Bool) (w : List ℕ) (b : ℕ) (bs : List ℕ) → list_all p w ≡ true → p b ≡ false → (front p (w ++ b ∷ bs) ≡ w) × (rest p (w ++ b ∷ bs) ≡ b ∷ bs)
 front_before p [] b bs all out = (rw out refl, rw out refl)
 front_before p (x ∷ xs) b bs all out =
     let parts = and_parts (p x) (list_all p xs) all in

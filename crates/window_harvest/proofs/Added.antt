@@ -6,6 +6,7 @@ use Rattle.thumb_model.specs.Listing.{ListingLine}
 use Rattle.seq_enum.specs.Alphabet.{numbers_from}
 use Rattle.window_harvest.specs.Harvest.{Pair, Limits, WindowSpan, IsPairAt, ArePairs, none, passed, given, AreFirsts, ended, known, new, spot_of, spots_at, spots, AreAdded}
 use Rattle.window_harvest.specs.Keys.{IsPut}
+use Rattle.std.proofs.lemmas.List.Concat.{flat_map-append}
 
 pairs_append : (limits : Limits) (lines : List ListingLine) (ys : List WindowSpan) (b : List Pair) → ArePairs limits lines ys b → (xs : List WindowSpan) (a : List Pair) → ArePairs limits lines xs a → ArePairs limits lines (xs ++ ys) (a ++ b)
 pairs_append limits lines ys b q _ _ none = q
@@ -68,10 +69,6 @@ map_append : {A B : Type 0} (f : A → B) (xs ys : List A) → map f (xs ++ ys) 
 map_append f [] ys = refl
 map_append f (x ∷ xs) ys = ap (λ l. f x ∷ l) (map_append f xs ys)
 
-flat_append : {A B : Type 0} (f : A → List B) (xs ys : List A) → flat_map f (xs ++ ys) ≡ flat_map f xs ++ flat_map f ys
-flat_append f [] ys = refl
-flat_append f (x ∷ xs) ys = ap (λ l. f x ++ l) (flat_append f xs ys) ∙ sym (append_assoc (f x) (flat_map f xs) (flat_map f ys))
-
 -- the spots of a place, one more
 pub spots_more : (limits : Limits) (lines : List ListingLine) (place n : ℕ) (seen mid next : List Pair) → AreAdded limits lines (map (spot_of place) (numbers_from 1 n)) seen mid → AreAdded limits lines (spot_of place (n + 1) ∷ []) mid next
     → AreAdded limits lines (map (spot_of place) (numbers_from 1 (n + 1))) seen next
@@ -109,7 +106,7 @@ places_none limits lines left seen = subst (λ l. AreAdded limits lines (flat_ma
 pub places_more : (limits : Limits) (lines : List ListingLine) (left place : ℕ) (seen mid next : List Pair) → AreAdded limits lines (spots left place) seen mid → AreAdded limits lines (spots_at left place) mid next → AreAdded limits lines (spots left (place + 1)) seen next
 places_more limits lines left place seen mid next a b =
     let same : spots left (place + 1) ≡ spots left place ++ spots_at left place =
-    ap (flat_map (spots_at left)) (numbers_more 0 place) ∙ flat_append (spots_at left) (numbers_from 0 place) ((0 + place) ∷ []) ∙ ap (λ l. spots left place ++ l) (append-nil (spots_at left (0 + place)) ∙ ap (spots_at left) (let e : 0 + place ≡ place = omega arith in e)) in
+    ap (flat_map (spots_at left)) (numbers_more 0 place) ∙ flat_map-append (spots_at left) (numbers_from 0 place) ((0 + place) ∷ []) ∙ ap (λ l. spots left place ++ l) (append-nil (spots_at left (0 + place)) ∙ ap (spots_at left) (let e : 0 + place ≡ place = omega arith in e)) in
     subst (λ (l : List WindowSpan). AreAdded limits lines l seen next) (sym same) (added_append limits lines (spots left place) (spots_at left place) seen mid next a b)
 
 pub pairs_more : {A B : Type 0} (f : A → B) (xs : List A) (x : A) → map f (xs ++ x ∷ []) ≡ map f xs ++ f x ∷ []

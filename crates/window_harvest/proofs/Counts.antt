@@ -3,7 +3,7 @@ use Rattle.std.proofs.Common.{◌≡◌, ℕ, zero, suc, ◌-◌, ◌<◌, ◌�
 use Rattle.std.specs.Prelude.{slice_get, if◌then◌else◌}
 use Rattle.std.specs.List.{flat_map, list_all}
 use Rattle.std.specs.Option.{option_map}
-use Rattle.std.proofs.lemmas.Bool.{and_parts}
+use Rattle.std.proofs.lemmas.Bool.{and_parts, or_from}
 use Rattle.std.proofs.lemmas.Bool.Decides.{leb_tells}
 use Rattle.std.proofs.lemmas.List.{map-append}
 use Rattle.std.proofs.lemmas.List.{length-map}
@@ -13,19 +13,18 @@ use Rattle.thumb_instr.specs.Window.{is_in_window, normal_of, Low, named, rename
 use Rattle.thumb_instr.proofs.RenamingLemmas.{named_renamed, below_parts}
 use Rattle.thumb_model.specs.Effect.{above, register_count}
 use Rattle.rule_table.specs.Canonical.{has, with_first, firsts, numbers_of, appearing, IsRenamable, IsCanonical}
-use Rattle.window_harvest.proofs.Once.{AreDistinct, distinct_firsts, or_false, or_parts, has_append, has_at, name_at}
+use Rattle.window_harvest.proofs.Once.{AreDistinct, distinct_firsts, or_parts, has_append, name_at}
 use Rattle.window_harvest.proofs.Pairs.{seq_letters}
 use Rattle.thumb_model.proofs.Small.{below_append}
+use Rattle.rule_model.proofs.Alone.{above_most}
+use Rattle.thumb_instr.proofs.Shared.{named_all}
+use Rattle.rule_table.proofs.Shared.{has_at}
 
 -- ---- counts and bounds ----
 
-above_least : (k : ℕ) (xs : List ℕ) → AreBelow k xs → above xs ≤ k
-above_least k [] h = omega arith
-above_least k (x ∷ xs) h = let low = h.0 in omega (arith, above_least k xs h.1)
-
 count_least : (k : ℕ) (is : List Instr) → AreBelow k (flat_map named is) → register_count is ≤ k
 count_least k [] h = omega arith
-count_least k (i ∷ is) h = let p = below_parts k (named i) (flat_map named is) h in omega (arith, above_least k (named i) p.0, count_least k is p.1)
+count_least k (i ∷ is) h = let p = below_parts k (named i) (flat_map named is) h in omega (arith, above_most k (named i) p.0, count_least k is p.1)
 
 above_below : (k : ℕ) (xs : List ℕ) → above xs ≤ k → AreBelow k xs
 above_below k [] h = tt
@@ -37,16 +36,10 @@ count_below k (i ∷ is) h = below_append k (named i) (flat_map named is) (above
 
 -- ---- the last register of the order ----
 
-named_all : (f : List Low) (is : List Instr) → list_all is_in_window is ≡ true → flat_map named (map (renamed f) is) ≡ map (item_under f) (flat_map named is)
-named_all f [] w = refl
-named_all f (i ∷ is) w =
-    let v = and_parts (is_in_window i) (list_all is_in_window is) w in
-    rw (named_renamed f i v.0, named_all f is v.1) (sym (map-append (item_under f) (named i) (flat_map named is)))
-
 -- registers below a place in the order aren't renamed to the register there
 none_there : (f : List Low) (j m r : ℕ) (xs : List ℕ) → AreDistinct (numbers_of f) → slice_get (numbers_of f) j ≡ Some r → m ≤ j → j < length f → AreBelow m xs → has (map (item_under f) xs) r ≡ false
 none_there f j m r [] d e h l a = refl
-none_there f j m r (x ∷ xs) d e h l a = or_false (item_under f x == r) (has (map (item_under f) xs) r) (go (slice_get f x) refl (item_under f x == r) refl) (none_there f j m r xs d e h l a.1)
+none_there f j m r (x ∷ xs) d e h l a = or_from (item_under f x == r) (has (map (item_under f) xs) r) (go (slice_get f x) refl (item_under f x == r) refl) (none_there f j m r xs d e h l a.1)
   where
     some_at : (ys : List Low) (i : ℕ) → i < length ys → slice_get ys i ≡ None → ⊥
     some_at [] i h e = omega arith
@@ -69,7 +62,7 @@ none_appears seen (r ∷ rs) x a b = none_appears (with_first seen r) rs x (go (
   where
     go : (t : Bool) → has (if t then seen else seen ++ r ∷ []) x ≡ false
     go true = a
-    go false = has_append seen (r ∷ []) x ∙ or_false (has seen x) (has (r ∷ []) x) a (or_false (r == x) false (or_parts (r == x) (has rs x) b).0 refl)
+    go false = has_append seen (r ∷ []) x ∙ or_from (has seen x) (has (r ∷ []) x) a (or_from (r == x) false (or_parts (r == x) (has rs x) b).0 refl)
 
 -- a canonical form names each register of its map
 not_fewer : (f : List Low) (seq normals : List Instr) → list_all is_in_window seq ≡ true → map (renamed f) seq ≡ normals → numbers_of f ≡ appearing normals → register_count seq < length f → ⊥

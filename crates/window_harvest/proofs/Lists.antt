@@ -4,7 +4,8 @@ use Rattle.std.specs.Prelude.{slice_get, Contains, All}
 use Rattle.std.specs.List.{flat_map}
 use Rattle.std.specs.Option.{option_map}
 use Rattle.std.proofs.lemmas.Option.{slice_get-map, slice_get_within, get_or_from_slice_get, slice_get_read}
-use Rattle.seq_enum.proofs.Numbered.{get_front, get_back}
+use Rattle.seq_enum.proofs.Numbered.{get_back}
+use Rattle.common_lemmas.proofs.Lists.{get_front}
 
 -- an element stands in a list
 abbrev pub In : {A : Type 0} → List A → A → Type 0

@@ -4,7 +4,7 @@ use Rattle.std.specs.Prelude.{slice_get, nat_lt, if◌then◌else◌}
 use Rattle.std.specs.Int.{bit_at}
 use Rattle.std.specs.List.{flat_map, list_all}
 use Rattle.std.specs.Option.{option_map}
-use Rattle.std.proofs.lemmas.Bool.{and_parts, and_from}
+use Rattle.std.proofs.lemmas.Bool.{and_parts, and_from, or_from}
 use Rattle.std.proofs.lemmas.Nat.Bits.{bit_at-lt, same_from_bits}
 use Rattle.std.proofs.lemmas.Option.{slice_get-map}
 use Rattle.std.proofs.lemmas.List.{length-map}
@@ -19,31 +19,14 @@ use Rattle.rule_table.specs.Canonical.{has, with_first, firsts, name_in, numbers
 use Rattle.rule_table.proofs.Backs.{windows_normal, eight, eight_at}
 use Rattle.rule_table.proofs.Renamings.{AllNamed, ComesBack, renamed_back}
 pub use Rattle.std.proofs.lemmas.Bool.{or_parts}
-
--- ---- there and back ----
-
--- a row: what is renamed to an instruction of a window is one, where its registers are low
-window_back : (f : List Low) (k : ℕ) (i : Instr) → k ≤ 8 → AreBelow k (named i) → is_in_window (renamed f i) ≡ true → is_in_window i ≡ true
-window_back f k (instr.Mov d m) h a w = and_from (nat_lt d.number 8) (nat_lt m.number 8) (lt-ltb d.number 8 (let b = a.0 in omega arith)) (lt-ltb m.number 8 (let b = a.1.0 in omega arith))
-window_back f k (instr.Add r) h a w = and_from (nat_lt r.target.number 8) (nat_lt r.source.number 8) (lt-ltb r.target.number 8 (let b = a.0 in omega arith)) (lt-ltb r.source.number 8 (let b = a.1.0 in omega arith))
-window_back f k i h a w = w
-
-pub windows_back : (f : List Low) (k : ℕ) (is : List Instr) → k ≤ 8 → AreBelow k (flat_map named is) → list_all is_in_window (map (renamed f) is) ≡ true → list_all is_in_window is ≡ true
-windows_back f k [] h a w = refl
-windows_back f k (i ∷ is) h a w =
-    let b = below_parts k (named i) (flat_map named is) a in
-    let v = and_parts (is_in_window (renamed f i)) (list_all is_in_window (map (renamed f) is)) w in
-    and_from (is_in_window i) (list_all is_in_window is) (window_back f k i h b.0 v.0) (windows_back f k is h b.1 v.1)
+use Rattle.thumb_instr.proofs.Shared.{window_back, windows_back}
+use Rattle.rule_table.proofs.Shared.{has_at, same_numbers}
 
 -- ---- names of registers ----
 
 abbrev pub AreDistinct : List ℕ → Type 0
 AreDistinct [] = Unit {0}
 AreDistinct (x ∷ xs) = (has xs x ≡ false) × AreDistinct xs
-
-pub or_false : (a b : Bool) → a ≡ false → b ≡ false → (a || b) ≡ false
-or_false true b e f = e
-or_false false b e f = f
 
 pub has_append : (xs ys : List ℕ) (x : ℕ) → has (xs ++ ys) x ≡ (has xs x || has ys x)
 has_append xs ys x = list_any-append (λ y. y == x) xs ys
@@ -59,7 +42,7 @@ distinct_more : (xs : List ℕ) (r : ℕ) → AreDistinct xs → has xs r ≡ fa
 distinct_more [] r d h = (refl, tt)
 distinct_more (x ∷ xs) r d h =
     let p = or_parts (x == r) (has xs r) h in
-    (has_append xs (r ∷ []) x ∙ or_false (has xs x) (has (r ∷ []) x) d.0 (or_false (r == x) false (not_same x r p.0) refl), distinct_more xs r d.1 p.1)
+    (has_append xs (r ∷ []) x ∙ or_from (has xs x) (has (r ∷ []) x) d.0 (or_from (r == x) false (not_same x r p.0) refl), distinct_more xs r d.1 p.1)
 
 pub distinct_firsts : (seen rs : List ℕ) → AreDistinct seen → AreDistinct (firsts seen rs)
 unfolding firsts
@@ -69,15 +52,6 @@ distinct_firsts seen (r ∷ rs) d = distinct_firsts (with_first seen r) rs (go (
     go : (b : Bool) → has seen r ≡ b → AreDistinct (if b then seen else seen ++ r ∷ [])
     go true h = d
     go false h = distinct_more seen r d h
-
-pub has_at : (xs : List ℕ) (i r : ℕ) → slice_get xs i ≡ Some r → has xs r ≡ true
-has_at [] i r e = absurd (cc)
-has_at (x ∷ xs) zero r e = let s : x ≡ r = cc in ap (λ b. b || has xs r) (eq-eqb x r s)
-has_at (x ∷ xs) (suc i) r e = go (x == r) (has_at xs i r e)
-  where
-    go : (b : Bool) → has xs r ≡ true → (b || has xs r) ≡ true
-    go true h = refl
-    go false h = h
 
 -- a register's name is the place where it stands
 pub name_at : (xs : List ℕ) (i r : ℕ) → AreDistinct xs → slice_get xs i ≡ Some r → name_in xs r ≡ i
@@ -136,15 +110,6 @@ seq_back f k (i ∷ is) n h d a w =
 
 -- ---- one form ----
 
-same_registers : (f g : List Low) → numbers_of f ≡ numbers_of g → f ≡ g
-same_registers [] [] e = refl
-same_registers [] (y ∷ g) e = absurd (cc)
-same_registers (x ∷ f) [] e = absurd (cc)
-same_registers (x ∷ f) (y ∷ g) e =
-    let head : x.number ≡ y.number = cc in
-    let tail : numbers_of f ≡ numbers_of g = cc in
-    ap (λ z. z ∷ f) (same_number x y head) ∙ ap (λ zs. y ∷ zs) (same_registers f g tail)
-
 same_bit : (a b x : ℕ) → has_item a x ≡ has_item b x → bit_at a x ≡ bit_at b x
 same_bit a b x = go (bit_at a x) (bit_at b x) (bit_at-lt a x) (bit_at-lt b x)
   where
@@ -163,7 +128,7 @@ same_words a b h = same_from_bits a b (λ x. same_bit a b x (h x))
 pub canonical_once : (window : List Instr) (items : ℕ) (seq other : List Instr) (given too : List (Option Low)) (mask next : ℕ) → list_all is_in_window window ≡ true → length (appearing (map normal_of window)) ≤ 4
     → IsCanonical window items seq given mask → IsCanonical window items other too next → (seq ≡ other) × (mask ≡ next)
 canonical_once window items seq other given too mask next w few a b =
-    let same : a.registers ≡ b.registers = same_registers a.registers b.registers (a.order ∙ sym b.order) in
+    let same : a.registers ≡ b.registers = same_numbers a.registers b.registers (a.order ∙ sym b.order) in
     let k = length a.registers in
     let count : k ≤ 4 = omega (arith, ap length a.order, length-map a.registers (λ (r : Low). r.number)) in
     let distinct : AreDistinct (numbers_of a.registers) = subst AreDistinct (sym a.order) (distinct_firsts [] (flat_map named (map normal_of window)) tt) in

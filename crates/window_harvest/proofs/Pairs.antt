@@ -10,16 +10,9 @@ use Rattle.rule_table.specs.Canonical.{IsRenamable, IsCanonical}
 use Rattle.rule_table.proofs.Backs.{windows_normal}
 use Rattle.window_harvest.specs.Harvest.{Pair, Limits, WindowSpan, StandsThere, IsPairAt}
 use Rattle.window_harvest.specs.Keys.{Lies}
-use Rattle.window_harvest.proofs.Once.{windows_back, same_words, canonical_once}
-
-plain_same : (is js : List Instr) → map plain is ≡ map plain js → is ≡ js
-plain_same [] [] e = refl
-plain_same [] (j ∷ js) e = absurd (cc)
-plain_same (i ∷ is) [] e = absurd (cc)
-plain_same (i ∷ is) (j ∷ js) e =
-    let here : i ≡ j = cc in
-    let there : map plain is ≡ map plain js = cc in
-    ap (λ k. k ∷ is) here ∙ ap (λ ks. j ∷ ks) (plain_same is js there)
+use Rattle.window_harvest.proofs.Once.{same_words, canonical_once}
+use Rattle.rule_model.proofs.Unique.{plain_same}
+use Rattle.thumb_instr.proofs.Shared.{windows_back}
 
 same_test : (a b : Bool) (P : Type 0) → (a ≡ true) ↔ P → (b ≡ true) ↔ P → a ≡ b
 same_test true b P e f = sym (f.1 (e.0 refl))

@@ -19,7 +19,6 @@ use Rattle.rule_model.proofs.Alone.{alone_at}
 use Rattle.listing_parser.specs.Grammar.{most_lines}
 use Rattle.listing_parser.specs.Parsing.{own_line}
 use Rattle.seq_enum.specs.Costs.{weight_under}
-use Rattle.kept_layout.proofs.Cutting.{two_bytes}
 use Rattle.window_rewrite.specs.Settled.{IsSettled}
 use Rattle.window_rewrite.proofs.Settled.{left_places, IsGap, settled_stay, stay_settled}
 use Rattle.window_rewrite.proofs.RuleWindows.{applied_gap, applied_stay}
@@ -30,6 +29,7 @@ use Rattle.window_rewrite.proofs.Applied.{made, rule_there, fits_lighter, letter
 use Rattle.window_rewrite.proofs.Live.{Allowed}
 use Rattle.window_rewrite.proofs.Weights.{lighter_some, lighter_true, lowers_same}
 use Rattle.window_rewrite.proofs.Whole.{alike_registers, front_allowed, front_apart, front_matches}
+use Rattle.thumb_model.proofs.Shared.{two_bytes, same_fault}
 
 -- ---- the layout ----
 
@@ -85,14 +85,6 @@ left_as base lines ls ms h left = record {
   few = subst (λ n. n ≤ max (length lines) most_lines) (long_as ls ms h) left.few;
   layable = layable_as base ls ms h left.layable;
 }
-
-same_fault : (lies other : Name → Option ℕ) → ((name : Name) → lies name ≡ other name) → (at : ℕ) (s : Statement) → fault_at lies at s ≡ fault_at other at s
-same_fault lies other e at Nothing = refl
-same_fault lies other e at (Instruction i None) = refl
-same_fault lies other e at (Instruction i (Some m)) = ap (λ o. aim_fault at i o m.plus) (e m.name)
-same_fault lies other e at (Words vs) = refl
-same_fault lies other e at (Aligns size most) = refl
-same_fault lies other e at (Sets name address) = refl
 
 same_line : (l : ListingLine) → IsLaidAs l l
 same_line l = record { names = refl; size = λ _. refl; sets = λ _ _. refl; fault = λ lies other e at. same_fault lies other e at l.statement }

@@ -1,6 +1,6 @@
 -- Alignment lines between the instructions of a window, where other instructions give way before it or behind it.
 use Rattle.std.proofs.Common.{◌≡◌, ℕ, zero, suc, ◌+◌, ◌-◌, ◌<◌, ◌≤◌, ◌==◌, ◌&&◌, Bool, true, false, List, [], ◌∷◌, ◌++◌, length, drop, map, refl, sym, ap, ◌∙◌, subst, arith, ne_eqb, if◌then◌else◌}
-use Rattle.std.proofs.lemmas.Bool.{eqb-true}
+use Rattle.std.proofs.lemmas.Bool.{eqb-true, and_parts}
 use Rattle.thumb_instr.specs.declared.instr.Instr.{Instr}
 use Rattle.thumb_model.specs.Listing.{Name, Statement, Nothing, Instruction, Words, Aligns, Sets, ListingLine, Place, places_in, places_of}
 use Rattle.thumb_model.specs.Replaced.{is_op, is_align, without, labels_kept, new_line, replaced_lines, are_joined, are_joined_from}
@@ -59,11 +59,6 @@ cases : (b : Bool) {P : Type 0} → (b ≡ true → P) → (b ≡ false → P) �
 cases true f g = f refl
 cases false f g = g refl
 
-both_true : (a b : Bool) → (a && b) ≡ true → (a ≡ true) × (b ≡ true)
-both_true true true e = (refl, refl)
-both_true true false e = absurd (cc)
-both_true false b e = absurd (cc)
-
 -- how a line is passed
 pub passes : (q n : ℕ) (l : ListingLine) (ls : List ListingLine) → (is_op l.statement && (q == 0)) ≡ false → are_joined_from q n (l ∷ ls) ≡ are_joined_from (q - length (places_in l.statement)) n ls
 passes q n l ls e = ap (λ b. if b then are_joined (n - 1) ls else are_joined_from (q - length (places_in l.statement)) n ls) e
@@ -110,7 +105,7 @@ joined_before write p c is q n (l ∷ ls) h a =
     let rest : List ListingLine = replaced_lines write (p - length (places_in l.statement)) c is ls in
     ap (are_joined_from q (suc n)) kept ∙ cases (is_op l.statement && (q == 0))
     (λ e.
-    let b = both_true (is_op l.statement) (q == 0) e in
+    let b = and_parts (is_op l.statement) (q == 0) e in
     let first : q ≡ 0 = eqb-true q 0 b.1 in
     let one = one_place l.statement b.0 in
     let here : AreOps (suc n) (places_in l.statement ++ places_of ls) = subst (λ k. AreOps (suc n) (drop k (places_in l.statement ++ places_of ls))) first a in
@@ -167,7 +162,7 @@ pub joined_behind : (write : Instr → List ℕ) (p c : ℕ) (is : List Instr) (
 joined_behind write p c is q r n [] h e a = refl
 joined_behind write p c is q r n (l ∷ ls) h e a = cases (is_op l.statement && (p == 0))
     (λ t.
-    let b = both_true (is_op l.statement) (p == 0) t in
+    let b = and_parts (is_op l.statement) (p == 0) t in
     let first : p ≡ 0 = eqb-true p 0 b.1 in
     let one = one_place l.statement b.0 in
     let here : AreOps (suc c) (places_in l.statement ++ places_of ls) = subst (λ k. AreOps (suc c) (drop k (places_in l.statement ++ places_of ls))) first a in

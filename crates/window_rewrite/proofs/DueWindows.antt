@@ -9,11 +9,12 @@ use Rattle.thumb_instr.specs.Window.{Low, renamed}
 use Rattle.thumb_model.specs.Listing.{plain, Label, Place, Code, is_code, is_op_place}
 use Rattle.thumb_model.specs.Flow.{LiveAfter}
 use Rattle.thumb_model.specs.Replaced.{moved, move_label, replaced}
-use Rattle.thumb_model.proofs.Lists.{get_drop, get_take, get_front, get_back, length_map, take_all, length_drop}
+use Rattle.thumb_model.proofs.Lists.{get_drop, get_take, get_back, length_map, take_all, length_drop}
 use Rattle.rule_model.specs.Rules.{Rule, IsSoundRule, Applies}
 use Rattle.rule_model.proofs.Table.{window_length}
 use Rattle.window_rewrite.proofs.Settled.{first_plain, IsGap}
 use Rattle.window_rewrite.proofs.WindowPlaces.{first_op}
+use Rattle.common_lemmas.proofs.Lists.{get_front}
 
 -- ---- what is left where instructions give way ----
 

@@ -28,9 +28,10 @@ use Rattle.table_audit.proofs.CanonicalForms.{form_is_side}
 use Rattle.window_rewrite.specs.declared.forms.Form.{Form}
 use Rattle.window_rewrite.specs.Fitting.{Stands, Fits, IsForm}
 use Rattle.window_rewrite.specs.Forms.{form_of}
-use Rattle.window_rewrite.proofs.Sides.{AreApart, apart, names_below, windows_over, order, register_at, same_numbers, window_count}
+use Rattle.window_rewrite.proofs.Sides.{AreApart, apart, names_below, windows_over, order, register_at, window_count}
 use Rattle.window_rewrite.proofs.Live.{allowed_true}
 use Rattle.window_rewrite.proofs.Whole.{ComesOf, comes_of, past_none, register_one}
+use Rattle.rule_table.proofs.Shared.{same_numbers}
 
 -- ---- a window in which a left side stands has a canonical form ----
 

@@ -3,7 +3,7 @@ use Rattle.std.proofs.Common.{◌≡◌, ◌↔◌, ℕ, ◌<◌, ◌==◌, ◌&
 use Rattle.std.specs.Prelude.{not, nat_lt}
 use Rattle.std.specs.Int.{bit_at}
 use Rattle.std.specs.List.{list_any}
-use Rattle.std.proofs.lemmas.Bool.{and_parts, and_from, cases_lt, eq-eqb, eqb-true, le-ltb, or_cases}
+use Rattle.std.proofs.lemmas.Bool.{and_parts, and_from, cases_lt, eq-eqb, eqb-true, le-ltb, or_cases, not-true}
 use Rattle.std.proofs.lemmas.Nat.Bits.{bit_at-lt, bit_at-zero, bit_at_ones, bit_at_ones_above, same_from_bits}
 use Rattle.thumb_instr.specs.Items.{has}
 use Rattle.thumb_instr.specs.Window.{Low, item_under}
@@ -88,14 +88,10 @@ allowed_is kept named mask registers x k n = rw (k x, n x) refl
 abbrev pub Allowed : List ℕ → List Low → ℕ → Type 0
 Allowed mask registers x = (one_of x (map (item_under registers) mask) ≡ true) ⊎ ((x < 15) × (one_of x (map (λ r. r.number) registers) ≡ false))
 
-not_true : (a : Bool) → not a ≡ true → a ≡ false
-not_true true e = absurd (cc)
-not_true false e = refl
-
 pub allowed_true : (mask : List ℕ) (registers : List Low) (x : ℕ) → is_allowed mask registers x ≡ true → Allowed mask registers x
 allowed_true mask registers x h = elim (or_cases (one_of x (map (item_under registers) mask)) (nat_lt x 15 && not (one_of x (map (λ r. r.number) registers))) h) [
   | inl m ↦ inl m
-  | inr o ↦ (let b = and_parts (nat_lt x 15) (not (one_of x (map (λ r. r.number) registers))) o in inr (ltb-true x 15 b.0, not_true _ b.1))
+  | inr o ↦ (let b = and_parts (nat_lt x 15) (not (one_of x (map (λ r. r.number) registers))) o in inr (ltb-true x 15 b.0, not-true _ b.1))
 ]
 
 pub true_allowed : (mask : List ℕ) (registers : List Low) (x : ℕ) → Allowed mask registers x → is_allowed mask registers x ≡ true

@@ -11,13 +11,14 @@ use Rattle.thumb_instr.specs.Window.{is_in_window, Low, named, renamed, AreBelow
 use Rattle.thumb_instr.proofs.RenamingLemmas.{below_parts}
 use Rattle.thumb_model.specs.Effect.{one_of, register_count, is_named}
 use Rattle.rule_model.specs.Rules.{Rule, IsSoundRule}
-use Rattle.thumb_model.proofs.Lists.{get_front, get_take, take_all}
+use Rattle.thumb_model.proofs.Lists.{get_take, take_all}
 use Rattle.rule_table.specs.Canonical.{has}
 use Rattle.rule_table.proofs.Renamings.{AllNamed, IsSameUnder, renamed_alike}
 use Rattle.rule_table.specs.Matching.{Matches, IsMapOf, registers_in, eight, given_for}
 use Rattle.window_rewrite.specs.TableRewriting.{map_of, registers_of}
 use Rattle.window_rewrite.specs.Fitting.{Stands}
 use Rattle.window_rewrite.proofs.Sides.{names_below, windows_over, apart}
+use Rattle.common_lemmas.proofs.Lists.{get_front}
 
 -- ---- maps that begin alike ----
 

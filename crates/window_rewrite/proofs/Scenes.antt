@@ -48,9 +48,11 @@ use Rattle.window_rewrite.specs.declared.known_layout.KnownLayout.{KnownLayout}
 use Rattle.window_rewrite.specs.Choices.{setting_of, choice_of, IsChoice}
 use Rattle.window_rewrite.specs.Settled.{IsSettled, MayGiveWay}
 use Rattle.window_rewrite.specs.Layouts.{is_steady, Allows, AreOver, HasLayout, IsSteadyIf, Moves, StandsNear}
-use Rattle.window_rewrite.proofs.ScenesWindows.{gives_way, many_marks, many_places, ranked_at, ranked_front, still_padded}
+use Rattle.window_rewrite.proofs.ScenesWindows.{gives_way, ranked_at, still_padded}
 use Rattle.liveness.proofs.Moves.{letter_at}
 use Rattle.edited_listing.proofs.Unchanged.{length_given as many_given}
+use Rattle.padded_code.proofs.Spread.{length_after}
+use Rattle.window_rewrite.proofs.DuePlaces.{taken_ranked, marks_length}
 
 -- ---- at first ----
 
@@ -283,11 +285,11 @@ made_padded was now place ps window new m s many a n k =
 
 pub made_many : (was now : Edited) (place : ℕ) (ps : List ℕ) (window new : List Instr) → IsMade was now place ps window new → length (marks was) ≡ length (padded was).places → length (marks now) ≡ length (padded now).places
 made_many was now place ps window new m many =
-    ap (λ (g : List Bool). length g) m.gone ∙ many_marks ps new (marks was) ∙ many ∙ sym (many_places ps new (padded was).places) ∙ sym (ap (λ (c : Code). length c.places) m.padded_now)
+    ap (λ (g : List Bool). length g) m.gone ∙ marks_length ps new (marks was) ∙ many ∙ sym (length_after ps new (padded was).places) ∙ sym (ap (λ (c : Code). length c.places) m.padded_now)
 
 pub made_stands : (was now : Edited) (place : ℕ) (ps : List ℕ) (window new : List Instr) → IsMade was now place ps window new → length now.stands ≡ length was.stands
 made_stands was now place ps window new m =
-    sym (length_map is_none now.stands) ∙ ap (λ (g : List Bool). length g) m.gone ∙ many_marks ps new (marks was) ∙ length_map is_none was.stands
+    sym (length_map is_none now.stands) ∙ ap (λ (g : List Bool). length g) m.gone ∙ marks_length ps new (marks was) ∙ length_map is_none was.stands
 
 pub made_live : (was now : Edited) (place : ℕ) (ps : List ℕ) (window new : List Instr) (k j : Parts) → IsMade was now place ps window new → IsPadded (marks was) (padded was) (code_of (lines_now was)) → length (marks was) ≡ length (padded was).places
     → AreRanked (marks was) place ps → length ps ≡ length window → MayGiveWay (code_of (lines_now was)) place window new
@@ -298,7 +300,7 @@ made_live was now place ps window new k j m s many a n keeps kept live =
 
 -- the first places of a site, as a slice, are the kept ones of its ranks
 pub front_ranked : (gone : List Bool) (number : ℕ) (items seen : List ℕ) (count : ℕ) → AreRanked gone number items → seen ≡ items → AreRanked gone number (take count seen)
-front_ranked gone number items seen count a e = subst (λ (ps : List ℕ). AreRanked gone number (take count ps)) (sym e) (ranked_front gone number count items a)
+front_ranked gone number items seen count a e = subst (λ (ps : List ℕ). AreRanked gone number (take count ps)) (sym e) (taken_ranked gone number count items a)
 
 pub front_many : (items seen : List ℕ) (count : ℕ) → seen ≡ items → count ≤ length items → length (take count seen) ≡ count
 front_many items seen count e h = let same = ap (λ (ps : List ℕ). length ps) e in take_many count seen (omega arith)

@@ -55,13 +55,6 @@ ranked_at gone r [] a k h = absurd (omega arith)
 ranked_at gone r (p ∷ ps) a zero h = (a.0, a.1, let here = a.2 in omega arith)
 ranked_at gone r (p ∷ ps) a (suc k) h = let b = ranked_at gone (suc r) ps a.3 k (omega arith) in (b.0, b.1, omega (arith, b.2))
 
--- so are the first of them
-pub ranked_front : (gone : List Bool) (r n : ℕ) (ps : List ℕ) → AreRanked gone r ps → AreRanked gone r (take n ps)
-ranked_front gone r zero [] a = tt
-ranked_front gone r zero (p ∷ ps) a = tt
-ranked_front gone r (suc n) [] a = tt
-ranked_front gone r (suc n) (p ∷ ps) a = (a.0, a.1, a.2, ranked_front gone (suc r) n ps a.3)
-
 last_ranked : (gone : List Bool) (r p : ℕ) (ps : List ℕ) → AreRanked gone r (p ∷ ps) → (is_gone gone (last_of p ps) ≡ false) × (rank gone (last_of p ps) ≡ r + length ps)
 last_ranked gone r p [] a = (a.1, let here = a.2 in omega arith)
 last_ranked gone r p (q ∷ ps) a = let l = last_ranked gone (suc r) q ps a.3 in (l.0, omega (arith, l.1))
@@ -74,18 +67,6 @@ kept_from gone places r (p ∷ ps) (i ∷ is) a e =
     let here : slice_get places p ≡ Some (plain i) = cc in
     let there : map (slice_get places) ps ≡ map Some (map plain is) = cc in
     (a.0, a.1, a.2, ap is_op_place here, kept_from gone places (suc r) ps is a.3 there)
-
--- ---- as many places ----
-
-pub many_marks : (ps : List ℕ) (is : List Instr) (gone : List Bool) → length (marks_after ps is gone) ≡ length gone
-many_marks [] is gone = refl
-many_marks (p ∷ ps) [] gone = many_marks ps [] (slice_set gone p true) ∙ length-set gone p true
-many_marks (p ∷ ps) (i ∷ is) gone = many_marks ps is gone
-
-pub many_places : (ps : List ℕ) (is : List Instr) (places : List Place) → length (places_after ps is places) ≡ length places
-many_places [] is places = refl
-many_places (p ∷ ps) [] places = many_places ps [] (slice_set places p nop) ∙ length-set places p nop
-many_places (p ∷ ps) (i ∷ is) places = many_places ps is (slice_set places p (plain i)) ∙ length-set places p (plain i)
 
 -- ---- the window ----
 

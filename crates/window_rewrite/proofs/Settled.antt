@@ -6,7 +6,8 @@ use Rattle.thumb_instr.specs.declared.instr.Instr.{Instr}
 use Rattle.thumb_model.specs.Listing.{Place, plain, Label, is_op_place}
 use Rattle.thumb_model.specs.Replaced.{moved}
 use Rattle.window_rewrite.specs.Settled.{IsSettled}
-use Rattle.thumb_model.proofs.Lists.{get_drop, get_take, get_front, get_back, length_map, take_all}
+use Rattle.thumb_model.proofs.Lists.{get_drop, get_take, get_back, length_map, take_all}
+use Rattle.common_lemmas.proofs.Lists.{get_front}
 
 -- what is left of the instructions' places where `count` of them from place p on give way
 abbrev pub left_places : ℕ → ℕ → List Instr → List Place → List Place

@@ -14,9 +14,10 @@ use Rattle.rule_table.specs.Canonical.{has, with_first, firsts, numbers_of, appe
 use Rattle.table_audit.specs.Shorter.{IsCanonicalSide, named_count}
 use Rattle.table_audit.proofs.Names.{count_same}
 use Rattle.window_rewrite.specs.Fitting.{Stands}
-use Rattle.table_audit.proofs.CanonicalForms.{names_under as names_renamed}
 use Rattle.thumb_model.proofs.Small.{below_append as below_both}
 use Rattle.table_audit.proofs.OneToOne.{below_first as first_below}
+use Rattle.thumb_instr.proofs.Shared.{named_all}
+use Rattle.rule_table.proofs.Shared.{same_numbers}
 
 -- ---- names ----
 
@@ -109,20 +110,11 @@ order rule registers window s c h =
     ∙ ap (λ n. map (item_under registers) (numbers_from 0 n)) (sym count)
     ∙ ap (map (item_under registers)) (sym c.in_order)
     ∙ sym (firsts_map (length registers) (item_under registers) [] (flat_map named rule.left) (apart registers h.one_to_one) tt below)
-    ∙ ap (firsts []) (sym (names_renamed registers rule.left (windows_over (register_count rule.left) rule.left s.left)))
+    ∙ ap (firsts []) (sym (named_all registers rule.left (windows_over (register_count rule.left) rule.left s.left)))
     ∙ ap appearing (sym h.matches)
 
 pub window_count : (rule : Rule) (registers : List Low) (window : List Instr) → Stands rule registers window → length window ≡ length rule.left
 window_count rule registers window h = sym (length-map window normalised) ∙ ap (λ (is : List Instr). length is) h.matches ∙ length-map rule.left (renamed registers)
-
-pub same_numbers : (f g : List Low) → numbers_of f ≡ numbers_of g → f ≡ g
-same_numbers [] [] e = refl
-same_numbers [] (y ∷ g) e = absurd (cc)
-same_numbers (x ∷ f) [] e = absurd (cc)
-same_numbers (x ∷ f) (y ∷ g) e =
-    let head : x.number ≡ y.number = cc in
-    let tail : numbers_of f ≡ numbers_of g = cc in
-    ap (λ z. z ∷ f) (low_is x y head) ∙ ap (λ zs. y ∷ zs) (same_numbers f g tail)
 
 -- a left side stands in a window under one map at most
 pub stands_once : (rule : Rule) (f g : List Low) (window : List Instr) → IsSoundRule rule → IsCanonicalSide rule.left → Stands rule f window → Stands rule g window → f ≡ g

@@ -24,7 +24,7 @@ use crate::scene::{Scene, Site};
 use crate::shadows::is_lighter;
 use kept_layout::Move;
 use listing_parser::Memory;
-use rule_table::{Entry, Family};
+use rule_table::{Entry, Family, Map};
 use seq_enum::Costs;
 use std::alloc::Global;
 use step_ledger::{Ledger, Steps};
@@ -127,6 +127,24 @@ fn copied(window: &[Instr]) -> Seq
     seq
 }
 
+/// The choice by which a window gives way to these instructions.
+fn choice_at(sight: &Sight<'_>, entry: u64, instance: u8, map: Map, new: Seq, moved: Move) -> Choice
+    requires { length sight.now.window.now ≤ 5 }
+    ensures { result ≡ record { replacement = record { place = number_seen sight.now.look.now; entry = entry; instance = instance; map = map }; window = sight.now.window.now; new = new; moved = moved } }
+{
+    Choice {
+        replacement: Replacement {
+            place: sight.look.site.number,
+            entry,
+            instance,
+            map,
+        },
+        window: copied(sight.window),
+        new,
+        moved,
+    }
+}
+
 /// What a rule makes of a window that is as long as its left side. It is an entry, or an instance of a family with the sides and the mask of this one. `refused`
 /// comes to be true where the rule fits and the lines that it leaves are too many or can't be laid out.
 pub(crate) fn try_rule<L: Ledger>(
@@ -176,17 +194,7 @@ pub(crate) fn try_rule<L: Ledger>(
         }
         Some(moved) => moved,
     };
-    Ok(Some(Choice {
-        replacement: Replacement {
-            place: look.site.number,
-            entry,
-            instance,
-            map,
-        },
-        window: copied(sight.window),
-        new,
-        moved,
-    }))
+    Ok(Some(choice_at(sight, entry, instance, map, new, moved)))
 }
 
 /// What the entry of a number makes of a window, where its left side is as long. `refused` comes to be true where the entry fits and what it leaves is refused.

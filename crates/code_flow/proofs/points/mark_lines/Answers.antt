@@ -3,8 +3,9 @@ use Rattle.thumb_model.specs.Effect.{one_of}
 use Rattle.thumb_model.specs.Listing.{ListingLine, places_of, label_places, labels_from, return_places}
 use Rattle.listing_parser.specs.Views.{line_view}
 use Rattle.code_flow.specs.Points.{marked}
-use Rattle.code_flow.proofs.Marking.{line_step, next_line, places_next}
+use Rattle.code_flow.proofs.Marking.{line_step, places_next}
 use Rattle.code_flow.proofs.points.mark_lines.Goals as goal
+use Rattle.listing_parser.proofs.Shared.{next_line}
 
 pub loop-line-preserved : goal.loop-line-preserved
 loop-line-preserved c =

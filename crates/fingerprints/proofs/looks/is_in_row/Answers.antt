@@ -1,12 +1,8 @@
 use Rattle.std.proofs.Common.{◌≡◌, Bool, true, false, not, eqb, map, refl, sym, ◌∙◌, arith, w32}
 use Rattle.std.specs.Simd.Lanes.{chunk, mask_l}
-use Rattle.std.proofs.lemmas.Bool.{eqb-true, false≢true}
+use Rattle.std.proofs.lemmas.Bool.{eqb-true, false≢true, not-false}
 use Rattle.std.proofs.lemmas.Simd.{length-chunk, bitmask_splat, none_from_empty_mask}
 use Rattle.fingerprints.proofs.looks.is_in_row.Goals as goal
-
-set : (b : Bool) → not b ≡ false → b ≡ true
-set true h = refl
-set false h = absurd (false≢true (sym h))
 
 pub returns : goal.returns
 returns c = λ h k low high.
@@ -14,5 +10,5 @@ returns c = λ h k low high.
     let word = c.args.word in
     let here = chunk c.args.first 64 column in
     let empty : mask_l (map (λ x. eqb x word) here) ≡ 0 =
-    sym (bitmask_splat w32 eqb here 64 word (length-chunk c.args.first 64 column c.requires) (omega arith)) ∙ eqb-true _ _ (set _ h) in
+    sym (bitmask_splat w32 eqb here 64 word (length-chunk c.args.first 64 column c.requires) (omega arith)) ∙ eqb-true _ _ (not-false _ h) in
     none_from_empty_mask (λ x. eqb x word) column c.args.first 64 0 c.requires empty k low high

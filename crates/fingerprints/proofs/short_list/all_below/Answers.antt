@@ -1,6 +1,7 @@
 use Rattle.std.proofs.Common.{◌∙◌, ◌++◌, ◌∷◌, [], ap, sym}
-use Rattle.fingerprints.proofs.Looking.{numbers_none, numbers_push}
+use Rattle.fingerprints.proofs.Looking.{numbers_none}
 use Rattle.fingerprints.proofs.short_list.all_below.Goals as goal
+use Rattle.seq_enum.proofs.Weighing.{numbers_push}
 
 pub loop-number-init : goal.loop-number-init
 loop-number-init c = c.in_ok-numbers.ensures.items ∙ sym numbers_none

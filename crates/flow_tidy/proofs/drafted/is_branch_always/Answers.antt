@@ -5,11 +5,7 @@ use Rattle.listing_draft.specs.Drafted.{aim_at, stands}
 use Rattle.listing_draft.proofs.Stands.{aimed_to, stands_at}
 use Rattle.flow_tidy.specs.Due.{is_branch_always}
 use Rattle.flow_tidy.proofs.drafted.is_branch_always.Goals as goal
-
-past : {A : Type 0} (xs : List A) (p : ℕ) → length xs ≤ p → slice_get xs p ≡ None
-past [] p h = refl
-past (x ∷ xs) zero h = absurd (omega arith)
-past (x ∷ xs) (suc p) h = past xs p (omega arith)
+use Rattle.std.proofs.lemmas.Option.{slice_get_past}
 
 pub returns-then-place-place_count : goal.returns-then-place-place_count
 returns-then-place-place_count c =
@@ -18,5 +14,5 @@ returns-then-place-place_count c =
     let many = h.marks in
     let none : stands d c.args.place ≡ None =
     stands_at d.given d.gone d.aims c.args.place h.ops c.requires.kept
-    ∙ ap (λ o. aimed_to o (aim_at d.aims c.args.place)) (past (places_of d.given) c.args.place (omega (arith, many, c.place_count.ensures.count, c.if-place-place_count.true))) in
+    ∙ ap (λ o. aimed_to o (aim_at d.aims c.args.place)) (slice_get_past (places_of d.given) c.args.place (omega (arith, many, c.place_count.ensures.count, c.if-place-place_count.true))) in
     ap is_branch_always (sym none)

@@ -3,12 +3,12 @@ use Rattle.std.proofs.Math.ListN.{drop_of_length-le}
 use Rattle.thumb_model.specs.Listing.{ListingLine}
 use Rattle.listing_parser.specs.declared.line.ListingLine.{ListingLine as Lines}
 use Rattle.listing_parser.specs.Views.{line_view}
-use Rattle.label_layout.proofs.Sums.{next_line}
 use Rattle.kept_layout.specs.declared.block.Head.TheVariants as head
 use Rattle.kept_layout.specs.declared.block.Block.{Block}
 use Rattle.kept_layout.specs.Cutting.{lies_at, part_footprints}
 use Rattle.kept_layout.proofs.BuildingSteps.{IsBuilding, building_begun, building_more, building_next, building_last}
 use Rattle.kept_layout.proofs.building.lay.Goals as goal
+use Rattle.listing_parser.proofs.Shared.{next_line}
 
 pub loop-line-init : goal.loop-line-init
 loop-line-init c =

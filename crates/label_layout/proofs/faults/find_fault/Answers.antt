@@ -1,8 +1,9 @@
 use Rattle.std.proofs.Common.{◌+◌, ◌^◌, map, drop, ap, arith}
 use Rattle.thumb_model.specs.Layout.{size_at, end_of}
 use Rattle.listing_parser.specs.Views.{line_view, statement_view}
-use Rattle.label_layout.proofs.Sums.{at_end, next_line, fits}
+use Rattle.label_layout.proofs.Sums.{at_end, fits}
 use Rattle.label_layout.proofs.faults.find_fault.Goals as goal
+use Rattle.listing_parser.proofs.Shared.{next_line}
 
 pub next_address-requires : goal.next_address-requires
 next_address-requires c =

@@ -9,8 +9,9 @@ use Rattle.listing_parser.specs.Views.{line_view, statement_view, names_view}
 use Rattle.listing_parser.specs.declared.line.ListingLine.{ListingLine as Lines}
 use Rattle.label_layout.specs.Addresses.{addresses_in, addresses_from}
 use Rattle.label_layout.proofs.Labels.{label_more, or_none}
-use Rattle.label_layout.proofs.Sums.{next_line, stepped, in_code}
+use Rattle.label_layout.proofs.Sums.{stepped, in_code}
 use Rattle.label_layout.proofs.laying.lay.Goals as goal
+use Rattle.listing_parser.proofs.Shared.{next_line}
 
 pub loop-line-preserved : goal.loop-line-preserved
 loop-line-preserved c =

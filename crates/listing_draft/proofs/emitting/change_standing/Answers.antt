@@ -9,17 +9,18 @@ use Rattle.listing_parser.specs.declared.line.ListingLine.{ListingLine as Lines}
 use Rattle.listing_draft.specs.Drafted.{aim_at, line_now, now_of}
 use Rattle.listing_draft.specs.Invariant.{names_of}
 use Rattle.listing_draft.proofs.Drafts.{aim_names, set_length}
-use Rattle.listing_draft.proofs.Emits.{place_within, places_pass, places_within, read_at}
+use Rattle.listing_draft.proofs.Emits.{place_within, places_pass, places_within}
 use Rattle.listing_draft.proofs.Standing.{places_behind, places_left, set_alike, stays_op, stays_other}
 use Rattle.listing_draft.proofs.emitting.change_standing.Goals as goal
 use Rattle.listing_draft.proofs.emitting.change_standing.Goals.{then-is_op+in_ok-change_one+else-not-branch, else-is_op}
+use Rattle.common_lemmas.proofs.Lists.{get_of_or}
 
 pub overflow_cast-places : goal.overflow_cast-places
 overflow_cast-places c =
     let n : ℕ = c.loop-n.n in
     let ys : List Lines = c.loop-n.lines.items in
     let y : Lines = c.index.result.now in
-    let at = read_at ys n y (omega (arith, c.loop-n-test.true, c.loop-n.invariant.many)) c.index.ensures in
+    let at = get_of_or ys n y (omega (arith, c.loop-n-test.true, c.loop-n.invariant.many)) c.index.ensures in
     let few = places_within c.loop-n.place (line_view y) (drop (n + 1) (map line_view ys)) (length c.args.kept.now) (places_left ys n c.loop-n.place (length c.args.kept.now) y at c.loop-n.invariant.passed) in
     omega (arith, few, c.places-places.ensures, c.len-count.ensures, c.len-count.type_inv)
 
@@ -28,7 +29,7 @@ is_gone-is_gone-requires c =
     let n : ℕ = c.loop-n.n in
     let ys : List Lines = c.loop-n.lines.items in
     let y : Lines = c.index-in-loop-n.result.now in
-    let at = read_at ys n y (omega (arith, c.loop-n-test.true, c.loop-n.invariant.many)) c.index-in-loop-n.ensures in
+    let at = get_of_or ys n y (omega (arith, c.loop-n-test.true, c.loop-n.invariant.many)) c.index-in-loop-n.ensures in
     let few = place_within c.loop-n.place (line_view y) (drop (n + 1) (map line_view ys)) (length c.args.kept.now) (places_left ys n c.loop-n.place (length c.args.kept.now) y at c.loop-n.invariant.passed) (sym c.is_op.ensures ∙ c.if-is_op.true) in
     omega (arith, few)
 
@@ -37,7 +38,7 @@ bounds-aims-place c =
     let n : ℕ = c.loop-n.n in
     let ys : List Lines = c.loop-n.lines.items in
     let y : Lines = c.index-in-loop-n.result.now in
-    let at = read_at ys n y (omega (arith, c.loop-n-test.true, c.loop-n.invariant.many)) c.index-in-loop-n.ensures in
+    let at = get_of_or ys n y (omega (arith, c.loop-n-test.true, c.loop-n.invariant.many)) c.index-in-loop-n.ensures in
     let few = place_within c.loop-n.place (line_view y) (drop (n + 1) (map line_view ys)) (length c.args.kept.now) (places_left ys n c.loop-n.place (length c.args.kept.now) y at c.loop-n.invariant.passed) (sym c.is_op.ensures ∙ c.if-is_op.true) in
     omega (arith, few, c.requires.gone, c.requires.aims)
 
@@ -45,7 +46,7 @@ pub returns-then-not-branch-clause-places : goal.returns-then-not-branch-clause-
 returns-then-not-branch-clause-places c =
     let n : ℕ = c.loop-n.n in
     let ys : List Lines = c.loop-n.lines.items in
-    let at = read_at ys n c.index_mut.result.now (omega (arith, c.loop-n-test.true, c.loop-n.invariant.many)) c.index_mut.ensures.value in
+    let at = get_of_or ys n c.index_mut.result.now (omega (arith, c.loop-n-test.true, c.loop-n.invariant.many)) c.index_mut.ensures.value in
     let same = set_alike ys n c.index_mut.result.now c.change_one.new.line at (c.in_ok-change_one.ensures.other (search rules)) in
     subst (λ (ls : List ListingLine). c.loop-n.place + length (places_of (drop n ls)) ≡ length c.args.kept.now) (sym same) c.loop-n.invariant.passed
 
@@ -55,7 +56,7 @@ returns-then-not-branch-clause-lines c =
     let ys : List Lines = c.loop-n.lines.items in
     let gone = c.args.kept.now in
     let aims = names_of c.args.aims.now in
-    let at = read_at ys n c.index_mut.result.now (omega (arith, c.loop-n-test.true, c.loop-n.invariant.many)) c.index_mut.ensures.value in
+    let at = get_of_or ys n c.index_mut.result.now (omega (arith, c.loop-n-test.true, c.loop-n.invariant.many)) c.index_mut.ensures.value in
     let same = set_alike ys n c.index_mut.result.now c.change_one.new.line at (c.in_ok-change_one.ensures.other (search rules)) in
     subst (λ (ls : List ListingLine). take n ls ++ now_of (drop c.loop-n.place gone) (drop c.loop-n.place aims) (drop n ls) ≡ now_of gone aims (map line_view c.args.lines.now.items)) (sym same) c.loop-n.invariant.changed
 
@@ -64,7 +65,7 @@ overflow_add-place c =
     let n : ℕ = c.loop-n.n in
     let ys : List Lines = c.loop-n.lines.items in
     let y : Lines = c.index.result.now in
-    let at = read_at ys n y (omega (arith, c.loop-n-test.true, c.loop-n.invariant.many)) c.index.ensures in
+    let at = get_of_or ys n y (omega (arith, c.loop-n-test.true, c.loop-n.invariant.many)) c.index.ensures in
     let few = places_within c.loop-n.place (line_view y) (drop (n + 1) (map line_view ys)) (length c.args.kept.now) (places_left ys n c.loop-n.place (length c.args.kept.now) y at c.loop-n.invariant.passed) in
     omega (arith, few, c.places-places.ensures, c.len-count.ensures, c.len-count.type_inv)
 
@@ -79,15 +80,15 @@ loop-n-preserved c =
     let place = c.loop-n.place in
     let k = c.places-places.result in
     let within : n < length ys = omega (arith, c.loop-n-test.true, c.loop-n.invariant.many) in
-    let at = read_at ys n y within c.index.ensures in
-    let read = same_Some c.index-in-loop-n.result.now y (sym (read_at ys n c.index-in-loop-n.result.now within c.index-in-loop-n.ensures) ∙ at) in
+    let at = get_of_or ys n y within c.index.ensures in
+    let read = same_Some c.index-in-loop-n.result.now y (sym (get_of_or ys n c.index-in-loop-n.result.now within c.index-in-loop-n.ensures) ∙ at) in
     elim c.if-is_op.branch [
       | then-is_op+in_ok-change_one+else-not-branch w ↦ (
           let op = ap (λ z. is_op (line_view z).statement) (sym read) ∙ sym c.is_op.ensures ∙ w.if-is_op.true in
-          let old = same_Some w.index_mut.result.now y (sym (read_at ys n w.index_mut.result.now within w.index_mut.ensures.value) ∙ at) in
+          let old = same_Some w.index_mut.result.now y (sym (get_of_or ys n w.index_mut.result.now within w.index_mut.ensures.value) ∙ at) in
           let left = places_left ys n place (length gone) y at c.loop-n.invariant.passed in
           let aimed : place < length c.args.aims.now = (let p = place_within place (line_view y) (drop (n + 1) (map line_view ys)) (length gone) left op in omega (arith, p, c.requires.gone, c.requires.aims)) in
-          let named = read_at c.args.aims.now place w.index-aims-place.result aimed w.index-aims-place.is in
+          let named = get_of_or c.args.aims.now place w.index-aims-place.result aimed w.index-aims-place.is in
           let aim : aim_at aims place ≡ option_map (λ name. name.items) w.index-aims-place.result = aim_names c.args.aims.now place w.index-aims-place.result named in
           let one =
           w.in_ok-change_one.ensures.one (search rules)

@@ -8,10 +8,11 @@ use Rattle.listing_parser.specs.declared.line.ListingLine.{ListingLine as Lines}
 use Rattle.listing_draft.specs.Drafted.{aim_at, line_now, now_of}
 use Rattle.listing_draft.specs.Invariant.{names_of}
 use Rattle.listing_draft.proofs.Drafts.{aim_names}
-use Rattle.listing_draft.proofs.Emits.{place_within, places_pass, places_within, emitted_op, emitted_other, read_at}
+use Rattle.listing_draft.proofs.Emits.{place_within, places_pass, places_within, emitted_op, emitted_other}
 use Rattle.listing_draft.proofs.Standing.{none_standing}
 use Rattle.listing_draft.proofs.emitting.emit_behind.Goals as goal
 use Rattle.listing_draft.proofs.emitting.emit_behind.Goals.{then-is_op+in_ok-emit_op, else-is_op+in_ok-push-2}
+use Rattle.common_lemmas.proofs.Lists.{get_of_or}
 
 pub overflow_add-place : goal.overflow_add-place
 overflow_add-place c =
@@ -51,7 +52,7 @@ loop-line-preserved c =
       | then-is_op+in_ok-emit_op w ↦ (
           let op = sym c.is_op.ensures ∙ w.if-is_op.true in
           let within : n < length c.args.aims.now = (let p = place_within n l rest count left op in omega (arith, p, c.requires.aims)) in
-          let at = read_at c.args.aims.now n w.index-aims-place.result within w.index-aims-place.is in
+          let at = get_of_or c.args.aims.now n w.index-aims-place.result within w.index-aims-place.is in
           let aim : aim_at aims n ≡ option_map (λ name. name.items) w.index-aims-place.result = aim_names c.args.aims.now n w.index-aims-place.result at in
           let emitted =
           ap (λ v. map line_view v.items) w.out-is ∙ w.in_ok-emit_op.ensures

@@ -2,8 +2,9 @@ use Rattle.std.proofs.Common.{◌∙◌, ◌≤◌, length, sym}
 use Rattle.std.proofs.lemmas.List.{take_all, drop_all}
 use Rattle.lrat_check.specs.Live.{clause_at}
 use Rattle.lrat_check.proofs.Views.{clause_at-absent, clause_at-present}
-use Rattle.lrat_check.proofs.Deletions.{Deleting-begun, Deleting-next, HasSeen-begun, HasSeen-next, never_live, all_deleted, id_at, not_true}
+use Rattle.lrat_check.proofs.Deletions.{Deleting-begun, Deleting-next, HasSeen-begun, HasSeen-next, never_live, all_deleted, id_at}
 use Rattle.lrat_check.proofs.deletion.find_dead.Goals as goal
+use Rattle.std.proofs.lemmas.Bool.{not-true}
 
 pub loop-i-init : goal.loop-i-init
 loop-i-init c = (HasSeen-begun _ c.new-seen.ensures.empty, (clause_at c.args.live.now, Deleting-begun _ _))
@@ -18,7 +19,7 @@ pub loop-i-preserved : goal.loop-i-preserved
 loop-i-preserved c =
     let b = c.loop-i-test.true in
     let at = id_at c.args.ids.now c.loop-i.i c.index-ids-i.result c.from-number.result b c.index-ids-i.is (c.from-number.ensures ∙ c.number.ensures.value) in
-    let new = not_true _ (sym c.in_ok-insert.ensures.added ∙ c.if-not-branch.false) in (
+    let new = not-true _ (sym c.in_ok-insert.ensures.added ∙ c.if-not-branch.false) in (
       HasSeen-next c.loop-i.seen c.insert.new.self c.args.ids.now c.loop-i.i c.from-number.result b at c.in_ok-insert.ensures.updates c.loop-i.invariant.0,
       (
         _,

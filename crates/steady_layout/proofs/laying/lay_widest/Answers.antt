@@ -3,9 +3,9 @@ use Rattle.thumb_model.specs.Listing.{ListingLine}
 use Rattle.listing_parser.specs.Views.{line_view, statement_view}
 use Rattle.steady_layout.specs.declared.starts.Start.{Start}
 use Rattle.steady_layout.specs.Steady.{behind, first, widest_end}
-use Rattle.label_layout.proofs.Sums.{next_line}
 use Rattle.steady_layout.proofs.Steps.{at_end, fits}
 use Rattle.steady_layout.proofs.laying.lay_widest.Goals as goal
+use Rattle.listing_parser.proofs.Shared.{next_line}
 
 pub returns-then-base-gt-CODE_END : goal.returns-then-base-gt-CODE_END
 returns-then-base-gt-CODE_END c = λ h.

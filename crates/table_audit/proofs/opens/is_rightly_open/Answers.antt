@@ -8,12 +8,12 @@ use Rattle.rule_table.specs.Views.{opened_of, rule_of, table_of}
 use Rattle.lrat_check.specs.ProofCosts.{spent_cost}
 use Rattle.table_audit.specs.Shorter.{formula_against, IsTold, below_at}
 use Rattle.table_audit.proofs.Tellings.{told_is}
-use Rattle.table_audit.proofs.Walking.{over_more}
 use Rattle.table_audit.proofs.Openings.{found, none_open, told_open, spent_answers, as_many, spent_within}
 use Rattle.table_audit.proofs.opens.is_rightly_open.Goals as goal
+use Rattle.rule_model.proofs.Table.{over_wider}
 
 pub is_told-requires : goal.is_told-requires
-is_told-requires g c = subst (AreOver 4) (sym c.as_slice.ensures.value) (over_more c.args.k 4 c.in-Some.seq c.requires.few c.in-Some.ensures.over)
+is_told-requires g c = subst (AreOver 4) (sym c.as_slice.ensures.value) (over_wider c.args.k 4 c.in-Some.seq c.requires.few c.in-Some.ensures.over)
 
 pub returns-in-None-clause-right : goal.returns-in-None-clause-right
 returns-in-None-clause-right g c =

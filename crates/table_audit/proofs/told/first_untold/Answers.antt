@@ -11,9 +11,10 @@ use Rattle.table_audit.proofs.Below.{below_is, run_within, told_most}
 use Rattle.table_audit.proofs.Counting.{entries_next, entries_end}
 use Rattle.table_audit.proofs.Openings.{as_many}
 use Rattle.table_audit.proofs.Settling.{SettledBefore, cover_there, cover_at, settled_heavy, settled_told, settled_first, settled_verdict}
-use Rattle.table_audit.proofs.Walking.{over_more, numbered_over}
+use Rattle.table_audit.proofs.Walking.{numbered_over}
 use Rattle.table_audit.proofs.told.first_untold.Goals as goal
 use Rattle.table_audit.proofs.told.first_untold.Goals.{then-weight-limit+then-is_untold, else-weight-limit, else-weight-limit-via-then-weight-limit+else-is_untold, else-weight-limit-via-else-weight-limit}
+use Rattle.rule_model.proofs.Table.{over_wider}
 
 pub unreachable-requires : goal.unreachable-requires
 unreachable-requires g c =
@@ -23,7 +24,7 @@ pub is_untold-requires-clause-over : goal.is_untold-requires-clause-over
 is_untold-requires-clause-over g c =
     let k = alphabet_registers (header_in c.args.table.now) c.args.entry.now.left in
     let at = cover_at (table_of c.args.table.now) (rule_of c.args.entry.now) c.args.numbers.now c.loop-number.number-index c.loop-number-test.true c.requires.numbers c.args.outcomes.now.letters c.requires.letters c.sequence_at.result c.sequence_at.ensures c.in-Some.seq c.in-Some.is in
-    over_more k 4 c.in-Some.seq (omega arith) (numbered_over k c.args.table.now.pool _ c.in-Some.seq (omega arith) at.0)
+    over_wider k 4 c.in-Some.seq (omega arith) (numbered_over k c.args.table.now.pool _ c.in-Some.seq (omega arith) at.0)
 
 pub loop-number-preserved : goal.loop-number-preserved
 loop-number-preserved g c =

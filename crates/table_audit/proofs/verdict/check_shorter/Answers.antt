@@ -6,8 +6,8 @@ use Rattle.rule_table.specs.Views.{opened_of, rule_of, table_of}
 use Rattle.table_audit.specs.Costs.{open_cost}
 use Rattle.table_audit.proofs.Covering.{entry_within}
 use Rattle.table_audit.proofs.Fitting.{ordered_of}
-use Rattle.table_audit.proofs.Walking.{over_more}
 use Rattle.table_audit.proofs.verdict.check_shorter.Goals as goal
+use Rattle.rule_model.proofs.Table.{over_wider}
 
 -- the runs of the left side, counted by the code's own lists
 first_runs : (a b u v l m : ℕ) → m ≡ l → v ≡ u → b ≤ a + v * m → b ≤ a + u * l
@@ -15,7 +15,7 @@ first_runs a b u v l m e f h = omega (arith, h, ap (λ n. v * n) e ∙ ap (λ n.
 
 pub trials_of-requires : goal.trials_of-requires
 trials_of-requires g c =
-    subst (AreOver 4) (sym c.as_slice.ensures.value) (over_more _ 4 c.args.entry.now.left (ordered_of c.args.entry.now.left c.requires.formula.canonical).few c.requires.formula.left)
+    subst (AreOver 4) (sym c.as_slice.ensures.value) (over_wider _ 4 c.args.entry.now.left (ordered_of c.args.entry.now.left c.requires.formula.canonical).few c.requires.formula.left)
 
 pub returns-in_err-check_told-clause-cost : goal.returns-in_err-check_told-clause-cost
 returns-in_err-check_told-clause-cost g c =

@@ -7,9 +7,9 @@ use Rattle.table_audit.specs.Shorter.{below_at}
 use Rattle.table_learn.specs.Given.{settings_of}
 use Rattle.table_learn.specs.Fitness.{stays_open, tells_number}
 use Rattle.table_learn.specs.Lengths.{lines_length}
-use Rattle.table_learn.proofs.Costs.{next_share}
 use Rattle.table_learn.proofs.Dropped.{name_dropped, name_kept, names_longer, new_longer}
 use Rattle.table_learn.proofs.dropping.drop_told.Goals as goal
+use Rattle.common_lemmas.proofs.Numbers.{one_more_times}
 
 pub loop-name-preserved-then-tells_open : goal.loop-name-preserved-then-tells_open
 loop-name-preserved-then-tells_open g c =
@@ -20,7 +20,7 @@ loop-name-preserved-then-tells_open g c =
     let more = names_longer c.loop-name.yielded c.in-Some.name in
     let l = length-append c.loop-name.yielded (c.in-Some.name ∷ []) in
     let unit = length c.args.found.now * (length c.new-window.result.left + length c.new-window.result.left) in
-    let next = next_share (length c.loop-name.yielded) unit in
+    let next = one_more_times (length c.loop-name.yielded) unit in
     let count : length (c.loop-name.yielded ++ c.in-Some.name ∷ []) * unit ≡ (length c.loop-name.yielded + 1) * unit = ap (λ (j : ℕ). j * unit) l in
     record {
       kept = name_dropped p c.loop-name.yielded c.in-Some.name (map opened_of c.loop-name.kept.items) drops c.loop-name.invariant.kept;
@@ -38,7 +38,7 @@ loop-name-preserved g c =
     let new = new_longer c.loop-name.kept.items c.push.new.self.items c.in-Some.name c.in_ok-push.ensures.items in
     let l = length-append c.loop-name.yielded (c.in-Some.name ∷ []) in
     let unit = length c.args.found.now * (length c.new-window.result.left + length c.new-window.result.left) in
-    let next = next_share (length c.loop-name.yielded) unit in
+    let next = one_more_times (length c.loop-name.yielded) unit in
     let count : length (c.loop-name.yielded ++ c.in-Some.name ∷ []) * unit ≡ (length c.loop-name.yielded + 1) * unit = ap (λ (j : ℕ). j * unit) l in
     record {
       kept = name_kept p c.loop-name.yielded c.loop-name.kept.items c.push.new.self.items c.in-Some.name stays c.loop-name.invariant.kept c.in_ok-push.ensures.items;

@@ -1,11 +1,11 @@
 use Rattle.std.proofs.Common.{◌∙◌, sym}
-use Rattle.table_audit.proofs.Walking.{over_more}
 use Rattle.table_learn.specs.Given.{settings_of}
 use Rattle.table_learn.proofs.Places.{open_told, open_missing}
 use Rattle.table_learn.proofs.dropping.tells_open.Goals as goal
+use Rattle.rule_model.proofs.Table.{over_wider}
 
 pub is_told-requires-clause-right : goal.is_told-requires-clause-right
-is_told-requires-clause-right g c = over_more c.args.window.now.k 4 c.in-Some.seq c.requires.few c.in-Some.ensures.over
+is_told-requires-clause-right g c = over_wider c.args.window.now.k 4 c.in-Some.seq c.requires.few c.in-Some.ensures.over
 
 pub returns-in-Some-clause-told : goal.returns-in-Some-clause-told
 returns-in-Some-clause-told g c = λ e l m r.

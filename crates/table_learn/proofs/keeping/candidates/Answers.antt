@@ -14,16 +14,13 @@ use Rattle.table_audit.specs.Acceptance.{lengths_below}
 use Rattle.table_learn.proofs.Below.{longest_short, table_within}
 use Rattle.table_learn.proofs.Candidates.{table_below, are_left, all_there, candidates_are}
 use Rattle.table_learn.proofs.keeping.candidates.Goals as goal
+use Rattle.table_audit.proofs.Settling.{same_state}
 
 first_seen : (states : List WState) (d : WState) → 0 < length states → slice_get (map seen states) 0 ≡ Some (seen (get_or states 0 d))
 first_seen states d some = slice_get-map seen states 0 ∙ ap (option_map seen) (slice_get-get_or states 0 d some)
 
 abbrev zeros : WState
 zeros = record { r = []; nzcv = 0 }
-
--- states of which the same is seen are the same
-same_state : (a b : WState) → seen a ≡ seen b → a ≡ b
-same_state a b e = ap (λ (s : Seen). let t : WState = record { r = s.r; nzcv = s.nzcv } in t) e
 
 pub returns-in_err-found-clause-cost : goal.returns-in_err-found-clause-cost
 returns-in_err-found-clause-cost g c =

@@ -10,9 +10,10 @@ use Rattle.rule_table.specs.Header.{IsHeader}
 use Rattle.table_learn.specs.Given.{settings_of}
 use Rattle.table_learn.specs.Learnt.{text_length}
 use Rattle.table_learn.specs.Progress.{Progress, table_with}
-use Rattle.table_learn.proofs.Gains.{start, in_limits, length-states_from}
+use Rattle.table_learn.proofs.Gains.{start, in_limits}
 use Rattle.table_learn.proofs.TextLengths.{text_begins}
 use Rattle.table_learn.proofs.learning.begin.Goals as goal
+use Rattle.table_audit.proofs.Limits.{states_count}
 
 module _ (c : goal.After-drop-none) where
   taken_apart : record { header = header_of c.into_parts-settings.result.0; states = map seen c.into_parts-settings.result.1; rules = map rule_of c.into_parts-settings.result.2.items; families = map family_of c.into_parts-settings.result.3.items } ≡
@@ -57,6 +58,6 @@ returns-clause-begun c = record {
 
 pub returns-clause-short : goal.returns-clause-short
 returns-clause-short c =
-    let many : length (map seen c.into_vec.result.items) ≡ 64 = ap (λ (ss : List Seen). length ss) (seeds c) ∙ length-states_from 64 _ in
+    let many : length (map seen c.into_vec.result.items) ≡ 64 = ap (λ (ss : List Seen). length ss) (seeds c) ∙ states_count 64 _ in
     let short = text_begins (settings_of c.args.settings) (map seen c.into_vec.result.items) (is_header c) (progress c).valid many in
     omega (arith, bytes c, short)

@@ -7,8 +7,8 @@ use Rattle.window_exec.specs.State.{seen}
 use Rattle.fingerprints.proofs.Tried.{one_more_passed}
 use Rattle.table_learn.specs.Tellings.{tells_apart}
 use Rattle.table_learn.proofs.Telling.{test_is}
-use Rattle.table_learn.proofs.Costs.{next_share}
 use Rattle.table_learn.proofs.trying.is_told.Goals as goal
+use Rattle.common_lemmas.proofs.Numbers.{one_more_times}
 
 pub returns-then-tells-clause-told : goal.returns-then-tells-clause-told
 returns-then-tells-clause-told g c =
@@ -20,7 +20,7 @@ pub loop-passed-preserved : goal.loop-passed-preserved
 loop-passed-preserved g c =
     let P = λ (s : WState). tells_apart c.args.left.now c.args.right.now c.args.mask.items.bits (seen s) ≡ true in
     let test = test_is c.tells.result c.args.left.now c.args.right.now c.args.mask.items.bits _ c.args.mask.in_masks c.tells.ensures in
-    let next = next_share c.loop-passed.passed (length c.args.left.now + length c.args.right.now) in
+    let next = one_more_times c.loop-passed.passed (length c.args.left.now + length c.args.right.now) in
     record {
       none = one_more_passed P c.args.states.now c.loop-passed.passed _ c.loop-passed-test.true c.loop-passed.invariant.none (λ h. false≢true (sym c.if-tells.false ∙ test ∙ h));
       cost = omega (arith, c.loop-passed.invariant.cost, next);

@@ -23,7 +23,9 @@ use Rattle.window_rewrite.specs.Scenes.{lines_left, lines_seen, number_seen, May
 use Rattle.window_rewrite.proofs.Applied.{applied, laid, letters_all, used_lighter, IsLeft, IsMade}
 use Rattle.window_rewrite.proofs.Alike.{left_under, settled_under}
 use Rattle.window_rewrite.proofs.Opened.{fitted_by, laid_by, sound_open, whole_open}
-use Rattle.window_rewrite.specs.Layouts.{is_steady}
+use Rattle.window_rewrite.specs.declared.choice.Choice.{Choice}
+use Rattle.window_rewrite.specs.Choices.{IsChoiceBy}
+use Rattle.window_rewrite.specs.Layouts.{is_steady, Moves}
 use Rattle.window_rewrite.proofs.Weights.{lighter_some, lighter_true}
 use Rattle.window_rewrite.proofs.finding.try_rule.Goals as goal
 
@@ -107,8 +109,8 @@ returns-in-None-2-clause-none g c = λ table numbers o used here m.
     let never : true ≡ false = sym may ∙ ap is_some c.in-None-2.is in
     absurd (true≢false never)
 
-pub copied-requires : goal.copied-requires
-copied-requires g c =
+pub choice_at-requires : goal.choice_at-requires
+choice_at-requires g c =
     let short = c.requires.fit.short in
     let long = c.requires.long in
     let few = c.requires.sight.look.ready.few in
@@ -135,7 +137,7 @@ returns-clause-some g c =
     let lighter = lighter_true costs rule (sym c.is_lighter.ensures ∙ c.if-not-is_lighter.false) in
     let some = lighter_some costs rule.left rule.right lighter in
     let made : Replacement = record { place = place; entry = c.args.entry - 1; instance = c.args.instance; registers = registers } in
-    record {
+    subst (IsChoiceBy costs c.args.sight.now.look.now.rules.now.base rule lines place (c.args.entry - 1) c.args.instance) (sym c.choice_at.ensures) (record {
       is = λ table numbers used.
           let own : Rule = with_open rule numbers in
           let sound = sound_open rule numbers c.requires.fit.sound in
@@ -143,10 +145,13 @@ returns-clause-some g c =
           applied c.args.sight.now.look.now.rules.now.costs.now c.args.sight.now.look.now.rules.now.base table lines made own c.args.sight.now.window.now c.args.sight.now.form.now.live.bits c.renamed_all-new.result used sound lighter c.requires.sight.stands
           (whole_open rule numbers registers c.args.sight.now.window.now c.args.sight.now.form.now.live.bits c.in-Some.ensures.0) c.in-Some.ensures.1 new settled few
           (laid c.args.sight.now.look.now.rules.now c.args.sight.now.look.now.scene.now.layout lines place own registers c.args.sight.now.window.now c.requires.sight.look.over.over sound some count asked) in
-          let made_at : IsMade (setting_by c.args.sight.now.look.now.rules.now.costs.now c.args.sight.now.look.now.rules.now.base table) lines made c.copied.result c.renamed_all-new.result =
-          subst (λ (js : List Instr). IsMade (setting_by c.args.sight.now.look.now.rules.now.costs.now c.args.sight.now.look.now.rules.now.base table) lines made js c.renamed_all-new.result) (sym c.copied.ensures) m in
-          record { whole = record { counted = c.requires.counted; in_place = c.in-Some.ensures.3 }; applies = made_at.applies; is_window = made_at.is_window; gives_way = made_at.gives_way; leaves = made_at.leaves; long = made_at.long };
+          record { whole = record { counted = c.requires.counted; in_place = c.in-Some.ensures.3 }; applies = m.applies; is_window = m.is_window; gives_way = m.gives_way; leaves = m.leaves; long = m.long };
       at = refl;
       entry_is = refl;
       instance_is = refl;
-    }
+    })
+
+pub returns-clause-moved : goal.returns-clause-moved
+returns-clause-moved g c =
+    subst (λ (x : Choice). Moves c.args.sight.now.look.now.scene.now.layout x.window x.new x.moved) (sym c.choice_at.ensures)
+    (subst (λ (js : List Instr). Moves c.args.sight.now.look.now.scene.now.layout c.args.sight.now.window.now js c.in-Some-2.moved) c.as_slice-3.ensures.value (rw c.in-Some-2.is at c.in_ok-moved_layout.ensures.moved))

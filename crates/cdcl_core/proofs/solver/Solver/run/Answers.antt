@@ -15,8 +15,9 @@ use Rattle.cdcl_core.specs.Solved.{AreBelow, with_log}
 use Rattle.cdcl_core.proofs.Adopted.{base_here}
 use Rattle.cdcl_core.proofs.Covered.{covers_grown}
 use Rattle.cdcl_core.proofs.Statements.{model_true, values_for, filled_formula}
-use Rattle.cdcl_core.proofs.Logs.{asserting_some, formula_holds, next_id, refuted, running_aligned, running_begun, running_more, rounds_more}
+use Rattle.cdcl_core.proofs.Logs.{asserting_some, formula_holds, next_id, refuted, running_aligned, running_begun, running_more}
 use Rattle.cdcl_core.proofs.solver.Solver.run.Goals as goal
+use Rattle.common_lemmas.proofs.Numbers.{one_more_times}
 
 pub search-requires : goal.search-requires
 search-requires g c = record {
@@ -98,7 +99,7 @@ loop-round-preserved g c =
       running_more (codes_of c.args.formula.now.clauses) c.loop-round.self c.loop-round.log.items c.loop-round.round c.loop-round.invariant.0 c.in-Taught.line c.deref.result.now c.push-in-Taught.new.self.items c.new-id.result c.in_ok-push-in-Taught.ensures.items
           (c.deref.ensures.value ∙ c.in_ok-literals-in-Taught.ensures) (omega (arith, c.new-id.ensures, c.clauses.ensures, length-map c.args.formula.now.clauses (map code_of))) t (clauses_of d.arena) d.ids.items s.trail dropped
           c.adopt.new.self c.in_ok-adopt-in-Taught.ensures.ids (subst (All (Contains c.adopt.new.self.trail)) (ap (λ (x : Solver). x.trail) h) c.in_ok-adopt-in-Taught.ensures.grows) c.in_ok-adopt-in-Taught.ensures.base,
-      omega (arith, c.search.ensures.cost, c.loop-round.invariant.1, c.loop-round.invariant.3, rounds_more c.loop-round.round (c.args.self.now.variables + 1)),
+      omega (arith, c.search.ensures.cost, c.loop-round.invariant.1, c.loop-round.invariant.3, one_more_times c.loop-round.round (c.args.self.now.variables + 1)),
       rw longer (at_least-goes_on _ _ _ (length c.loop-round.log.items) 1 c.loop-round.invariant.2 one),
       c.in_ok-adopt-in-Taught.ensures.variables ∙ (ap (λ (x : Solver). x.variables) h ∙ (ap (λ (x : Solver). x.variables) f ∙ c.loop-round.invariant.3)),
     )

@@ -1,9 +1,10 @@
 use Rattle.std.proofs.Common.{arith, ap, length, List, ℕ, refl}
-use Rattle.seq_enum.proofs.Starts.{rows_many, starts_fewer, starts_at}
+use Rattle.seq_enum.proofs.Starts.{starts_fewer, starts_at}
 use Rattle.seq_enum.proofs.numbering.Numbering.before.Goals as goal
+use Rattle.seq_enum.proofs.Mnemonics.{length-rows}
 
 pub bounds-deref-row : goal.bounds-deref-row
-bounds-deref-row c = omega (arith, c.requires.listed, ap (λ (xs : List ℕ). length xs) c.deref.ensures.0, c.requires.is.starts.as_many, rows_many)
+bounds-deref-row c = omega (arith, c.requires.listed, ap (λ (xs : List ℕ). length xs) c.deref.ensures.0, c.requires.is.starts.as_many, length-rows)
 
 pub returns-clause-value : goal.returns-clause-value
 returns-clause-value c =
