@@ -19,7 +19,7 @@ use rule_table::{Entry, Family, Table};
 use std::alloc::{AllocError, Global};
 use std::fmt;
 use step_ledger::{Ledger, Steps};
-use table_audit::{Audited, entry_of, family_formula, is_raisable, named_count, with_scratch};
+use table_audit::{Audited, alphabet_registers, entry_of, family_formula, is_raisable};
 use thiserror::Error;
 use window_exec::WState;
 
@@ -84,7 +84,7 @@ fn differing(table: &Table, family: &Family, entry: &Entry, model: &Model) -> Fa
     requires model { IsModel model.now (raised_formula (header_in table.now) (family_of family.now) (rule_of entry.now)) }
     ensures { FailsFor (table_of table.now) (family_of family.now) result }
 {
-    let registers = with_scratch(named_count(&entry.left), table.scratch);
+    let registers = alphabet_registers(&entry.left, table.scratch);
     FamilyFault::Differ {
         state: state_of(model, registers),
         value: value_of(model, registers),

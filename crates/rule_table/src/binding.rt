@@ -142,7 +142,7 @@ impl Binding {
 }
 
 /// Whether two kinds stand at one place among the mnemonics of windows.
-fn same_kind(a: Kind, b: Kind) -> bool
+pub fn same_kind(a: Kind, b: Kind) -> bool
     ensures { IsTrue result ↔ (rank a ≡ rank b) }
 {
     rank(a) == rank(b)

@@ -43,6 +43,7 @@ mod windows;
 mod words;
 mod writing;
 
+pub use binding::same_kind;
 pub use errors::TableError;
 pub use header::{Field, Header, HeaderLine};
 pub use map::Map;
@@ -50,5 +51,5 @@ pub use matching::matches;
 pub use reading::read_table;
 pub use scratch::free_scratch;
 pub use table::{Entry, Family, Open, Table};
-pub use windows::canonical;
+pub use windows::{canonical, renamed_all};
 pub use writing::write_table;

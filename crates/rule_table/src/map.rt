@@ -1,5 +1,5 @@
 //! A map names registers in the order in which a window meets them: canonical register i stands for its i-th.
-ghost use Rattle.std.specs.Prelude.{◌≡◌, ◌<◌, ◌≤◌, length, map, slice_get, slice_set, Some};
+ghost use Rattle.std.specs.Prelude.{◌≡◌, ◌≤◌, length, map, slice_get, Some};
 ghost use Rattle.std.specs.Option.{option_and_then};
 ghost use Rattle.rule_table.specs.Scratch.{has_register, is_register};
 
@@ -46,7 +46,7 @@ impl Map {
     }
 
     /// The map that has these in place of r0 to r7.
-    pub(crate) fn of(given: &[Option<Low>]) -> Map
+    pub fn of(given: &[Option<Low>]) -> Map
         requires { length given.now ≤ 8 }
         ensures { result ≡ given.now }
     {
@@ -81,15 +81,5 @@ impl Map {
         self.registers
             .iter()
             .any(|given| is_register(register, *given))
-    }
-
-    /// The map that has this register in place of a canonical one, and all others as this has them.
-    pub fn with(self, canonical: u8, register: Low) -> Map
-        requires { canonical < length self }
-        ensures { result ≡ slice_set self canonical (Some register) }
-    {
-        let mut registers = self.registers;
-        registers[usize::from(canonical)] = Some(register);
-        Map { registers }
     }
 }

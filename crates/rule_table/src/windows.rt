@@ -50,7 +50,7 @@ fn normalised(window: &[Instr]) -> Seq
 }
 
 /// The instructions under a map.
-fn renamed_all(instrs: &[Instr], registers: &[Low]) -> Seq
+pub fn renamed_all(instrs: &[Instr], registers: &[Low]) -> Seq
     requires { length instrs.now ≤ 5 }
     ensures { result ≡ map (renamed registers.now) instrs.now }
 {

@@ -31,6 +31,7 @@ use Rattle.window_rewrite.specs.Rules.{entry_rule, families_in, raised_form, rai
 use Rattle.window_rewrite.specs.Choices.{choice_of, setting_of, table_in, families_sides, of_length, AreReady, FitsIn, IsChoiceBy, NoneBy}
 use Rattle.window_rewrite.specs.Families.{IsByteOf, IsInstance, IsOnlyInstance, IsFamilyChoice, IsLowestFamily, NoneOfFamily, NoneOfFamilies}
 use Rattle.window_rewrite.specs.Fitting.{IsForm}
+use Rattle.window_rewrite.proofs.Formed.{form_side}
 use Rattle.window_rewrite.proofs.Applied.{meets, meets_less}
 use Rattle.window_rewrite.proofs.Chosen.{length_at, stands_in, taken_all, taken_one}
 use Rattle.window_rewrite.specs.Forms.{form_of}
@@ -207,7 +208,7 @@ module _ (r : Rules) (n : ℕ) (f : tables.Family) (e : tables.Rule) (fam : IsFa
         family = u;
         among = v.1;
         number = v.0;
-        same = ap (λ (t : Rule). t.left) u.is ∙ formed.side s.rule s.registers fit.sound fit.canonical s.lightens.stands;
+        same = ap (λ (t : Rule). t.left) u.is ∙ form_side s.rule window form fit.sound fit.canonical formed s.registers s.lightens.stands;
       }
 
   -- so where none does, none stands there

@@ -1,6 +1,6 @@
 -- Registers of a rule: those that its left side names, and a scratch register behind them.
 use Rattle.std.proofs.Common.{◌≡◌, ℕ, zero, suc, ◌+◌, ◌<◌, ◌≤◌, ◌==◌, ◌||◌, ◌&&◌, not, Bool, true, false, List, [], ◌∷◌, ◌++◌, length, length-append, map, take, Option, Some, None, refl, sym, ap, ◌∙◌, subst, ◌⊎◌, inl, inr, arith, eqb-true, eq-eqb, true≢false, lt-ltb, ltb-true}
-use Rattle.std.specs.Prelude.{slice_get, slice_set}
+use Rattle.std.specs.Prelude.{slice_get}
 use Rattle.std.proofs.lemmas.Bool.{cases_Bool, cases_lt, or_cases, or_right}
 use Rattle.std.proofs.lemmas.Option.{slice_get_within, slice_get_past, same_Some}
 use Rattle.thumb_instr.specs.Items.{has}
@@ -11,9 +11,9 @@ use Rattle.rule_model.specs.Rules.{Rule, rule_registers, IsSoundRule}
 use Rattle.rule_table.specs.Scratch.{has_register, is_free, IsLeastFree}
 use Rattle.window_rewrite.specs.TableRewriting.{map_of, registers_of}
 use Rattle.window_rewrite.specs.Rules.{needs_scratch, AreAlike}
-use Rattle.window_rewrite.specs.Fitting.{left_registers, AreWhole, IsScratchLeast}
+use Rattle.window_rewrite.specs.Fitting.{left_registers, AreWhole, IsWholeOf}
 use Rattle.window_rewrite.proofs.Live.{Allowed}
-use Rattle.window_rewrite.proofs.Maps.{all_alike}
+use Rattle.window_rewrite.proofs.Maps.{all_alike, map_registers}
 use Rattle.window_rewrite.proofs.Sides.{names_below, register_at, windows_over}
 
 -- ---- items ----
@@ -45,13 +45,13 @@ past_none registers x h = by (slice_get registers x) refl
     by (Some r) e = absurd (let w = slice_get_within registers x r e in omega arith)
 
 -- and what is among them is one of them
-record IsOneOf (registers : List Low) (x : ℕ) : Type 0 where
-  place : ℕ
-  register : Low
-  at : slice_get registers place ≡ Some register
-  is : x ≡ register.number
+pub record IsOneOf (registers : List Low) (x : ℕ) : Type 0 where
+  pub place : ℕ
+  pub register : Low
+  pub at : slice_get registers place ≡ Some register
+  pub is : x ≡ register.number
 
-one_is : (registers : List Low) (x : ℕ) → one_of x (map (λ r. r.number) registers) ≡ true → IsOneOf registers x
+pub one_is : (registers : List Low) (x : ℕ) → one_of x (map (λ r. r.number) registers) ≡ true → IsOneOf registers x
 one_is [] x h = absurd (cc)
 one_is (r ∷ rs) x h = elim (or_cases (x == r.number) (one_of x (map (λ r. r.number) rs)) h) [
   | inl e ↦ record { place = 0; register = r; at = refl; is = eqb-true x r.number e }
@@ -243,7 +243,7 @@ whole_free rule registers live s many o allowed = record { as_many = many; free 
       | inr f ↦ f
     ]
 
--- ---- the map with it ----
+-- ---- all registers with it ----
 
 -- a map has its registers
 given_one : (given : List (Option Low)) (x : ℕ) → has_register given x ≡ one_of x (map (λ r. r.number) (registers_of given))
@@ -251,22 +251,8 @@ given_one [] x = refl
 given_one (None ∷ os) x = given_one os x
 given_one (Some r ∷ os) x = ap (λ b. (x == r.number) || b) (given_one os x)
 
--- one register more
-map_more : (n : ℕ) (rs : List Low) (r : Low) → length rs < n → slice_set (map_of n rs) (length rs) (Some r) ≡ map_of n (rs ++ r ∷ [])
-map_more zero rs r h = absurd (omega arith)
-map_more (suc n) [] r h = refl
-map_more (suc n) (x ∷ xs) r h = ap (λ os. Some x ∷ os) (map_more n xs r (omega arith))
-
-map_registers : (n : ℕ) (rs : List Low) → length rs ≤ n → registers_of (map_of n rs) ≡ rs
-map_registers zero [] h = refl
-map_registers zero (r ∷ rs) h = absurd (omega arith)
-map_registers (suc n) [] h = map_registers n [] (omega arith)
-map_registers (suc n) (r ∷ rs) h = ap (λ xs. r ∷ xs) (map_registers n rs (omega arith))
-
-pub map_length : (n : ℕ) (rs : List Low) → length (map_of n rs) ≡ n
-map_length zero rs = refl
-map_length (suc n) [] = ap suc (map_length n [])
-map_length (suc n) (r ∷ rs) = ap suc (map_length n rs)
+eight_one : (own : List Low) (x : ℕ) → length own ≤ 8 → has_register (map_of 8 own) x ≡ one_of x (map (λ r. r.number) own)
+eight_one own x few = given_one (map_of 8 own) x ∙ ap (λ (ls : List Low). one_of x (map (λ r. r.number) ls)) (map_registers 8 own few)
 
 -- what is not free is the map's or live
 not_free : (taken live : Bool) → (not live && not taken) ≡ false → (taken ≡ true) ⊎ (live ≡ true)
@@ -284,64 +270,62 @@ front_all : (xs : List Low) → take (length xs) xs ≡ xs
 front_all [] = refl
 front_all (x ∷ xs) = ap (λ ys. x ∷ ys) (front_all xs)
 
--- what a map of all registers is
-abbrev pub IsWholeOf : Rule → List Low → ℕ → List (Option Low) → Type 0
-IsWholeOf rule own live given = (left_registers rule (registers_of given) ≡ own) × AreWhole rule (registers_of given) live × IsScratchLeast rule (registers_of given) live × (length given ≡ 8) × (given ≡ map_of 8 (registers_of given))
+pub own_few : (rule : Rule) (own : List Low) → IsSoundRule rule → length own ≡ register_count rule.left → length own ≤ 4
+own_few rule own s many = let few = s.few in omega arith
 
--- where no scratch register is needed, that of the left side is
-pub whole_own : (rule : Rule) (given : List (Option Low)) (live : ℕ) → needs_scratch rule ≡ false → length (registers_of given) ≡ register_count rule.left → given ≡ map_of 8 (registers_of given) → IsWholeOf rule (registers_of given) live given
-whole_own rule given live none many in_place =
-    let own : List Low = registers_of given in
-    let past : slice_get own (register_count rule.left) ≡ None = slice_get_past own (register_count rule.left) (omega arith) in (
-      ap (λ n. take n own) (sym many) ∙ front_all own,
-      record { as_many = many ∙ sym (with_none rule none); free = λ scratch at. absurd (let bad : None ≡ Some scratch = sym past ∙ at in cc) },
-      λ scratch at x l. absurd (let bad : None ≡ Some scratch = sym past ∙ at in cc),
-      ap (λ (os : List (Option Low)). length os) in_place ∙ map_length 8 own,
-      in_place,
-    )
+-- where no scratch register is needed, they are those of the left side
+pub whole_own : (rule : Rule) (own all : List Low) (live : ℕ) → IsSoundRule rule → needs_scratch rule ≡ false → length own ≡ register_count rule.left → all ≡ own → IsWholeOf rule own live all
+whole_own rule own all live s none many same = subst (IsWholeOf rule own live) (sym same) (record {
+  front = ap (λ n. take n own) (sym many) ∙ front_all own;
+  whole = record { as_many = many ∙ sym (with_none rule none); free = λ scratch at. absurd (let bad : None ≡ Some scratch = sym past ∙ at in cc) };
+  least = λ scratch at x l. absurd (let bad : None ≡ Some scratch = sym past ∙ at in cc);
+  few = let few = own_few rule own s many in omega arith;
+})
+  where
+    past : slice_get own (register_count rule.left) ≡ None
+    past = slice_get_past own (register_count rule.left) (omega arith)
 
--- where one is, and this is the least that is free, the map with it
-pub whole_more : (rule : Rule) (given more : List (Option Low)) (live k : ℕ) (r : Low) → IsSoundRule rule → needs_scratch rule ≡ true → length (registers_of given) ≡ register_count rule.left → given ≡ map_of 8 (registers_of given)
-    → IsLeastFree given live r.number → k ≡ length (registers_of given) → more ≡ slice_set given k (Some r) → IsWholeOf rule (registers_of given) live more
-whole_more rule given more live k r s needs many in_place is here new =
-    let own : List Low = registers_of given in
-    let few = s.few in
+-- where one is, and this is the least that is free, they are those with it behind them
+pub whole_more : (rule : Rule) (own all : List Low) (live : ℕ) (r : Low) → IsSoundRule rule → needs_scratch rule ≡ true → length own ≡ register_count rule.left → IsLeastFree (map_of 8 own) live r.number → all ≡ own ++ r ∷ []
+    → IsWholeOf rule own live all
+whole_more rule own all live r s needs many is same =
+    let low = own_few rule own s many in
     let one : rule_registers rule ≡ register_count rule.left + 1 = with_one rule s needs in
-    let all : length (own ++ r ∷ []) ≡ length own + 1 = length-append own (r ∷ []) in
-    let placed : more ≡ map_of 8 (own ++ r ∷ []) =
-    new ∙ ap (λ n. slice_set given n (Some r)) here ∙ ap (λ (os : List (Option Low)). slice_set os (length own) (Some r)) in_place ∙ map_more 8 own r (omega arith) in
-    let registers : registers_of more ≡ own ++ r ∷ [] = ap registers_of placed ∙ map_registers 8 (own ++ r ∷ []) (omega arith) in
+    let count : length (own ++ r ∷ []) ≡ length own + 1 = length-append own (r ∷ []) in
     let front : take (register_count rule.left) (own ++ r ∷ []) ≡ own = ap (λ n. take n (own ++ r ∷ [])) (sym many) ∙ front_of own in
     let last : (scratch : Low) → slice_get (own ++ r ∷ []) (register_count rule.left) ≡ Some scratch → r ≡ scratch =
     λ scratch at. same_Some r scratch (sym (get_back own (r ∷ []) 0 (register_count rule.left) (omega arith)) ∙ at) in
-    let neither = is_neither (has_register given r.number) (has live r.number) is.free in
-    let free : (scratch : Low) → slice_get (own ++ r ∷ []) (register_count rule.left) ≡ Some scratch → (one_of scratch.number (map (λ r. r.number) (left_registers rule (own ++ r ∷ []))) ≡ false) × (has live scratch.number ≡ false) =
-    λ scratch at. subst (λ (z : Low). (one_of z.number (map (λ r. r.number) (left_registers rule (own ++ r ∷ []))) ≡ false) × (has live z.number ≡ false)) (last scratch at)
-    (ap (λ (ls : List Low). one_of r.number (map (λ r. r.number) ls)) front ∙ sym (given_one given r.number) ∙ neither.0, neither.1) in
-    let least : IsScratchLeast rule (own ++ r ∷ []) live =
-    λ scratch at x l. elim (not_free (has_register given x) (has live x) (is.least x (subst (λ (z : Low). x < z.number) (sym (last scratch at)) l))) [
-      | inl t ↦ inl (ap (λ (ls : List Low). one_of x (map (λ r. r.number) ls)) front ∙ sym (given_one given x) ∙ t)
-      | inr t ↦ inr t
-    ] in (
-      ap (left_registers rule) registers ∙ front,
-      subst (λ (rs : List Low). AreWhole rule rs live) (sym registers) (record { as_many = all ∙ (let e : length own + 1 ≡ rule_registers rule = omega arith in e); free = free }),
-      subst (λ (rs : List Low). IsScratchLeast rule rs live) (sym registers) least,
-      ap (λ (os : List (Option Low)). length os) placed ∙ map_length 8 (own ++ r ∷ []),
-      placed ∙ ap (map_of 8) (sym registers),
-    )
+    let neither = is_neither (has_register (map_of 8 own) r.number) (has live r.number) is.free in
+    let taken : (x : ℕ) → has_register (map_of 8 own) x ≡ one_of x (map (λ r. r.number) (left_registers rule (own ++ r ∷ []))) =
+    λ x. eight_one own x (omega arith) ∙ ap (λ (ls : List Low). one_of x (map (λ r. r.number) ls)) (sym front) in
+    subst (IsWholeOf rule own live) (sym same) (record {
+      front = front;
+      whole = record {
+        as_many = count ∙ (let e : length own + 1 ≡ rule_registers rule = omega arith in e);
+        free = λ scratch at. subst (λ (z : Low). (one_of z.number (map (λ r. r.number) (left_registers rule (own ++ r ∷ []))) ≡ false) × (has live z.number ≡ false)) (last scratch at)
+            (sym (taken r.number) ∙ neither.0, neither.1);
+      };
+      least = λ scratch at x l. elim (not_free (has_register (map_of 8 own) x) (has live x) (is.least x (subst (λ (z : Low). x < z.number) (sym (last scratch at)) l))) [
+        | inl t ↦ inl (sym (taken x) ∙ t)
+        | inr t ↦ inr t
+      ];
+      few = omega arith;
+    })
   where
     front_of : (xs : List Low) → take (length xs) (xs ++ r ∷ []) ≡ xs
     front_of [] = refl
     front_of (x ∷ xs) = ap (λ ys. x ∷ ys) (front_of xs)
 
--- where one is needed and none is free, there is no such map
-pub none_whole : (rule : Rule) (given : List (Option Low)) (live : ℕ) (registers : List Low) → IsSoundRule rule → needs_scratch rule ≡ true → ((x : ℕ) → x < 8 → is_free given live x ≡ false) → left_registers rule registers ≡ registers_of given → AreWhole rule registers live → ⊥
-none_whole rule given live registers s needs none own w =
+-- where one is needed and none is free, there are no such registers
+pub none_whole : (rule : Rule) (own registers : List Low) (live : ℕ) → IsSoundRule rule → needs_scratch rule ≡ true → length own ≡ register_count rule.left → ((x : ℕ) → x < 8 → is_free (map_of 8 own) live x ≡ false)
+    → left_registers rule registers ≡ own → AreWhole rule registers live → ⊥
+none_whole rule own registers live s needs count none is_own w =
+    let low = own_few rule own s count in
     let one = with_one rule s needs in
     let many = w.as_many in
     let r = register_at registers (register_count rule.left) (omega arith) in
     let free = w.free r.register r.is in
-    elim (not_free (has_register given r.register.number) (has live r.register.number) (none r.register.number r.register.below)) [
-      | inl t ↦ true≢false (sym t ∙ given_one given r.register.number ∙ ap (λ (ls : List Low). one_of r.register.number (map (λ r. r.number) ls)) (sym own) ∙ free.0)
+    elim (not_free (has_register (map_of 8 own) r.register.number) (has live r.register.number) (none r.register.number r.register.below)) [
+      | inl t ↦ true≢false (sym t ∙ eight_one own r.register.number (omega arith) ∙ ap (λ (ls : List Low). one_of r.register.number (map (λ r. r.number) ls)) (sym is_own) ∙ free.0)
       | inr t ↦ true≢false (sym t ∙ free.1)
     ]

@@ -6,9 +6,9 @@ use Rattle.thumb_instr.specs.Window.{Low, renamed, item_under}
 use Rattle.thumb_model.specs.Flow.{LiveAfter}
 use Rattle.thumb_model.specs.Effect.{one_of, IsOneToOne, register_count, normalised}
 use Rattle.thumb_model.specs.Listing.{ListingLine, code_of}
-use Rattle.rule_model.specs.Rules.{Rule, rule_at, rule_registers, IsSoundRule}
+use Rattle.rule_model.specs.Rules.{Rule, rule_at, rule_registers}
+use Rattle.rule_table.specs.Canonical.{IsRenamable, IsCanonical}
 use Rattle.seq_enum.specs.Costs.{weight_under}
-use Rattle.table_audit.specs.Shorter.{IsCanonicalSide}
 use Rattle.window_runs.specs.Windows.{IsWindow}
 use Rattle.window_rewrite.specs.declared.forms.Form.{Form}
 use Rattle.window_rewrite.specs.declared.marks.Marks.{Marks}
@@ -77,10 +77,17 @@ pub record FitsWhole (rule : Rule) (registers : List Low) (window : List Instr) 
   pub fits : Fits rule (left_registers rule registers) window live
   pub whole : AreWhole rule registers live
 
+-- of a rule whose left side has these registers they are all: where it needs one, the scratch register is the least that is free
+pub record IsWholeOf (rule : Rule) (own : List Low) (live : ℕ) (registers : List Low) : Type 0 where
+  pub front : left_registers rule registers ≡ own
+  pub whole : AreWhole rule registers live
+  pub least : IsScratchLeast rule registers live
+  pub few : length registers ≤ 8
+
 -- ---- the form of a window ----
 
--- what is told of a window is true of each rule that may stand in it
+-- what is told of a window: its canonical form with its own registers, and the number of that; where a rule fits, its mask has what the form's mask has
 pub record IsForm (window : List Instr) (f : Form) : Type 0 where
-  pub side : (rule : Rule) (registers : List Low) → IsSoundRule rule → IsCanonicalSide rule.left → Stands rule registers window → rule.left ≡ f.side
-  pub number : (rule : Rule) (registers : List Low) → IsSoundRule rule → IsCanonicalSide rule.left → Stands rule registers window → form_of rule.left ≡ f.number
-  pub mask : (rule : Rule) (registers : List Low) → IsSoundRule rule → IsCanonicalSide rule.left → Fits rule registers window f.live.bits → (x : ℕ) → has f.mask.items.bits x ≡ true → one_of x rule.mask ≡ true
+  pub renamable : IsRenamable window
+  pub canonical : IsCanonical window f.live.bits f.side (map Some f.registers.items) f.mask.items.bits
+  pub number : f.number ≡ form_of f.side

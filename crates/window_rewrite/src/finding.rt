@@ -2,10 +2,11 @@
 ghost use Rattle.std.specs.Prelude.{◌≡◌, ◌+◌, ◌-◌, ◌<◌, ◌≤◌, ◌↔◌, max, List, length, true, false, ◌==◌, is_some, IfOk, OnOk, IfSome, IfNone, OnSome};
 ghost use Rattle.std.specs.Int.{from_bool};
 ghost use Rattle.std.specs.List.{list_all};
-ghost use Rattle.thumb_instr.specs.Window.{Low, is_in_window};
+ghost use Rattle.thumb_instr.specs.Window.{Low as LowRegister, is_in_window};
 ghost use Rattle.listing_parser.specs.Grammar.{most_lines};
 ghost use Rattle.window_runs.specs.Windows.{IsWindow};
 ghost use Rattle.step_ledger.specs.Counts.{RisesByAtLeast};
+ghost use Rattle.window_rewrite.specs.TableRewriting.{map_of};
 ghost use Rattle.window_rewrite.specs.Fitting.{IsForm, NoneReaches, StandsThere};
 ghost use Rattle.window_rewrite.specs.Rules.{entry_rule, rules_in, side_length, IsFit};
 ghost use Rattle.window_rewrite.specs.Choices.{entries_setting, setting_of, sides_of, table_in, choice_of, of_length, AreReady, Awaits, IsBest, IsChoice, IsChoiceBy, IsLowest, Meets, NoneAt, NoneBy, NoneOf};
@@ -18,17 +19,17 @@ use crate::fitting::fitting;
 use crate::forms::Form;
 use crate::fronts::may_stand;
 use crate::index::RuleIndex;
-use crate::items::registers_of;
-use crate::replacing::renamed_all;
+use crate::registers::map_to;
 use crate::scene::{Scene, Site};
 use crate::shadows::is_lighter;
+use arrayvec::ArrayVec;
 use kept_layout::Move;
 use listing_parser::Memory;
-use rule_table::{Entry, Family, Map};
+use rule_table::{Entry, Family, renamed_all};
 use seq_enum::Costs;
 use std::alloc::Global;
 use step_ledger::{Ledger, Steps};
-use thumb_instr::{Instr, Items, Seq};
+use thumb_instr::{Instr, Items, Low, Seq};
 
 /// A table as the finder goes by it.
 #[derive(Drop)]
@@ -127,17 +128,25 @@ fn copied(window: &[Instr]) -> Seq
     seq
 }
 
-/// The choice by which a window gives way to these instructions.
-fn choice_at(sight: &Sight<'_>, entry: u64, instance: u8, map: Map, new: Seq, moved: Move) -> Choice
-    requires { length sight.now.window.now ≤ 5 }
-    ensures { result ≡ record { replacement = record { place = number_seen sight.now.look.now; entry = entry; instance = instance; map = map }; window = sight.now.window.now; new = new; moved = moved } }
+/// The choice by which a window gives way to these instructions, with these registers in place of the rule's.
+fn choice_at(
+    sight: &Sight<'_>,
+    entry: u64,
+    instance: u8,
+    registers: &[Low],
+    new: Seq,
+    moved: Move,
+) -> Choice
+    requires short { length sight.now.window.now ≤ 5 }
+    requires few { length registers.now ≤ 8 }
+    ensures { result ≡ record { replacement = record { place = number_seen sight.now.look.now; entry = entry; instance = instance; map = map_of 8 registers.now }; window = sight.now.window.now; new = new; moved = moved } }
 {
     Choice {
         replacement: Replacement {
             place: sight.look.site.number,
             entry,
             instance,
-            map,
+            map: map_to(registers),
         },
         window: copied(sight.window),
         new,
@@ -171,15 +180,12 @@ pub(crate) fn try_rule<L: Ledger>(
     if !is_lighter(look.rules.costs, rule) {
         return Ok(None);
     }
-    if !sight.form.may_fit(rule.mask) {
-        return Ok(None);
-    }
     steps.tick();
-    let map = match fitting(rule, sight.window, sight.form.live) {
+    let registers = match fitting(sight, rule) {
         None => return Ok(None),
-        Some(map) => map,
+        Some(registers) => registers,
     };
-    let new = renamed_all(rule.right.as_slice(), &registers_of(&map));
+    let new = renamed_all(rule.right.as_slice(), &registers);
     let count = sight.window.len();
     if !look
         .scene
@@ -194,7 +200,7 @@ pub(crate) fn try_rule<L: Ledger>(
         }
         Some(moved) => moved,
     };
-    Ok(Some(choice_at(sight, entry, instance, map, new, moved)))
+    Ok(Some(choice_at(sight, entry, instance, &registers, new, moved)))
 }
 
 /// What the entry of a number makes of a window, where its left side is as long. `refused` comes to be true where the entry fits and what it leaves is refused.
@@ -210,7 +216,7 @@ fn try_entry<L: Ledger>(
     ensures long { IfOk result (λ o. OnSome o (side_length (rules_in sight.now.look.now.rules.now.entries.now) number ≡ length sight.now.window.now)) }
     ensures some { IfOk result (λ o. IfSome o (λ c. IsChoice (entries_setting sight.now.look.now.rules.now) (lines_seen sight.now.look.now) c × ((choice_of c).place ≡ number_seen sight.now.look.now) × ((choice_of c).entry ≡ number))) }
     ensures moved { IfOk result (λ o. IfSome o (λ c. Moves sight.now.look.now.scene.now.layout c.window c.new c.moved)) }
-    ensures none { IfOk result (λ o. IfNone o (side_length (rules_in sight.now.look.now.rules.now.entries.now) number ≡ length sight.now.window.now → (registers : List Low) → Meets refused.new (entries_setting sight.now.look.now.rules.now) (record { place = number_seen sight.now.look.now; entry = number; instance = 0; registers = registers }) (lines_seen sight.now.look.now) → ⊥)) }
+    ensures none { IfOk result (λ o. IfNone o (side_length (rules_in sight.now.look.now.rules.now.entries.now) number ≡ length sight.now.window.now → (registers : List LowRegister) → Meets refused.new (entries_setting sight.now.look.now.rules.now) (record { place = number_seen sight.now.look.now; entry = number; instance = 0; registers = registers }) (lines_seen sight.now.look.now) → ⊥)) }
     ensures stays { OnOk result (refused.old ≡ true → refused.new ≡ true) }
     ensures cost { steps.new ≤ steps.old + from_bool (side_length (rules_in sight.now.look.now.rules.now.entries.now) number == length sight.now.window.now) }
     ensures rises { IfOk result (λ o. RisesByAtLeast steps.old steps.new (from_bool (is_some o))) }

@@ -1,34 +1,33 @@
-//! Whether an entry fits a window, as far as the window and the live items tell.
-ghost use Rattle.std.specs.Prelude.{◌≡◌, List, length, true, MatchOption};
-ghost use Rattle.std.specs.List.{list_all};
-ghost use Rattle.thumb_instr.specs.Window.{Low, is_in_window};
+//! Whether an entry fits a window, as far as the window and the live items tell. A window's canonical form has its registers: an entry stands in it just where its
+//! left side is that form, and then with these.
+ghost use Rattle.std.specs.Prelude.{◌≡◌, ◌≤◌, List, length, MatchOption};
+ghost use Rattle.thumb_instr.specs.Window.{Low as LowRegister};
 ghost use Rattle.rule_model.specs.Rules.{IsSoundRule};
 ghost use Rattle.table_audit.specs.Shorter.{IsCanonicalSide};
-ghost use Rattle.window_rewrite.specs.TableRewriting.{map_of, registers_of};
 ghost use Rattle.window_rewrite.specs.Rules.{entry_rule};
-ghost use Rattle.window_rewrite.specs.Fitting.{FitsWhole, IsScratchLeast};
+ghost use Rattle.window_rewrite.specs.Fitting.{FitsWhole, IsForm, IsScratchLeast};
 
-use crate::items::{are_allowed, registers_of};
+use crate::finding::Sight;
 use crate::scratch::with_scratch;
-use rule_table::{Entry, Map, canonical, matches};
-use thumb_instr::{Instr, Items, Seq};
+use crate::shadows::are_same;
+use arrayvec::ArrayVec;
+use rule_table::Entry;
+use thumb_instr::Low;
 
-/// The map under which an entry matches a window after which these items are live and may be: with the least scratch register that
-/// is free, if the entry needs one. None where it matches with none.
-pub(crate) fn fitting(entry: &Entry, window: &[Instr], live: Items) -> Option<Map>
+/// The registers in place of an entry's own with which it fits the window that is seen: behind those of the left side the least scratch register that is free, if
+/// the entry needs one. None where it fits with none.
+pub(crate) fn fitting(sight: &Sight<'_>, entry: &Entry) -> Option<ArrayVec<Low, 8>>
+    requires form { IsForm sight.now.window.now sight.now.form.now }
     requires sound { IsSoundRule (entry_rule entry.now) }
     requires canonical { IsCanonicalSide (entry_rule entry.now).left }
-    requires windows { list_all is_in_window window.now ≡ true }
-    ensures { MatchOption result ((registers : List Low) → FitsWhole (entry_rule entry.now) registers window.now live.bits → ⊥) (λ map. FitsWhole (entry_rule entry.now) (registers_of map) window.now live.bits × IsScratchLeast (entry_rule entry.now) (registers_of map) live.bits × (length map ≡ 8) × (map ≡ map_of 8 (registers_of map))) }
+    ensures { MatchOption result ((registers : List LowRegister) → FitsWhole (entry_rule entry.now) registers sight.now.window.now sight.now.form.now.live.bits → ⊥) (λ r. FitsWhole (entry_rule entry.now) r.items sight.now.window.now sight.now.form.now.live.bits × IsScratchLeast (entry_rule entry.now) r.items sight.now.form.now.live.bits × (length r.items ≤ 8)) }
 {
-    match matches(entry, window) {
-        None => None,
-        Some(map) => {
-            if are_allowed(entry.mask, &registers_of(&map), live) {
-                with_scratch(entry, map, live)
-            } else {
-                None
-            }
-        }
+    let form = sight.form;
+    if !are_same(entry.left.as_slice(), form.side.as_slice()) {
+        return None;
     }
+    if !form.may_fit(entry.mask) {
+        return None;
+    }
+    with_scratch(entry, &form.registers, form.live)
 }

@@ -1,8 +1,8 @@
 //! What of a window tells which entries may fit it: its canonical form and a number of that, and the items that are live after it, by the names of that form.
-ghost use Rattle.std.specs.Prelude.{◌≡◌, ◌<◌, ℕ, List, map, true, IfOk, IfSome, IfNone};
+ghost use Rattle.std.specs.Prelude.{◌≡◌, ◌<◌, ◌↔◌, ℕ, List, map, true, IfOk, IfSome, IfNone};
 ghost use Rattle.std.specs.List.{list_all};
 ghost use Rattle.thumb_instr.specs.Items.{has};
-ghost use Rattle.thumb_instr.specs.Window.{Low, is_in_window};
+ghost use Rattle.thumb_instr.specs.Window.{Low as LowRegister, is_in_window};
 ghost use Rattle.rule_model.specs.Rules.{Rule, IsSoundRule};
 ghost use Rattle.rule_table.specs.Views.{family_of, rule_of};
 ghost use Rattle.table_audit.specs.Families.{entry_at};
@@ -12,12 +12,14 @@ ghost use Rattle.window_rewrite.specs.Forms.{form_of, letter_number, next_form};
 ghost use Rattle.window_rewrite.specs.Rules.{left_forms, raised_form, raised_forms, rules_in};
 
 use crate::hashes::{HASHES, blind_all};
+use crate::registers::registers_of;
+use arrayvec::ArrayVec;
 use listing_parser::Memory;
 use rule_table::{Entry, Family, canonical};
 use seq_enum::rank;
 use std::alloc::Global;
 use table_audit::entry_at;
-use thumb_instr::{Instr, Items, Mask, Seq, parts};
+use thumb_instr::{Instr, Items, Low, Mask, Seq, parts};
 
 /// What of a window tells which entries may fit it.
 #[derive(Drop)]
@@ -25,9 +27,11 @@ pub(crate) struct Form {
     /// The left side of each rule that stands in the window, and its number.
     pub(crate) side: Seq,
     pub(crate) number: usize,
+    /// The window's registers in place of the side's.
+    pub(crate) registers: ArrayVec<Low, 8>,
     /// The items that are live after it.
     pub(crate) live: Items,
-    /// Those of them that the mask of an entry has if it fits, by its own names for registers.
+    /// Those of them that the mask of an entry has just where it fits, by its own names for registers.
     pub(crate) mask: Mask,
 }
 
@@ -102,17 +106,18 @@ impl Form {
     /// The form of a window after which these items are live: none where no left side stands in it.
     pub(crate) fn of(window: &[Instr], live: Items) -> Option<Form>
         requires { list_all is_in_window window.now ≡ true }
-        ensures none { IfNone result ((rule : Rule) (registers : List Low) → IsSoundRule rule → IsCanonicalSide rule.left → Stands rule registers window.now → ⊥) }
+        ensures none { IfNone result ((rule : Rule) (registers : List LowRegister) → IsSoundRule rule → IsCanonicalSide rule.left → Stands rule registers window.now → ⊥) }
         ensures some { IfSome result (IsForm window.now) }
         ensures live { IfSome result (λ f. f.live ≡ live) }
     {
         match canonical(window, live) {
             None => None,
-            Some((side, _map, mask)) => {
+            Some((side, map, mask)) => {
                 let number = form_of(side.as_slice());
                 Some(Form {
                     side,
                     number,
+                    registers: registers_of(&map),
                     live,
                     mask,
                 })
@@ -120,9 +125,9 @@ impl Form {
         }
     }
 
-    /// Whether the mask of an entry has what it must have if the entry fits.
+    /// Whether the mask of an entry has all that it must have.
     pub(crate) fn may_fit(&self, mask: Mask) -> bool
-        ensures { ((x : ℕ) → has self.now.mask.items.bits x ≡ true → has mask.items.bits x ≡ true) → result ≡ true }
+        ensures { (result ≡ true) ↔ ((x : ℕ) → has self.now.mask.items.bits x ≡ true → has mask.items.bits x ≡ true) }
     {
         self.mask.items.bits & mask.items.bits == self.mask.items.bits
     }

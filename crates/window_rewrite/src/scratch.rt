@@ -1,15 +1,15 @@
 //! The scratch register that an entry's right side may use beside those of its left side.
 ghost use Rattle.std.specs.Prelude.{◌≡◌, List, length, MatchOption};
-ghost use Rattle.thumb_instr.specs.Window.{named, named_by, Low};
+ghost use Rattle.thumb_instr.specs.Window.{named, named_by, Low as LowRegister};
 ghost use Rattle.thumb_model.specs.Effect.{above, register_count};
 ghost use Rattle.rule_model.specs.Rules.{IsSoundRule};
-ghost use Rattle.window_rewrite.specs.TableRewriting.{map_of, registers_of};
 ghost use Rattle.window_rewrite.specs.Rules.{entry_rule, needs_scratch};
-ghost use Rattle.window_rewrite.specs.Fitting.{left_registers, AreWhole, IsScratchLeast};
+ghost use Rattle.window_rewrite.specs.Fitting.{left_registers, AreWhole, IsWholeOf};
 
-use crate::items::registers_of;
-use rule_table::{Entry, Map, free_scratch};
-use thumb_instr::{Instr, Items, Role, parts, roles};
+use crate::registers::map_to;
+use arrayvec::ArrayVec;
+use rule_table::{Entry, free_scratch};
+use thumb_instr::{Instr, Items, Low, Role, parts, roles};
 
 /// The least number above the register that a role has, if it is one.
 fn above_by(role: Role, number: u32) -> u64
@@ -50,22 +50,25 @@ pub(crate) fn needs_scratch(entry: &Entry) -> bool
     register_count(entry.left.as_slice()) < register_count(entry.right.as_slice())
 }
 
-/// The map of all registers of an entry that has these for its left side, where these items are live after the window: with the least scratch register that is free,
-/// if the entry needs one. None where none is.
-pub(crate) fn with_scratch(entry: &Entry, map: Map, live: Items) -> Option<Map>
+/// All registers of an entry whose left side has these, where these items are live after the window: behind them the least scratch register that is free, if the
+/// entry needs one. None where none is.
+pub(crate) fn with_scratch(entry: &Entry, own: &[Low], live: Items) -> Option<ArrayVec<Low, 8>>
     requires sound { IsSoundRule (entry_rule entry.now) }
-    requires own { length (registers_of map) ≡ register_count entry.now.left }
-    requires in_place { map ≡ map_of 8 (registers_of map) }
-    ensures { MatchOption result ((registers : List Low) → left_registers (entry_rule entry.now) registers ≡ registers_of map → AreWhole (entry_rule entry.now) registers live.bits → ⊥) (λ whole. (left_registers (entry_rule entry.now) (registers_of whole) ≡ registers_of map) × AreWhole (entry_rule entry.now) (registers_of whole) live.bits × IsScratchLeast (entry_rule entry.now) (registers_of whole) live.bits × (length whole ≡ 8) × (whole ≡ map_of 8 (registers_of whole))) }
+    requires own { length own.now ≡ register_count entry.now.left }
+    ensures { MatchOption result ((registers : List LowRegister) → left_registers (entry_rule entry.now) registers ≡ own.now → AreWhole (entry_rule entry.now) registers live.bits → ⊥) (λ r. IsWholeOf (entry_rule entry.now) own.now live.bits r.items) }
 {
-    if !needs_scratch(entry) {
-        return Some(map);
+    let mut registers = ArrayVec::new();
+    for register in own {
+        registers.push(*register);
     }
-    match free_scratch(entry, &map, live) {
+    if !needs_scratch(entry) {
+        return Some(registers);
+    }
+    match free_scratch(entry, &map_to(own), live) {
         None => None,
         Some(scratch) => {
-            let canonical = registers_of(&map).len() as u8;
-            Some(map.with(canonical, scratch))
+            registers.push(scratch);
+            Some(registers)
         }
     }
 }

@@ -1,8 +1,9 @@
 //! Which entries of a table are looked for: those whose right side weighs less than their left side. One that has the left side and the mask of an earlier one of
 //! these and a right side as long is never the first that applies, unless the earlier one alone needs a scratch register: where it fits, so does the earlier one,
 //! and the lines and their layout see only how many instructions go. It is shadowed.
-ghost use Rattle.std.specs.Prelude.{◌≡◌, ◌↔◌, ◌+◌, ◌*◌, ◌/◌, ◌%◌, ◌<◌, length, slice_get, Some, true, IfOk, IsTrue};
-ghost use Rattle.seq_enum.specs.Places.{rank};
+ghost use Rattle.std.specs.Prelude.{◌≡◌, ◌+◌, ◌*◌, ◌/◌, ◌%◌, ◌<◌, length, slice_get, Some, true, IfOk};
+ghost use Rattle.std.specs.List.{list_all};
+ghost use Rattle.thumb_instr.specs.Window.{is_in_window};
 ghost use Rattle.rule_model.specs.Rules.{Rule};
 ghost use Rattle.window_rewrite.specs.Forms.{form_of};
 ghost use Rattle.window_rewrite.specs.Rules.{entry_rule, is_lighter, rules_in, AreAlike, AreKept, AreLed, IsLed};
@@ -10,10 +11,10 @@ ghost use Rattle.window_rewrite.specs.Rules.{entry_rule, is_lighter, rules_in, A
 use crate::forms::form_of;
 use crate::scratch::needs_scratch;
 use listing_parser::Memory;
-use rule_table::Entry;
-use seq_enum::{Costs, rank, weight};
+use rule_table::{Entry, same_kind};
+use seq_enum::{Costs, weight};
 use std::alloc::Global;
-use thumb_instr::{Instr, Kind, in_window, parts};
+use thumb_instr::{Instr, in_window, parts};
 
 /// Whether an entry's right side weighs less than its left side.
 pub(crate) fn is_lighter(costs: &Option<Costs>, entry: &Entry) -> bool
@@ -22,16 +23,10 @@ pub(crate) fn is_lighter(costs: &Option<Costs>, entry: &Entry) -> bool
     weight(costs, &entry.right) < weight(costs, &entry.left)
 }
 
-/// Whether two kinds stand at one place among the mnemonics of windows.
-fn same_kind(kind: Kind, other: Kind) -> bool
-    ensures { IsTrue result ↔ (rank kind ≡ rank other) }
-{
-    rank(kind) == rank(other)
-}
-
 /// Whether an instruction that may stand in a window is another.
 fn is_same(instr: &Instr, other: &Instr) -> bool
-    ensures { result ≡ true → instr.now ≡ other.now }
+    ensures same { result ≡ true → instr.now ≡ other.now }
+    ensures all { is_in_window instr.now ≡ true → instr.now ≡ other.now → result ≡ true }
 {
     let own = parts(instr);
     let others = parts(other);
@@ -47,9 +42,10 @@ fn is_same(instr: &Instr, other: &Instr) -> bool
     own.third == others.third
 }
 
-/// Whether two sides are the same.
-fn are_same(side: &[Instr], other: &[Instr]) -> bool
-    ensures { result ≡ true → side.now ≡ other.now }
+/// Whether a side whose instructions may stand in windows is another.
+pub(crate) fn are_same(side: &[Instr], other: &[Instr]) -> bool
+    ensures same { result ≡ true → side.now ≡ other.now }
+    ensures all { list_all is_in_window side.now ≡ true → side.now ≡ other.now → result ≡ true }
 {
     match side {
         [] => other.is_empty(),

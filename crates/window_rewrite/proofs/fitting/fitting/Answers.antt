@@ -1,14 +1,15 @@
-use Rattle.std.proofs.Common.{◌≡◌, ◌∙◌, ℕ, List, Option, Some, None, true, sym, subst, true≢false}
+use Rattle.std.proofs.Common.{◌≡◌, ◌∙◌, ℕ, List, Option, Some, None, length, true, sym, subst, true≢false}
 use Rattle.std.specs.Prelude.{MatchOption}
+use Rattle.thumb_instr.specs.declared.instr.Instr.{Instr}
 use Rattle.thumb_instr.specs.Items.{has}
 use Rattle.thumb_instr.specs.Window.{Low}
-use Rattle.table_audit.specs.Soundness.{items_in}
 use Rattle.rule_model.specs.Rules.{Rule}
-use Rattle.window_rewrite.specs.TableRewriting.{registers_of}
+use Rattle.thumb_model.specs.Effect.{one_of, register_count}
+use Rattle.table_audit.proofs.Names.{has_one, one_has}
 use Rattle.window_rewrite.specs.Rules.{entry_rule}
-use Rattle.window_rewrite.specs.Fitting.{left_registers, is_allowed, Fits}
-use Rattle.window_rewrite.proofs.Sides.{stands_once}
-use Rattle.window_rewrite.proofs.Maps.{map_stands, stands_matches}
+use Rattle.window_rewrite.specs.Fitting.{left_registers, Fits}
+use Rattle.window_rewrite.proofs.Formed.{form_allowed, form_mask, form_registers, form_side, form_stands}
+use Rattle.window_rewrite.proofs.Sides.{windows_over}
 use Rattle.window_rewrite.proofs.fitting.fitting.Goals as goal
 
 -- what is said of both cases
@@ -16,39 +17,40 @@ matched : {X : Type 0} (o : Option X) (P R : Type 0) (Q S : X → Type 0) → (P
 matched None P R Q S f g h = f h
 matched (Some x) P R Q S f g h = g x h
 
-pub returns-in-None : goal.returns-in-None
-returns-in-None c = λ registers f.
-    let m = stands_matches (entry_rule c.args.entry.now) (left_registers (entry_rule c.args.entry.now) registers) c.args.window.now c.requires.sound c.requires.windows f.fits.stands in
-    c.in-None.ensures m.0 m.1
+pub returns-then-not-are_same : goal.returns-then-not-are_same
+returns-then-not-are_same c = λ registers f.
+    let rule : Rule = entry_rule c.args.entry.now in
+    let same = form_side rule c.args.sight.now.window.now c.args.sight.now.form.now c.requires.sound c.requires.canonical c.requires.form (left_registers rule registers) f.fits.stands in
+    let windows = windows_over (register_count rule.left) rule.left c.requires.sound.left in
+    true≢false (sym (c.are_same.ensures.all (rw (c.as_slice.ensures.value) windows) (c.as_slice.ensures.value ∙ same ∙ sym c.as_slice-2.ensures.value)) ∙ c.if-not-are_same.true)
+
+pub returns-then-not-may_fit : goal.returns-then-not-may_fit
+returns-then-not-may_fit c = λ registers f.
+    let rule : Rule = entry_rule c.args.entry.now in
+    let all : (x : ℕ) → has c.args.sight.now.form.now.mask.items.bits x ≡ true → has c.args.entry.now.mask.items.bits x ≡ true =
+    λ x h. (has_one c.args.entry.now.mask.items.bits x (form_mask rule c.args.sight.now.window.now c.args.sight.now.form.now c.requires.sound c.requires.canonical c.requires.form (left_registers rule registers) x f.fits h)).0 in
+    true≢false (sym (c.may_fit.ensures.1 all) ∙ c.if-not-may_fit.true)
 
 pub with_scratch-requires-clause-own : goal.with_scratch-requires-clause-own
-with_scratch-requires-clause-own c = (map_stands (entry_rule c.args.entry.now) c.args.window.now c.in-Some.map c.requires.sound c.in-Some.ensures).0.as_many
+with_scratch-requires-clause-own c =
+    let same = sym c.as_slice.ensures.value ∙ c.are_same.ensures.same c.if-not-are_same.false ∙ c.as_slice-2.ensures.value in
+    let stands = form_stands (entry_rule c.args.entry.now) c.args.sight.now.window.now c.args.sight.now.form.now c.requires.sound c.requires.canonical c.requires.form same in
+    subst (λ (rs : List Low). length rs ≡ register_count c.args.entry.now.left) (sym c.deref.ensures.0) stands.as_many
 
-pub with_scratch-requires-clause-in_place : goal.with_scratch-requires-clause-in_place
-with_scratch-requires-clause-in_place c = (map_stands (entry_rule c.args.entry.now) c.args.window.now c.in-Some.map c.requires.sound c.in-Some.ensures).2
-
-pub returns-then-are_allowed : goal.returns-then-are_allowed
-returns-then-are_allowed c =
+pub returns : goal.returns
+returns c =
     let rule : Rule = entry_rule c.args.entry.now in
-    let own : List Low = registers_of c.in-Some.map in
-    let m = map_stands rule c.args.window.now c.in-Some.map c.requires.sound c.in-Some.ensures in
-    let registers : c.deref.result.now ≡ own = c.deref.ensures.0 ∙ c.registers_of.ensures in
-    let fits : Fits rule own c.args.window.now c.args.live.bits = record {
-      stands = m.0;
-      allowed = λ x h. subst (λ (l : List Low). is_allowed (items_in c.args.entry.now.mask.items.bits) l x ≡ true) registers (c.are_allowed.ensures.0 c.if-are_allowed.true x h);
+    let window : List Instr = c.args.sight.now.window.now in
+    let live : ℕ = c.args.sight.now.form.now.live.bits in
+    let own : List Low = c.args.sight.now.form.now.registers.items in
+    let same = sym c.as_slice.ensures.value ∙ c.are_same.ensures.same c.if-not-are_same.false ∙ c.as_slice-2.ensures.value in
+    let all : (x : ℕ) → has c.args.sight.now.form.now.mask.items.bits x ≡ true → one_of x rule.mask ≡ true =
+    λ x h. one_has c.args.entry.now.mask.items.bits x (c.may_fit.ensures.0 c.if-not-may_fit.false x h) (c.args.sight.now.form.now.mask.in_masks x h) in
+    let fits : Fits rule own window live = record {
+      stands = form_stands rule window c.args.sight.now.form.now c.requires.sound c.requires.canonical c.requires.form same;
+      allowed = form_allowed rule window c.args.sight.now.form.now c.requires.sound c.requires.canonical c.requires.form same all;
     } in
     matched c.with_scratch.result _ _ _ _
-    (λ none given f. none given (stands_once rule (left_registers rule given) own c.args.window.now c.requires.sound c.requires.canonical f.fits.stands m.0) f.whole)
-    (λ whole w. (record { fits = subst (λ (l : List Low). Fits rule l c.args.window.now c.args.live.bits) (sym w.0) fits; whole = w.1 }, w.2, w.3, w.4))
+    (λ none given f. none given (form_registers rule window c.args.sight.now.form.now c.requires.sound c.requires.canonical c.requires.form (left_registers rule given) f.fits.stands ∙ sym c.deref.ensures.0) f.whole)
+    (λ whole w. (record { fits = subst (λ (l : List Low). Fits rule l window live) (sym (w.front ∙ c.deref.ensures.0)) fits; whole = w.whole }, w.least, w.few))
     c.with_scratch.ensures
-
-pub returns-else-are_allowed : goal.returns-else-are_allowed
-returns-else-are_allowed c = λ given f.
-    let rule : Rule = entry_rule c.args.entry.now in
-    let own : List Low = registers_of c.in-Some.map in
-    let m = map_stands rule c.args.window.now c.in-Some.map c.requires.sound c.in-Some.ensures in
-    let registers : c.deref.result.now ≡ own = c.deref.ensures.0 ∙ c.registers_of.ensures in
-    let same : left_registers rule given ≡ own = stands_once rule (left_registers rule given) own c.args.window.now c.requires.sound c.requires.canonical f.fits.stands m.0 in
-    let all : (x : ℕ) → has c.args.live.bits x ≡ true → is_allowed (items_in c.args.entry.now.mask.items.bits) c.deref.result.now x ≡ true =
-    λ x h. subst (λ (l : List Low). is_allowed (items_in c.args.entry.now.mask.items.bits) l x ≡ true) (same ∙ sym registers) (f.fits.allowed x h) in
-    true≢false (sym (c.are_allowed.ensures.1 all) ∙ c.if-are_allowed.false)

@@ -4,8 +4,8 @@ use Rattle.thumb_instr.proofs.PartLemmas.{same_parts, same_fields}
 use Rattle.rule_table.proofs.KindLemmas.{same_kind}
 use Rattle.window_rewrite.proofs.shadows.is_same.Goals as goal
 
-pub returns : goal.returns
-returns c = λ third.
+pub returns-clause-same : goal.returns-clause-same
+returns-clause-same c = λ third.
     let own : Parts = c.parts-own.result in
     let others : Parts = c.parts-others.result in
     let kinds : own.kind ≡ others.kind = same_kind c.args.instr.now own.kind others.kind (sym c.in_window.ensures ∙ c.if-not-in_window.false) (ap (λ (p : Parts). p.kind) c.parts-own.ensures) (c.same_kind.ensures.0 c.if-not-same_kind.false) in

@@ -9,4 +9,4 @@ returns-in-None-clause-none c = λ rule registers s left h. c.in-None.ensures (s
 pub returns-in-Some-clause-some : goal.returns-in-Some-clause-some
 returns-in-Some-clause-some c =
     let number : c.form_of-number.result ≡ form_of c.in-Some.side = c.form_of-number.ensures.value ∙ ap form_of c.as_slice.ensures.value in
-    is_form c.args.window.now _ c.in-Some.side c.in-Some._map refl number c.in-Some.ensures.0 c.in-Some.ensures.1
+    is_form c.args.window.now _ c.in-Some.side c.in-Some.map refl number c.registers_of.ensures c.in-Some.ensures.0 c.in-Some.ensures.1

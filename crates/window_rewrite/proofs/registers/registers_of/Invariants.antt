@@ -1,6 +1,6 @@
 use Rattle.std.proofs.Common.{◌≡◌, ◌≤◌, ◌++◌, drop, length}
 use Rattle.window_rewrite.specs.TableRewriting.{registers_of}
-use Rattle.window_rewrite.proofs.items.registers_of.Given as goal
+use Rattle.window_rewrite.proofs.registers.registers_of.Given as goal
 
 abbrev pub invariant-loop-canonical : goal.invariant-loop-canonical
 invariant-loop-canonical l = record {

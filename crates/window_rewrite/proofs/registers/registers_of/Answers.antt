@@ -1,7 +1,7 @@
 use Rattle.std.proofs.Common.{arith}
 use Rattle.window_rewrite.specs.TableRewriting.{registers_of}
 use Rattle.window_rewrite.proofs.Maps.{next_registers}
-use Rattle.window_rewrite.proofs.items.registers_of.Goals as goal
+use Rattle.window_rewrite.proofs.registers.registers_of.Goals as goal
 
 pub loop-canonical-preserved : goal.loop-canonical-preserved
 loop-canonical-preserved c = record {
