@@ -3,7 +3,7 @@ use Rattle.std.proofs.Common.{◌≡◌, ◌∙◌, ◌⊎◌, inl, inr, ℕ, ze
 use Rattle.std.specs.Prelude.{slice_get, slice_set}
 use Rattle.std.proofs.lemmas.List.{length-set, length-replicate}
 use Rattle.std.proofs.lemmas.Bool.{cases_lt, or_left, or_right, or_cases}
-use Rattle.std.proofs.lemmas.Option.{slice_get_past}
+use Rattle.std.proofs.lemmas.Option.{slice_get_past, same_Some}
 use Rattle.thumb_instr.specs.Items.{one_of}
 use Rattle.thumb_instr.proofs.Listed.{one_of_append}
 use Rattle.thumb_model.specs.Listing.{Code, IsPoint}
@@ -161,15 +161,12 @@ abbrev pub GoToMarked : List Bool → List Way → Type 0
 GoToMarked marks [] = Unit {0}
 GoToMarked marks (w ∷ ws) = ((q : ℕ) → GoesTo w.next q → q < length marks → marked marks q ≡ true) × GoToMarked marks ws
 
-some_same : (m w : ModelWay) → Some m ≡ Some w → m ≡ w
-some_same m w e = cc
-
 are_marked : (code : Code) (marks : List Bool) (p : ℕ) (ms : List ModelWay) (ws : List Way) → HasAllPoints code marks → AreWays p ms ws → GoToMarked marks ws
     → (k : ℕ) (m : ModelWay) (q : ℕ) → slice_get ms k ≡ Some m → Follows code p m.leads q → q < length marks → marked marks q ≡ true
 are_marked code marks p [] ws points a g k m q e f l = absurd (cc)
 are_marked code marks p (n ∷ ms) [] points a g k m q e f l = absurd a
 are_marked code marks p (n ∷ ms) (w ∷ ws) points a g zero m q e f l =
-    elim (goes_or_point code p n.leads q (subst (λ (v : ModelWay). Follows code p v.leads q) (sym (some_same n m e)) f)) [
+    elim (goes_or_point code p n.leads q (subst (λ (v : ModelWay). Follows code p v.leads q) (sym (same_Some n m e)) f)) [
       | inl t ↦ g.0 q (subst (λ (v : Next). GoesTo v q) (sym a.0.leads) t) l
       | inr o ↦ points q o l
     ]
@@ -286,10 +283,6 @@ marks_reached code r a points none = record {
     marked_some [] q mark e = absurd (cc)
     marked_some (m ∷ ms) zero mark e = omega arith
     marked_some (m ∷ ms) (suc q) mark e = let r = marked_some ms q mark e in omega arith
-
-pub no_items : {A : Type 0} (xs : List A) → length xs ≡ 0 → xs ≡ []
-no_items [] e = refl
-no_items (x ∷ xs) e = absurd (omega arith)
 
 -- the code points before one more are marked
 pub points_next : (code : Code) (marks : List Bool) (i : ℕ) → ((q : ℕ) → q < i → IsPoint code q → marked marks q ≡ true) → (IsPoint code i → marked marks i ≡ true) → (q : ℕ) → q < i + 1 → IsPoint code q → marked marks q ≡ true

@@ -22,7 +22,8 @@ use Rattle.edited_listing.specs.Laws.{IsWindowAt}
 use Rattle.edited_listing.proofs.Kept.{item_at, home_op}
 use Rattle.edited_listing.proofs.Counted.{label_at}
 use Rattle.edited_listing.proofs.Edits.{edits_count, edits_replace}
-use Rattle.edited_listing.proofs.Emits.{and_true, and_false}
+use Rattle.edited_listing.proofs.Emits.{and_true}
+use Rattle.common_lemmas.proofs.Booleans.{and_false}
 
 -- ---- no more lines than lines that were given and items ----
 

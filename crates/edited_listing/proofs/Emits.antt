@@ -15,7 +15,7 @@ use Rattle.edited_listing.specs.Emitting.{is_given_at, new_at, emit_at}
 use Rattle.edited_listing.specs.Places.{item_of}
 use Rattle.edited_listing.specs.Changes.{is_none, marks_of, is_as_given, new_with_home, rest_items}
 use Rattle.edited_listing.proofs.Rest.{rest_node, rest_kept, rest_end, kept_none}
-pub use Rattle.listing_parser.proofs.CanonicalLines.{and_false}
+use Rattle.common_lemmas.proofs.Booleans.{and_false}
 
 -- ---- the next item ----
 

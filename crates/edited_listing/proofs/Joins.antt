@@ -15,16 +15,13 @@ use Rattle.edited_listing.specs.Giving.{WordsStand}
 use Rattle.edited_listing.specs.Edited.{letter_in}
 use Rattle.edited_listing.specs.Known.{row_joined, joined_at, all_from}
 use Rattle.edited_listing.proofs.Sorted.{sorted_less, not_given}
+use Rattle.edited_listing.proofs.Emits.{and_true}
 use Rattle.edited_listing.proofs.Emitted.{words_behind, words_past, stand_behind, other_line}
 use Rattle.thumb_model.proofs.LinesReplaced.{kept_places as labels_places}
 use Rattle.edited_listing.proofs.Counted.{not_word as no_word}
 use Rattle.common_lemmas.proofs.Booleans.{and_assoc}
 
 -- ---- truth values ----
-
-and_true : (b : Bool) → b ≡ (b && true)
-and_true true = refl
-and_true false = refl
 
 and_none : (a b c : Bool) → b ≡ false → false ≡ (a && (b && c))
 and_none true b c e = rw e refl
@@ -91,7 +88,7 @@ word_rows vs rs k = ap row_joined (get_back (map word_row vs) rs k (length vs + 
 
 -- labels that stay
 labels_rows : (l : ListingLine) (ns : List Name) (b : Bool) (ls : List ListingLine) → rows_from b (labels_kept l ns ++ ls) ≡ rows_from (b && is_unlabelled ns) ls
-labels_rows l [] b ls = ap (λ c. rows_from c ls) (and_true b)
+labels_rows l [] b ls = ap (λ c. rows_from c ls) (sym (and_true b))
 labels_rows l (n ∷ ns) b ls = refl
 
 module _ (write : Instr → List ℕ) (at : ℕ → Bool) where
@@ -117,14 +114,14 @@ module _ (write : Instr → List ℕ) (at : ℕ → Bool) where
   unfolding First
   emit_first p b (AsGiven q) xs ls behind rec a s v h =
       let far : suc p ≤ q = s.0 in
-      rec b true b (AsGiven q) xs (and_true b) a s v h ∙ ap (λ n. b && all_from at (suc p) n) (let z : suc (q - suc p) ≡ q - p = omega arith in z)
+      rec b true b (AsGiven q) xs (sym (and_true b)) a s v h ∙ ap (λ n. b && all_from at (suc p) n) (let z : suc (q - suc p) ≡ q - p = omega arith in z)
   emit_first p b (New i q) xs ls behind rec a s v h = elim (cases_Bool (q == p)) [
     | inl e ↦ let here = eqb-true q p e in rw e (ap (λ n. b && all_from at (suc p) n) (let z : 0 ≡ q - p = omega arith in z))
     | inr e ↦
         let near = s.0 in
         let other : q ≢ p = eqb-false q p e in
         let far : suc p ≤ q = omega arith in
-        rw e (rec b true b (New i q) xs (and_true b) a (far, s.1) v h ∙ ap (λ n. b && all_from at (suc p) n) (let z : suc (q - suc p) ≡ q - p = omega arith in z))
+        rw e (rec b true b (New i q) xs (sym (and_true b)) a (far, s.1) v h ∙ ap (λ n. b && all_from at (suc p) n) (let z : suc (q - suc p) ≡ q - p = omega arith in z))
   ]
 
   other_first : (p : ℕ) (b carried before : Bool) (l : ListingLine) (y : Item) (xs : List Item) (ls : List ListingLine) (behind : List Item → List ListingLine) → First (suc p) ls behind → b ≡ (before && carried) → Agrees p carried (l ∷ ls) → is_op l.statement ≡ true →
@@ -143,7 +140,7 @@ module _ (write : Instr → List ℕ) (at : ℕ → Bool) where
       op_row (b && is_unlabelled l.names) l.statement (rows_from (stays_joined (b && is_unlabelled l.names) l.statement) zs) op
       ∙ ap (λ c. c && is_unlabelled l.names) e
       ∙ and_assoc before carried (is_unlabelled l.names)
-      ∙ ap (λ c. before && c) (agrees_here p carried l ls op a ∙ and_true (at p) ∙ ap (λ n. at p && all_from at (suc p) n) (let z : 0 ≡ q - p = omega arith in z))
+      ∙ ap (λ c. before && c) (agrees_here p carried l ls op a ∙ sym (and_true (at p)) ∙ ap (λ n. at p && all_from at (suc p) n) (let z : 0 ≡ q - p = omega arith in z))
 
   line_first : (p : ℕ) (b carried before : Bool) (l : ListingLine) (y : Item) (xs : List Item) (ls : List ListingLine) (behind : List Item → List ListingLine) → First (suc p) ls behind → b ≡ (before && carried) → Agrees p carried (l ∷ ls) → is_op l.statement ≡ true →
       AreSorted p p (y ∷ xs) → WordsStand (suc p) (y ∷ xs) ls → home_of y < suc p + length (places_of ls) →

@@ -22,7 +22,7 @@ use Rattle.edited_listing.proofs.Emitted.{lines_give_way}
 use Rattle.edited_listing.proofs.Changes.{items_behind, items_change}
 use Rattle.edited_listing.proofs.Places.{home_drop, places_now, some_places}
 use Rattle.edited_listing.proofs.Free.{window_free}
-use Rattle.listing_parser.proofs.Namings.{op_within as place_within}
+use Rattle.thumb_model.proofs.Shared.{op_within as place_within}
 
 -- ---- the item at a place ----
 

@@ -3,8 +3,7 @@ use Rattle.std.proofs.Common.{◌≡◌, ◌↔◌, ℕ, zero, suc, ◌+◌, ◌
 use Rattle.std.specs.Prelude.{slice_get, is_some}
 use Rattle.std.proofs.lemmas.Option.{same_Some, slice_get_past}
 use Rattle.thumb_instr.specs.declared.instr.Instr.{Instr}
-use Rattle.kept_places.specs.Marks.{is_gone, rank, IsStart}
-use Rattle.kept_places.proofs.Ranks.{rank_zero, rank_gone, rank_kept}
+use Rattle.kept_places.specs.Marks.{is_gone, rank}
 use Rattle.thumb_model.specs.Listing.{ListingLine, Place, Op, Word, is_op_place, labels_from, places_of}
 use Rattle.thumb_model.proofs.Lists.{present_at}
 use Rattle.listing_parser.specs.Parsing.{own_line}
@@ -112,27 +111,6 @@ labelled_here e q from is h k b =
       | inl f ↦ inl f
       | inr f ↦ let x = item_here e f.0 f.1 f.2 in inr (rank (marks e) f.0, x.0, f.3, x.1, f.4 ∙ ap suc (sym x.2))
     ]))
-
--- ---- the kept place before ----
-
-pub rank_between : (gone : List Bool) (n s : ℕ) → ((k : ℕ) → s ≤ k → k < s + n → is_gone gone k ≡ true) → rank gone (s + n) ≡ rank gone s
-rank_between gone zero s h = ap (rank gone) (let z : s + 0 ≡ s = omega arith in z)
-rank_between gone (suc n) s h = ap (rank gone) (let z : s + suc n ≡ suc (s + n) = omega arith in z) ∙ rank_gone gone (s + n) (h (s + n) (omega arith) (omega arith)) ∙ rank_between gone n s (λ k a b. h k a (omega arith))
-
-rank_start : (gone : List Bool) (q s : ℕ) → IsStart gone q s → rank gone q ≡ rank gone s
-rank_start gone q s h =
-    let up = h.up_to in
-    let all : s + (q - s) ≡ q = omega arith in
-    ap (rank gone) (sym all) ∙ rank_between gone (q - s) s (λ k a b. h.between k a (omega arith))
-
-pub first_kept : (gone : List Bool) (q s : ℕ) → IsStart gone q s → s ≡ 0 → rank gone q ≡ 0
-first_kept gone q s h e = rank_start gone q s h ∙ ap (rank gone) e ∙ rank_zero gone
-
-pub kept_before : (gone : List Bool) (q s p : ℕ) → IsStart gone q s → p + 1 ≡ s → (p < q) × (is_gone gone p ≡ false) × (suc (rank gone p) ≡ rank gone q)
-kept_before gone q s p h e =
-    let up = h.up_to in
-    let kept = h.first p e in
-    (omega arith, kept, sym (rank_kept gone p kept) ∙ ap (rank gone) (let z : suc p ≡ s = omega arith in z) ∙ sym (rank_start gone q s h))
 
 -- ---- letters ----
 

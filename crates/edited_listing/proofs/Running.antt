@@ -3,7 +3,7 @@ use Rattle.std.proofs.Common.{◌≡◌, ℕ, suc, ◌+◌, ◌-◌, ◌<◌, �
 use Rattle.std.specs.Prelude.{Option, nat_eq, slice_get}
 use Rattle.thumb_instr.specs.declared.instr.Instr.{Instr}
 use Rattle.kept_places.specs.Marks.{is_gone, rank, IsNode}
-use Rattle.kept_places.proofs.Ranks.{rank_kept}
+use Rattle.kept_places.proofs.Ranks.{rank_between, rank_kept}
 use Rattle.thumb_model.specs.Listing.{is_op_place, places_of}
 use Rattle.thumb_model.proofs.Lists.{length_map}
 use Rattle.window_runs.specs.Rows.{rows_from}
@@ -13,7 +13,7 @@ use Rattle.padded_code.specs.Windows.{AreRanked}
 use Rattle.edited_listing.specs.Changes.{is_none}
 use Rattle.edited_listing.specs.Edited.{Edited, lines_now, marks}
 use Rattle.edited_listing.specs.Looks.{IsNextKept}
-use Rattle.edited_listing.proofs.Looking.{letter_found, rank_between}
+use Rattle.edited_listing.proofs.Looking.{letter_found}
 
 -- the letters and places so far, the place of the last of them and the one behind it
 pub record IsRun (e : Edited) (r most : ℕ) (start now : List Bool) (letters : List Instr) (places : List ℕ) (before at : ℕ) : Type 0 where

@@ -10,7 +10,7 @@ use Rattle.window_runs.specs.declared.rows.WindowPlace.{WindowPlace}
 use Rattle.edited_listing.specs.Counting.{some_name}
 use Rattle.edited_listing.specs.Known.{joined_at, all_from, HasLabelIn, last_breaks, last_labels}
 use Rattle.common_lemmas.proofs.Lists.{get_front}
-use Rattle.common_lemmas.proofs.Booleans.{or_assoc}
+use Rattle.common_lemmas.proofs.Booleans.{or_assoc, or_false}
 
 -- ---- breaks ----
 
@@ -142,10 +142,6 @@ last_small : (ns : List Name) (p last : ℕ) → last ≤ suc p → (if some_nam
 last_small [] p last h = h
 last_small (n ∷ ns) p last h = omega arith
 
-or_none : (a : Bool) → a ≡ (a || false)
-or_none true = refl
-or_none false = refl
-
 labels_upto : (ls : List ListingLine) (j p last b from : ℕ) → last ≤ suc p → slice_get (last_labels p last ls) j ≡ Some b → nat_lt from b ≡ (nat_lt from last || some_in (labels_from p ls) from (p + j))
 labels_upto [] j p last b from h e = absurd (cc)
 labels_upto (l ∷ ls) j p last b from h e =
@@ -159,7 +155,7 @@ labels_upto (l ∷ ls) j p last b from h e =
     elim (cases_lt j k) [
       | inl g ↦
           let same : now ≡ b = replicate_get k j now b g (sym (get_front (replicate k now) (last_labels (p + k) now ls) j (omega arith)) ∙ e) in
-          ap (nat_lt from) (sym same) ∙ or_none (nat_lt from now) ∙ ap (λ u. nat_lt from now || u) (sym (none_behind ls (p + k) from (p + j) (omega arith))) ∙ all
+          ap (nat_lt from) (sym same) ∙ sym (or_false (nat_lt from now)) ∙ ap (λ u. nat_lt from now || u) (sym (none_behind ls (p + k) from (p + j) (omega arith))) ∙ all
       | inr g ↦
           let small = last_small l.names p last h in
           labels_upto ls (j - k) (p + k) now b from (omega arith) (sym (get_back (replicate k now) (last_labels (p + k) now ls) (j - k) j (omega arith)) ∙ e)

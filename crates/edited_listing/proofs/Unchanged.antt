@@ -14,9 +14,6 @@ use Rattle.edited_listing.specs.Places.{AreHome}
 use Rattle.edited_listing.specs.Edited.{IsEdited, unchanged}
 use Rattle.edited_listing.proofs.Emitted.{op_takes}
 
-given_items : ℕ → ℕ → List Item
-given_items p n = items_from p (replicate n standing.Given)
-
 drop_given : (k p n m : ℕ) → n ≡ k + m → drop k (items_from p (replicate n standing.Given)) ≡ items_from (p + k) (replicate m standing.Given)
 drop_given zero p n m e = ap (λ j. items_from p (replicate j standing.Given)) (let z : n ≡ m = omega arith in z) ∙ ap (λ j. items_from j (replicate m standing.Given)) (let z : p ≡ p + 0 = omega arith in z)
 drop_given (suc k) p zero m e = absurd (omega arith)

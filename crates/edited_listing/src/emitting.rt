@@ -12,16 +12,9 @@ use crate::in_place::InPlace;
 use crate::passing::{pass, pass_one};
 use crate::standing::Standing;
 use kept_places::KeptPlaces;
-use listing_parser::{ListingLine, Memory, Statement, add_labels, add_new};
+use listing_parser::{ListingLine, Memory, add_labels, add_new, is_op};
 use std::alloc::Global;
 use thumb_instr::Instr;
-
-/// Whether a line has an instruction.
-fn is_op(line: &ListingLine) -> bool
-    ensures { result ≡ is_op (line_view line.now).statement }
-{
-    matches!(line.statement, Statement::Instruction { .. })
-}
 
 /// The next instruction from a place on, where it is new and has its home at another place.
 fn next_new(stands: &[Standing], kept: &mut KeptPlaces, from: u32, home: u32) -> Option<Instr>

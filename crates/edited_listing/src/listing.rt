@@ -1,8 +1,7 @@
 //! A listing whose instructions give way to others while the numbers of its places stay.
 ghost use Rattle.std.specs.Prelude.{◌≡◌, ◌<◌, ◌^◌, ◌&&◌, Bool, Some, length, replicate, slice_get, IfOk};
 ghost use Rattle.std.specs.Option.{option_map};
-ghost use Rattle.listing_parser.specs.Views.{mention_view, place_view};
-ghost use Rattle.window_runs.specs.Rows.{letter_of};
+ghost use Rattle.listing_parser.specs.Views.{place_view};
 ghost use Rattle.edited_listing.specs.Changes.{is_as_given};
 ghost use Rattle.edited_listing.specs.Counting.{one_if};
 ghost use Rattle.edited_listing.specs.Edited.{letter_in};
@@ -17,10 +16,11 @@ use crate::looks::{Run, home, next_letter, run_from};
 use crate::passing::is_op_behind;
 use crate::standing::Standing;
 use kept_places::KeptPlaces;
-use listing_parser::{Listing, Memory, Mention, Place};
+use listing_parser::{Listing, Memory, Place};
 use std::alloc::{AllocError, Global};
 use std::marker::Model;
-use thumb_instr::{Instr, in_window};
+use thumb_instr::Instr;
+use window_runs::rows::letter;
 
 /// A listing whose instructions give way to others while the numbers of its places stay. Contracts see the lines that were given and what stands at each
 /// of their places now; `lines_now` and `padded` of these are the lines now, and the code of all places with a nop where one is gone.
@@ -58,16 +58,6 @@ fn all_given(alloc: Global, count: u32) -> Result<Vec<Standing>, AllocError>
         stands.push(Standing::Given)?;
     }
     Ok(stands)
-}
-
-/// An instruction that mentions nothing and may stand in a window.
-fn letter(instr: &Instr, mention: Option<&Mention>) -> Option<Instr>
-    ensures { result ≡ letter_of instr.now (option_map (λ r. mention_view r.now) mention.entry) }
-{
-    match mention {
-        Some(_) => None,
-        None => { if in_window(instr) { Some(*instr) } else { None } }
-    }
 }
 
 /// The instruction at a place, where it may stand in a window.
@@ -191,8 +181,7 @@ impl EditedListing {
         ensures some { IfSome result (λ q. (q < place) × (is_gone (marks self.now) q ≡ false) × (suc (rank (marks self.now) q) ≡ rank (marks self.now) place)) }
         ensures none { IfNone result (rank (marks self.now) place ≡ 0) }
     {
-        let start = self.kept.start(place);
-        if start == 0 { None } else { Some(start - 1) }
+        self.kept.previous(place)
     }
 
     /// Whether some label stands right before a kept place now.

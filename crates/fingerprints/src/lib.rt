@@ -26,7 +26,6 @@ mod stepping;
 mod sums;
 mod tables;
 mod trials;
-mod widths;
 
 pub use index::Index;
 pub use lanes::Lanes;
@@ -37,4 +36,3 @@ pub use states::{first_state_of_42, seeded};
 pub use stepping::step8;
 pub use tables::Tables;
 pub use trials::{Trial, is_told, run, trials_of};
-pub use widths::count_below;

@@ -9,8 +9,7 @@ ghost use Rattle.fingerprints.specs.Outcomes.{AreAgreeing, added, grown_to, sequ
 use crate::looks::alike;
 use crate::numbering::sequence_of;
 use crate::outcome_columns::Columns;
-use crate::widths::count_below;
-use seq_enum::{Pool, letters};
+use seq_enum::{Pool, count_below, letters};
 use std::alloc::{AllocError, Global};
 use std::marker::Model;
 use step_ledger::{Ledger, Steps};

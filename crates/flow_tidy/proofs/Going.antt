@@ -13,7 +13,8 @@ use Rattle.thumb_model.specs.Replaced.{moved, move_label, replaced}
 use Rattle.thumb_model.proofs.Lists.{get_drop, get_take, get_back, take_all}
 use Rattle.thumb_model.proofs.Moved.{AreNoCalls, IsReplacement, IsOutside, fetch_outside, points_moved, place_moved}
 use Rattle.code_flow.specs.Reached.{Reached, point, along}
-use Rattle.flow_tidy.proofs.Ways.{lead_to, way_to, ways_of_to, way_back, way_forth, points_to}
+use Rattle.padded_code.proofs.Padded.{lead_to, way_to, ways_of_to, way_back, way_forth}
+use Rattle.flow_tidy.proofs.Ways.{points_to}
 use Rattle.common_lemmas.proofs.Lists.{get_front}
 use Rattle.thumb_model.proofs.Shared.{one_of_map, one_of_unmap}
 

@@ -1,5 +1,5 @@
 -- The lines of a draft stay sure while its instructions go and its branches go elsewhere.
-use Rattle.std.proofs.Common.{◌≡◌, ◌∙◌, inl, inr, ◌+◌, ◌<◌, ℕ, zero, suc, Bool, true, false, List, [], ◌∷◌, length, Option, Some, None, refl, ap, subst, sym, arith}
+use Rattle.std.proofs.Common.{◌≡◌, ◌∙◌, inl, inr, ◌+◌, ◌<◌, ℕ, Bool, true, false, List, [], length, Option, Some, None, refl, ap, subst, sym, arith}
 use Rattle.std.specs.Prelude.{option_map, slice_get, slice_set}
 use Rattle.std.proofs.lemmas.Bool.{cases_eq}
 use Rattle.std.proofs.lemmas.Option.{same_Some, slice_get_within}
@@ -8,6 +8,7 @@ use Rattle.thumb_instr.specs.declared.instr.Instr.TheVariants as instr
 use Rattle.thumb_model.specs.Listing.{Name, Mention, ListingLine, Place, Op, Word, Code, code_of, is_call_instr, is_op_place, labels_from, places_of}
 use Rattle.thumb_model.specs.Layout.{aim_fault, branch_fault, cleared, lies_in, or_else, set_address, Layable}
 use Rattle.thumb_model.specs.Steps.{label_place}
+use Rattle.thumb_model.proofs.Lists.{present_at}
 use Rattle.kept_places.specs.Marks.{is_gone, rank}
 use Rattle.kept_places.proofs.Ranks.{marked_other, unmarked}
 use Rattle.label_layout.specs.Addresses.{addresses_from}
@@ -126,11 +127,6 @@ safe_first g ls d is lines draft widest sure =
 
 -- ---- a branch that is out of reach of the end of its chain ----
 
-some_at : (xs : List ℕ) (p : ℕ) → p < length xs → (x : ℕ) × (slice_get xs p ≡ Some x)
-some_at [] p h = absurd (omega arith)
-some_at (x ∷ xs) zero h = (x, refl)
-some_at (x ∷ xs) (suc p) h = some_at xs p (omega arith)
-
 pub never_possible : (g : WidestLayout) (d : Drafted) (p last label half : ℕ) (i : Instr) → IsSafe g d → EndsAt d p last → (name : Name) → name_in (stands d last) ≡ Some name → instr_in (stands d p) ≡ Some i → label_place name (labels_from 0 d.given) ≡ Some label
     → IsBeyond half (halves (places_of (lines_now d)) (rank d.gone p)) (halves (places_of (lines_now d)) (rank d.gone label)) → ((a : ℕ) (to : Option ℕ) → aim_fault a i to 0 ≡ branch_fault half a to)
     → (other : Name) → IsPossible (setting g.base) (change (rank d.gone p) (ToEnd other)) (lines_now d) → ⊥
@@ -141,7 +137,7 @@ never_possible g d p last label half i s h name called is leads beyond reach oth
     let end : other ≡ name = label_same (code_of ls) r other h.label possible.cause h.goes ∙ same_Some h.label name (sym h.named ∙ called) in
     let op = op_of (stands d p) i is in
     let within = slice_get_within (places_of ls) r _ op.1 in
-    let at = some_at (addresses_from g.base ls) r (let c = places_counted g.base ls in omega arith) in
+    let at = present_at (addresses_from g.base ls) r (let c = places_counted g.base ls in omega arith) in
     let laid : Layable g.base (aimed_lines line_mentioning r name ls) = subst (λ (x : Name). Layable g.base (aimed_lines line_mentioning r x ls)) end possible.layable in
     let free = (aims_within line_mentioning name g.base r ls i op.0 at.0 op.1 at.1 (sure_layable g.base ls s.sure)).1 laid in
     let there : label_place name (labels_from 0 ls) ≡ Some q = place_ranked d.given d.gone d.aims name s.draft.ops ∙ ap (option_map (rank d.gone)) leads in

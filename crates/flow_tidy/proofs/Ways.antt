@@ -1,58 +1,13 @@
--- Ways, points and marks of places that move.
-use Rattle.std.proofs.Common.{◌≡◌, ℕ, zero, suc, ◌==◌, ◌&&◌, ◌||◌, Bool, true, false, List, [], ◌∷◌, ◌++◌, map, Option, Some, None, refl, sym, ap, ◌∙◌, eq-eqb, eqb-true, if◌then◌else◌}
-use Rattle.std.specs.Prelude.{slice_get}
-use Rattle.std.specs.Option.{option_map}
+-- Points and marks of places that move.
+use Rattle.std.proofs.Common.{◌≡◌, ℕ, ◌==◌, ◌&&◌, ◌||◌, true, false, List, [], ◌∷◌, ◌++◌, map, Option, Some, None, refl, sym, ap, ◌∙◌, eq-eqb, if◌then◌else◌}
 use Rattle.std.specs.Str.{bytes_eq}
-use Rattle.std.proofs.lemmas.Option.{same_Some, slice_get-map}
-use Rattle.thumb_instr.specs.Items.{has}
-use Rattle.thumb_instr.specs.Shape.{registers_in}
-use Rattle.thumb_instr.specs.declared.instr.Instr.{Instr}
-use Rattle.thumb_instr.specs.declared.instr.Instr.TheVariants as instr
-use Rattle.thumb_model.specs.Effect.{one_of, sp}
+use Rattle.std.proofs.lemmas.Option.{same_Some}
+use Rattle.thumb_model.specs.Effect.{one_of}
 use Rattle.thumb_model.specs.Listing.{Name, Mention, Place, Label, Code, is_code, place_among, place_of, label_places, return_places, IsPoint}
 use Rattle.thumb_model.specs.Naming.{Naming, points}
 use Rattle.thumb_model.specs.Steps.{aim_of}
-use Rattle.thumb_model.specs.Flow.{Way, way, Leads, Onward, ToPlace, AnyPoint, Out, left_but, ways_of}
 use Rattle.thumb_model.proofs.Moved.{one_of_back}
 use Rattle.thumb_model.proofs.Points.{point_places}
-
--- ---- ways whose places move ----
-
-abbrev pub lead_to : (ℕ → ℕ) → Leads → Leads
-lead_to to Onward = Onward
-lead_to to (ToPlace p) = ToPlace (to p)
-lead_to to AnyPoint = AnyPoint
-lead_to to Out = Out
-
-abbrev pub way_to : (ℕ → ℕ) → Way → Way
-way_to to w = way w.reads w.writes (lead_to to w.leads)
-
-either : (to : ℕ → ℕ) (b : Bool) (a c : List Way) → a ≡ map (way_to to) a → c ≡ map (way_to to) c → (if b then a else c) ≡ map (way_to to) (if b then a else c)
-either to true a c e f = e
-either to false a c e f = f
-
--- a row: the ways of an instruction whose aim moves
-pub ways_of_to : (to : ℕ → ℕ) (aim : Option ℕ) (i : Instr) → ways_of (option_map to aim) i ≡ map (way_to to) (ways_of aim i)
-ways_of_to to aim (instr.Pop l) =
-    let point : List Way = way (sp ∷ []) (sp ∷ registers_in l.number) AnyPoint ∷ way (sp ∷ left_but (registers_in l.number)) (sp ∷ registers_in l.number) Out ∷ [] in
-    let on : List Way = way (sp ∷ []) (sp ∷ registers_in l.number) Onward ∷ [] in
-    either to (has l.number 8) point on refl refl
-ways_of_to to None (instr.BranchIf c d) = refl
-ways_of_to to (Some p) (instr.BranchIf c d) = refl
-ways_of_to to None (instr.Branch d) = refl
-ways_of_to to (Some p) (instr.Branch d) = refl
-ways_of_to to None (instr.Call d) = refl
-ways_of_to to (Some p) (instr.Call d) = refl
-ways_of_to to aim i = refl
-
--- a way of a list that moved is one that moved
-pub way_back : (to : ℕ → ℕ) (ws : List Way) (k : ℕ) (w : Way) → slice_get (map (way_to to) ws) k ≡ Some w → (v : Way) × (slice_get ws k ≡ Some v) × (way_to to v ≡ w)
-way_back to [] k w e = absurd (cc)
-way_back to (v ∷ ws) zero w e = (v, refl, same_Some (way_to to v) w e)
-way_back to (v ∷ ws) (suc k) w e = way_back to ws k w e
-
-pub way_forth : (to : ℕ → ℕ) (ws : List Way) (k : ℕ) (w : Way) → slice_get ws k ≡ Some w → slice_get (map (way_to to) ws) k ≡ Some (way_to to w)
-way_forth to ws k w e = slice_get-map (way_to to) ws k ∙ ap (option_map (way_to to)) e
 
 -- ---- points ----
 

@@ -2,7 +2,7 @@
 use Rattle.std.proofs.Common.{◌≡◌, ◌∙◌, inl, inr, ℕ, zero, suc, ◌-◌, ◌/◌, ◌%◌, ◌<◌, ◌≤◌, true, List, [], ◌∷◌, ◌++◌, length, map, drop, get_or, Some, refl, sym, ap, subst, arith, div-add-mod'}
 use Rattle.std.specs.Prelude.{slice_get, slice_set, Contains}
 use Rattle.std.proofs.lemmas.Bool.{cases_lt}
-use Rattle.std.proofs.lemmas.List.{length-set}
+use Rattle.std.proofs.lemmas.List.{length-set, drop_all}
 use Rattle.std.proofs.lemmas.List.Elements.{Contains-append_left, Contains-push, Contains-push_cases}
 use Rattle.std.proofs.lemmas.Option.{slice_get_read, slice_get_within}
 use Rattle.thumb_model.proofs.Lists.{present_at}
@@ -17,7 +17,6 @@ use Rattle.kept_layout.specs.Moves.{unaligned}
 use Rattle.kept_layout.proofs.MovingPlaces.{footprint_at}
 use Rattle.kept_layout.proofs.ShrinkingNotes.{map_length, set_else}
 use Rattle.kept_layout.proofs.ShrinkingPlaces.{lag_behind, footprints_length}
-use Rattle.kept_layout.proofs.ShrinkingWalk.{drop_all}
 use Rattle.kept_layout.proofs.Together.{divides_on}
 use Rattle.common_lemmas.proofs.Lists.{get_set, get_map, drop_at}
 

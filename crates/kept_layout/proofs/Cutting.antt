@@ -4,7 +4,6 @@ use Rattle.std.specs.Prelude.{slice_get}
 use Rattle.std.specs.List.{list_all}
 use Rattle.std.proofs.lemmas.Bool.{and_parts, cases_Bool}
 use Rattle.thumb_instr.specs.declared.instr.Instr.{Instr}
-use Rattle.thumb_instr.specs.declared.instr.Instr.TheVariants as instr
 use Rattle.thumb_instr.specs.Window.{is_in_window}
 use Rattle.thumb_model.specs.Listing.{Name, Mention, Value, Statement, Nothing, Instruction, Words, Aligns, Sets, ListingLine, Word, places_in, places_of}
 use Rattle.thumb_model.specs.Layout.{cleared, instr_size, is_among, set_address}
@@ -24,15 +23,12 @@ use Rattle.thumb_model.proofs.LinesReplaced.{kept_places}
 use Rattle.kept_layout.proofs.BuildingParts.{bare_behind, bare_plain as bare_head, fixed_plain as plain_head}
 use Rattle.thumb_model.proofs.Cuts.{without_none}
 use Rattle.thumb_model.proofs.Shared.{two_bytes}
+use Rattle.label_layout.proofs.Shared.{two_least}
 
 -- ---- sizes ----
 
-least_size : (i : Instr) → 2 ≤ instr_size i
-least_size (instr.Mov d m) = omega arith
-least_size i = omega arith
-
 statement_size : (s : Statement) → 2 * length (places_in s) ≤ bytes_in s
-statement_size (Instruction i m) = let h = least_size i in omega arith
+statement_size (Instruction i m) = let h = two_least i in omega arith
 statement_size (Words vs) = omega (arith, length_map Word vs)
 statement_size s = omega arith
 

@@ -97,13 +97,6 @@ loose_kept k new by j s at old a to l c x near e f same = elim (cases_lt 0 by) [
 
 -- ---- a label ----
 
--- where the instruction and the label lie, and lay
-record AreEnds (k : KeptLayout) (new : List ℕ) (by j t at to old was : ℕ) : Type 0 where
-  at_is : slice_get (moved_starts k new by) j ≡ Some at
-  to_is : slice_get (moved_starts k new by) t ≡ Some to
-  old_is : slice_get (starts_of k) j ≡ Some old
-  was_is : slice_get (starts_of k) t ≡ Some was
-
 label_before : (k : KeptLayout) (new : List ℕ) (by bytes j t : ℕ) (s : Block) (at old : ℕ) (a : Aim) → Moves k new by bytes → IsLookedAt k new by → Mentions k (moved_starts k new by) j s at a (Some (location.Block t)) → slice_get (starts_of k) j ≡ Some old → t ≤ k.here → j < k.here
     → aim_fault at a.instr (slice_get (moved_starts k new by) t) a.plus ≡ None
 label_before k new by bytes j t s at old a m c x e h l =

@@ -1,6 +1,7 @@
 -- Walking over the blocks behind one that takes fewer bytes.
-use Rattle.std.proofs.Common.{◌≡◌, ◌∙◌, ℕ, zero, suc, ◌+◌, ◌-◌, ◌<◌, ◌≤◌, ◌^◌, List, [], ◌∷◌, ◌++◌, length, map, take, drop, Some, refl, sym, ap, arith, append_assoc, length-append}
+use Rattle.std.proofs.Common.{◌≡◌, ◌∙◌, ℕ, suc, ◌+◌, ◌-◌, ◌<◌, ◌≤◌, ◌^◌, List, [], ◌∷◌, ◌++◌, length, map, take, drop, Some, refl, sym, ap, arith, append_assoc, length-append}
 use Rattle.std.specs.Prelude.{slice_get}
+use Rattle.std.proofs.lemmas.List.{drop_all}
 use Rattle.kept_layout.specs.declared.kept.KeptLayout.{KeptLayout}
 use Rattle.kept_layout.specs.declared.block.Block.{Block}
 use Rattle.kept_layout.specs.Blocks.{end_from, padding_of, footprint_of, footprints_of, starts_from, Divides, IsAlignment, Footprint}
@@ -48,13 +49,6 @@ walk_on k bytes new at next s end following w e l g h n =
       starts = λ gone. w.starts gone ∙ ap (λ (xs : List ℕ). take (suc k.here) (starts_of k) ++ xs) (ap (λ (xs : List ℕ). new ++ xs) step ∙ sym (append_assoc new (at ∷ []) (starts_from end (drop following (footprints_of k.blocks.items)))));
       ends = λ gone. w.ends gone ∙ ap (end_from at) one ∙ (ap (λ x. end_from x (drop (suc next) (footprints_of k.blocks.items))) (sym g) ∙ ap (λ x. end_from end (drop x (footprints_of k.blocks.items))) (sym n));
     }
-
--- none is left of so many
-pub drop_all : {A : Type 0} (n : ℕ) (xs : List A) → length xs ≤ n → drop n xs ≡ []
-drop_all zero [] h = refl
-drop_all zero (x ∷ xs) h = absurd (omega arith)
-drop_all (suc n) [] h = refl
-drop_all (suc n) (x ∷ xs) h = drop_all n xs (omega arith)
 
 -- none is behind
 pub walk_over : (k : KeptLayout) (bytes : ℕ) (new : List ℕ) (at next : ℕ) → IsWalked k bytes new at next → length k.blocks.items ≤ next → IsMovedTo k bytes new 0

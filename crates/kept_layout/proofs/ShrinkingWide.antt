@@ -1,18 +1,12 @@
 -- The footprints of lines: an instruction that mentions a name has two bytes at least.
 use Rattle.std.proofs.Common.{◌≡◌, ◌∙◌, zero, suc, ◌≤◌, List, [], ◌∷◌, Option, Some, None, sym, ap, arith}
-use Rattle.thumb_instr.specs.declared.instr.Instr.{Instr}
-use Rattle.thumb_instr.specs.declared.instr.Instr.TheVariants as instr
 use Rattle.thumb_model.specs.Listing.{Name, Statement, Nothing, Instruction, Words, Aligns, Sets, ListingLine}
-use Rattle.thumb_model.specs.Layout.{instr_size}
+use Rattle.label_layout.proofs.Shared.{two_least}
 use Rattle.kept_layout.specs.declared.block.Aim.{Aim}
 use Rattle.kept_layout.specs.declared.block.Head.TheVariants as head
 use Rattle.kept_layout.specs.declared.block.NameLocation.{NameLocation}
 use Rattle.kept_layout.specs.Blocks.{AreWide, Footprint}
 use Rattle.kept_layout.specs.Kept.{bytes_in, bytes_of, first_head, head_of, target_in, AreCut, AreFootprintsOf}
-
-two_least : (i : Instr) → 2 ≤ instr_size i
-two_least (instr.Mov d m) = omega arith
-two_least i = omega arith
 
 aims_two : (find : Name → Option NameLocation) (s : Statement) (aim : Aim) → head_of find s ≡ head.Aims aim → 2 ≤ bytes_in s
 aims_two find (Instruction i None) aim e = absurd (let bad : head.Plain ≡ head.Aims aim = e in cc)

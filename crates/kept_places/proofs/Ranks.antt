@@ -1,10 +1,10 @@
 -- Marks that are read and set, and ranks.
-use Rattle.std.proofs.Common.{◌≡◌, ◌≢◌, ◌↔◌, ℕ, zero, suc, ◌+◌, ◌<◌, ◌≤◌, Bool, true, false, List, [], ◌∷◌, length, take, replicate, get_or, cond, refl, ap, ◌⊎◌, inl, inr, arith}
+use Rattle.std.proofs.Common.{◌≡◌, ◌≢◌, ◌↔◌, ℕ, zero, suc, ◌+◌, ◌-◌, ◌<◌, ◌≤◌, Bool, true, false, List, [], ◌∷◌, length, take, replicate, get_or, cond, refl, sym, ap, ◌∙◌, ◌⊎◌, inl, inr, arith}
 use Rattle.std.specs.Prelude.{slice_set}
 use Rattle.std.specs.List.{count_by}
 use Rattle.std.proofs.lemmas.Bool.{cases_lt}
 use Rattle.std.proofs.lemmas.List.Sums.{sum_by-cons}
-use Rattle.kept_places.specs.Marks.{marked, is_gone, rank}
+use Rattle.kept_places.specs.Marks.{marked, is_gone, rank, IsStart}
 
 -- ---- marks ----
 
@@ -131,3 +131,25 @@ rank_set_behind (true ∷ gs) zero (suc q) l e h = absurd (cc)
 rank_set_behind (false ∷ gs) zero (suc q) l e h = refl
 rank_set_behind (true ∷ gs) (suc p) (suc q) l e h = rank_set_behind gs p q (omega arith) e (omega arith)
 rank_set_behind (false ∷ gs) (suc p) (suc q) l e h = ap suc (rank_set_behind gs p q (omega arith) e (omega arith))
+
+-- ---- the kept place before ----
+
+-- places between which all are gone have one rank
+pub rank_between : (gone : List Bool) (n s : ℕ) → ((k : ℕ) → s ≤ k → k < s + n → is_gone gone k ≡ true) → rank gone (s + n) ≡ rank gone s
+rank_between gone zero s h = ap (rank gone) (let z : s + 0 ≡ s = omega arith in z)
+rank_between gone (suc n) s h = ap (rank gone) (let z : s + suc n ≡ suc (s + n) = omega arith in z) ∙ rank_gone gone (s + n) (h (s + n) (omega arith) (omega arith)) ∙ rank_between gone n s (λ k a b. h k a (omega arith))
+
+rank_start : (gone : List Bool) (q s : ℕ) → IsStart gone q s → rank gone q ≡ rank gone s
+rank_start gone q s h =
+    let up = h.up_to in
+    let all : s + (q - s) ≡ q = omega arith in
+    ap (rank gone) (sym all) ∙ rank_between gone (q - s) s (λ k a b. h.between k a (omega arith))
+
+pub first_kept : (gone : List Bool) (q s : ℕ) → IsStart gone q s → s ≡ 0 → rank gone q ≡ 0
+first_kept gone q s h e = rank_start gone q s h ∙ ap (rank gone) e ∙ rank_zero gone
+
+pub kept_before : (gone : List Bool) (q s p : ℕ) → IsStart gone q s → p + 1 ≡ s → (p < q) × (is_gone gone p ≡ false) × (suc (rank gone p) ≡ rank gone q)
+kept_before gone q s p h e =
+    let up = h.up_to in
+    let kept = h.first p e in
+    (omega arith, kept, sym (rank_kept gone p kept) ∙ ap (rank gone) (let z : suc p ≡ s = omega arith in z) ∙ sym (rank_start gone q s h))

@@ -1,5 +1,5 @@
 //! Which places are kept.
-ghost use Rattle.std.specs.Prelude.{◌≡◌, ℕ, ◌<◌, ◌≤◌, true, false, [], length, replicate, slice_set, IfOk, IsTrue, ◌↔◌};
+ghost use Rattle.std.specs.Prelude.{◌≡◌, ℕ, suc, ◌<◌, ◌≤◌, true, false, [], length, replicate, slice_set, IfNone, IfOk, IfSome, IsTrue, ◌↔◌};
 ghost use Rattle.kept_places.specs.Marks.{is_gone, rank, IsNode, IsStart};
 
 use crate::counting::{add_one, gone_among, total};
@@ -103,12 +103,23 @@ impl KeptPlaces {
     }
 
     /// The first of the places that are gone right before a kept one or the end, or that place itself.
-    pub fn start(&self, place: u32) -> u32
+    fn start(&self, place: u32) -> u32
         requires within { place ≤ length self.now }
         requires kept { is_gone self.now place ≡ false }
         ensures { IsStart self.now place result }
     {
         self.first[place as usize]
+    }
+
+    /// The kept place right before a kept one or the end, if there is one.
+    pub fn previous(&self, place: u32) -> Option<u32>
+        requires within { place ≤ length self.now }
+        requires kept { is_gone self.now place ≡ false }
+        ensures some { IfSome result (λ q. (q < place) × (is_gone self.now q ≡ false) × (suc (rank self.now q) ≡ rank self.now place)) }
+        ensures none { IfNone result (rank self.now place ≡ 0) }
+    {
+        let start = self.start(place);
+        if start == 0 { None } else { Some(start - 1) }
     }
 
     /// How many kept places stand before a place: its number, were the others not there.

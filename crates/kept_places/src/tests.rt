@@ -12,7 +12,7 @@ fn places_go(rt: HostRuntime) -> Result<(), Fail> {
     places.remove(4096);
     assert!(rt; places.is_gone(129));
     assert!(rt; !places.is_gone(131));
-    assert_eq!(rt; places.start(131), 129);
+    assert_eq!(rt; places.previous(131), Some(128));
     assert_eq!(rt; places.number(131), 129);
     assert_eq!(rt; places.number(9000), 8997);
     assert_eq!(rt; places.node(129), 131);

@@ -1,3 +1,4 @@
 pub mod Calls
 pub mod Labels
 pub mod Sums
+pub mod Shared

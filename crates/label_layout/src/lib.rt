@@ -11,4 +11,4 @@ pub use addresses::{Layout, cleared};
 pub use errors::{LayoutError, LayoutFault};
 pub use faults::aim_fault;
 pub use laying::layout;
-pub use sizes::{CODE_END, instr_size, padding};
+pub use sizes::{CODE_END, behind, behind_words, instr_size, padding};

@@ -35,7 +35,7 @@ pub fn padding(size: u32, most: u32, at: u32) -> u32
 }
 
 /// The address behind so many bytes, where it lies in the Code region.
-fn behind(at: u32, size: u32) -> Option<u32>
+pub fn behind(at: u32, size: u32) -> Option<u32>
     requires { at ≤ 2 ^ 29 }
     ensures { result ≡ in_code_region (at + size) }
 {
@@ -47,7 +47,7 @@ fn behind(at: u32, size: u32) -> Option<u32>
 }
 
 /// The address behind so many words, where it lies in the Code region.
-fn behind_words(at: u32, count: usize) -> Option<u32>
+pub fn behind_words(at: u32, count: usize) -> Option<u32>
     requires { at ≤ 2 ^ 29 }
     ensures { result ≡ in_code_region (at + 4 * count) }
 {

@@ -2,7 +2,7 @@
 use Rattle.std.proofs.Common.{◌≡◌, ◌∙◌, ◌⊎◌, inl, inr, ℕ, zero, suc, ◌+◌, ◌-◌, ◌<◌, ◌≤◌, ◌^◌, Bool, true, false, List, [], ◌∷◌, ◌++◌, length, drop, replicate, Option, Some, None, refl, sym, ap, subst, arith, if◌then◌else◌}
 use Rattle.std.specs.Prelude.{option_and_then, option_map, slice_get, slice_set}
 use Rattle.std.proofs.lemmas.Bool.{cases_eq, cases_lt}
-use Rattle.std.proofs.lemmas.List.{length-append}
+use Rattle.std.proofs.lemmas.List.{length-append, length-replicate}
 use Rattle.std.proofs.lemmas.Option.{same_Some}
 use Rattle.thumb_model.specs.Layout.{is_among}
 use Rattle.std.specs.declared.vec.Vec.{Vec}
@@ -10,8 +10,8 @@ use Rattle.std.specs.declared.alloc.Global.{Global}
 use Rattle.thumb_model.specs.Listing.{Name, ListingLine, Place, Op, Word, code_of, is_op_place, labels_from, place_of, places_in, places_of}
 use Rattle.thumb_model.specs.Steps.{label_place}
 use Rattle.thumb_model.specs.Replaced.{is_op, replaced_lines}
-use Rattle.kept_places.specs.Marks.{is_gone, rank, IsNode, IsStart}
-use Rattle.kept_places.proofs.Ranks.{marked_other, rank_gone, rank_kept, rank_zero, unmarked}
+use Rattle.kept_places.specs.Marks.{is_gone, rank, IsNode}
+use Rattle.kept_places.proofs.Ranks.{marked_other, rank_between, unmarked}
 use Rattle.listing_parser.specs.Parsing.{line_mentioning, own_line}
 use Rattle.listing_parser.specs.Targets.{aimed_lines, DefineOnce}
 use Rattle.listing_parser.proofs.LabelLemmas.{code_place, label_at, one_label}
@@ -30,10 +30,6 @@ pub set_length : {A : Type 0} (xs : List A) (p : ℕ) (x : A) → length (slice_
 set_length [] p x = refl
 set_length (y ∷ xs) zero x = refl
 set_length (y ∷ xs) (suc p) x = ap suc (set_length xs p x)
-
-many : {A : Type 0} (n : ℕ) (x : A) → length (replicate n x) ≡ n
-many zero x = refl
-many (suc n) x = ap suc (many n x)
 
 pub none_more : (n : ℕ) (os : List (Option (Vec ℕ Global))) → names_of os ≡ replicate n None → names_of (os ++ None ∷ []) ≡ replicate (n + 1) None
 none_more n os e = names_more os ∙ ap (λ (xs : List (Option Name)). xs ++ None ∷ []) e ∙ one_more n ∙ ap (λ k. replicate k None) (let z : suc n ≡ n + 1 = omega arith in z)
@@ -94,8 +90,8 @@ lines_unchanged ls = all_same (length (places_of ls)) (length (places_of ls)) ls
 
 pub first_draft : (ls : List ListingLine) → DefineOnce ls → length (places_of ls) < 2 ^ 32 → IsDraft (unchanged ls)
 first_draft ls once few = record {
-  marks = many (length (places_of ls)) false;
-  labels = many (length (places_of ls)) None;
+  marks = length-replicate (length (places_of ls)) false;
+  labels = length-replicate (length (places_of ls)) None;
   ops = λ p e. let no : true ≡ false = sym e ∙ unmarked (length (places_of ls)) p in absurd (cc);
   once = subst DefineOnce (sym (lines_unchanged ls)) once;
   few = subst (λ (l : List ListingLine). length (places_of l) < 2 ^ 32) (sym (lines_unchanged ls)) few;
@@ -120,13 +116,11 @@ name_at d p h k = ap name_in (sym (stands_at d.given d.gone d.aims p h.ops k))
 
 -- ---- where names lead ----
 
-node_rank_by : (n : ℕ) (gone : List Bool) (p q : ℕ) → q ≡ n + p → ((k : ℕ) → p ≤ k → k < q → is_gone gone k ≡ true) → rank gone q ≡ rank gone p
-node_rank_by zero gone p q e h = ap (rank gone) (let z : q ≡ p = omega arith in z)
-node_rank_by (suc n) gone p zero e h = absurd (omega arith)
-node_rank_by (suc n) gone p (suc q) e h = rank_gone gone q (h q (omega arith) (omega arith)) ∙ node_rank_by n gone p q (omega arith) (λ k l m. h k l (omega arith))
-
 pub node_rank : (gone : List Bool) (p q : ℕ) → IsNode gone p q → rank gone q ≡ rank gone p
-node_rank gone p q h = node_rank_by (q - p) gone p q (let f = h.from in omega arith) h.between
+node_rank gone p q h =
+    let from = h.from in
+    let all : p + (q - p) ≡ q = omega arith in
+    ap (rank gone) (sym all) ∙ rank_between gone (q - p) p (λ k a b. h.between k a (omega arith))
 
 -- the code label of a name
 pub name_leads : (d : Drafted) (name : Name) → IsDraft d → place_of (code_of (lines_now d)) name ≡ code_place (places_of (lines_now d)) (option_map (rank d.gone) (label_place name (labels_from 0 d.given)))
@@ -178,20 +172,6 @@ aimed_draft d p name h l k e =
       once = subst DefineOnce (sym lines) (aimed_once line_mentioning (rank d.gone p) name (lines_now d) h.once);
       few = let f = h.few in let s = aimed_as_many line_mentioning (rank d.gone p) name (lines_now d) in let t = ap (λ (x : List ListingLine). length (places_of x)) lines in omega arith;
     }
-
--- ---- the kept place before ----
-
-pub rank_start : (gone : List Bool) (q s : ℕ) → IsStart gone q s → rank gone q ≡ rank gone s
-rank_start gone q s h = node_rank_by (q - s) gone s q (let u = h.up_to in omega arith) h.between
-
-pub first_kept : (gone : List Bool) (q s : ℕ) → IsStart gone q s → s ≡ 0 → rank gone q ≡ 0
-first_kept gone q s h e = rank_start gone q s h ∙ ap (rank gone) e ∙ rank_zero gone
-
-pub kept_before : (gone : List Bool) (q s p : ℕ) → IsStart gone q s → p + 1 ≡ s → (p < q) × (is_gone gone p ≡ false) × (suc (rank gone p) ≡ rank gone q)
-kept_before gone q s p h e =
-    let up = h.up_to in
-    let kept = h.first p e in
-    (omega arith, kept, sym (rank_kept gone p kept) ∙ ap (rank gone) (let z : suc p ≡ s = omega arith in z) ∙ sym (rank_start gone q s h))
 
 -- ---- what is held ----
 

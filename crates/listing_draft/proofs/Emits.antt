@@ -1,22 +1,12 @@
 -- The lines of a draft, line by line.
-use Rattle.std.proofs.Common.{◌≡◌, ◌∙◌, ℕ, zero, suc, ◌+◌, ◌<◌, ◌≤◌, Bool, true, false, List, [], ◌∷◌, ◌++◌, length, drop, get_or, Option, Some, refl, sym, ap, arith, append_assoc, if◌then◌else◌}
-use Rattle.std.specs.Prelude.{slice_get}
-use Rattle.std.proofs.lemmas.List.{length-append}
+use Rattle.std.proofs.Common.{◌≡◌, ◌∙◌, ℕ, ◌+◌, ◌≤◌, Bool, true, false, List, [], ◌∷◌, ◌++◌, length, drop, Option, refl, sym, ap, arith, append_assoc, if◌then◌else◌}
+use Rattle.std.proofs.lemmas.List.{length-append, drop-drop}
 use Rattle.thumb_model.specs.Listing.{Name, ListingLine, places_in, places_of}
 use Rattle.thumb_model.specs.Replaced.{is_op}
 use Rattle.kept_places.specs.Marks.{is_gone}
 use Rattle.listing_draft.specs.Drafted.{aim_at, line_now, now_of}
 use Rattle.listing_draft.proofs.Ranks.{aim_drop, gone_drop}
 use Rattle.thumb_model.proofs.Cuts.{op_takes as one_place}
-
-drop_more : {A : Type 0} (n k m : ℕ) (xs : List A) → m ≡ n + k → drop k (drop n xs) ≡ drop m xs
-drop_more zero k m xs e = ap (λ j. drop j xs) (let z : k ≡ m = omega arith in z)
-drop_more (suc n) zero zero [] e = refl
-drop_more (suc n) zero (suc m) [] e = refl
-drop_more (suc n) (suc k) zero [] e = refl
-drop_more (suc n) (suc k) (suc m) [] e = refl
-drop_more (suc n) k zero (x ∷ xs) e = absurd (omega arith)
-drop_more (suc n) k (suc m) (x ∷ xs) e = drop_more n k m xs (omega arith)
 
 -- an instruction's line is emitted
 pub emitted_op : (gone : List Bool) (aims : List (Option Name)) (n k m : ℕ) (l : ListingLine) (ls out new all : List ListingLine) → is_op l.statement ≡ true → k ≡ length (places_in l.statement) → m ≡ n + k → out ++ now_of (drop n gone) (drop n aims) (l ∷ ls) ≡ all
@@ -25,8 +15,8 @@ emitted_op gone aims n k m l ls out new all op e f h p =
     let one = one_place l.statement op in
     let g : is_gone (drop n gone) 0 ≡ is_gone gone n = gone_drop n gone 0 n (omega arith) in
     let a : aim_at (drop n aims) 0 ≡ aim_at aims n = aim_drop n aims 0 n (omega arith) in
-    let x : drop 1 (drop n gone) ≡ drop m gone = drop_more n 1 m gone (omega arith) in
-    let y : drop 1 (drop n aims) ≡ drop m aims = drop_more n 1 m aims (omega arith) in
+    let x : drop 1 (drop n gone) ≡ drop m gone = drop-drop 1 n gone ∙ ap (λ j. drop j gone) (let z : n + 1 ≡ m = omega arith in z) in
+    let y : drop 1 (drop n aims) ≡ drop m aims = drop-drop 1 n aims ∙ ap (λ j. drop j aims) (let z : n + 1 ≡ m = omega arith in z) in
     let whole : now_of (drop n gone) (drop n aims) (l ∷ ls) ≡ line_now (is_gone gone n) (aim_at aims n) l ++ now_of (drop m gone) (drop m aims) ls =
     ap (λ b. if b then line_now (is_gone (drop n gone) 0) (aim_at (drop n aims) 0) l ++ now_of (drop 1 (drop n gone)) (drop 1 (drop n aims)) ls else l ∷ now_of (drop (length (places_in l.statement)) (drop n gone)) (drop (length (places_in l.statement)) (drop n aims)) ls) op
     ∙ ap (λ b. line_now b (aim_at (drop n aims) 0) l ++ now_of (drop 1 (drop n gone)) (drop 1 (drop n aims)) ls) g
@@ -42,8 +32,8 @@ emitted_op gone aims n k m l ls out new all op e f h p =
 pub emitted_other : (gone : List Bool) (aims : List (Option Name)) (n k m : ℕ) (l : ListingLine) (ls out new all : List ListingLine) → is_op l.statement ≡ false → k ≡ length (places_in l.statement) → m ≡ n + k → out ++ now_of (drop n gone) (drop n aims) (l ∷ ls) ≡ all
     → new ≡ out ++ l ∷ [] → new ++ now_of (drop m gone) (drop m aims) ls ≡ all
 emitted_other gone aims n k m l ls out new all op e f h p =
-    let x : drop (length (places_in l.statement)) (drop n gone) ≡ drop m gone = drop_more n (length (places_in l.statement)) m gone (omega arith) in
-    let y : drop (length (places_in l.statement)) (drop n aims) ≡ drop m aims = drop_more n (length (places_in l.statement)) m aims (omega arith) in
+    let x : drop (length (places_in l.statement)) (drop n gone) ≡ drop m gone = drop-drop (length (places_in l.statement)) n gone ∙ ap (λ j. drop j gone) (let z : n + length (places_in l.statement) ≡ m = omega arith in z) in
+    let y : drop (length (places_in l.statement)) (drop n aims) ≡ drop m aims = drop-drop (length (places_in l.statement)) n aims ∙ ap (λ j. drop j aims) (let z : n + length (places_in l.statement) ≡ m = omega arith in z) in
     let whole : now_of (drop n gone) (drop n aims) (l ∷ ls) ≡ l ∷ now_of (drop m gone) (drop m aims) ls =
     ap (λ b. if b then line_now (is_gone (drop n gone) 0) (aim_at (drop n aims) 0) l ++ now_of (drop 1 (drop n gone)) (drop 1 (drop n aims)) ls else l ∷ now_of (drop (length (places_in l.statement)) (drop n gone)) (drop (length (places_in l.statement)) (drop n aims)) ls) op
     ∙ ap (λ b. l ∷ now_of b (drop (length (places_in l.statement)) (drop n aims)) ls) x

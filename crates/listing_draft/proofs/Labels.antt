@@ -42,9 +42,6 @@ op_labels r (Some label) l i m rest e = branch_labels r label l l.names i m rest
 
 -- ---- all labels ----
 
-abbrev Put : List ListingLine → List ListingLine → (ℕ → ℕ) → ℕ → ℕ → Type 0
-Put new ls f p r = labels_from r new ≡ map (put_by f) (labels_from p ls)
-
 abbrev LabelsRec : List ListingLine → Type 0
 LabelsRec ls = (gone : List Bool) (aims : List (Option Name)) (f : ℕ → ℕ) (p r : ℕ) → ((k : ℕ) → f (p + k) ≡ r + rank gone k) → OpsGone gone (places_of ls) → labels_from r (now_of gone aims ls) ≡ map (put_by f) (labels_from p ls)
 

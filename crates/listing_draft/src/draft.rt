@@ -147,8 +147,7 @@ impl Draft {
         ensures some { IfSome result (λ q. (q < place) × (is_gone self.now.gone q ≡ false) × (suc (rank self.now.gone q) ≡ rank self.now.gone place)) }
         ensures none { IfNone result (rank self.now.gone place ≡ 0) }
     {
-        let start = self.kept.start(place);
-        if start == 0 { None } else { Some(start - 1) }
+        self.kept.previous(place)
     }
 
     /// The number that a place has in the lines now: how many kept places stand before it.

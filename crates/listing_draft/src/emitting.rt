@@ -6,9 +6,8 @@ ghost use Rattle.listing_parser.specs.Views.{line_view};
 ghost use Rattle.listing_draft.specs.Drafted.{line_now, now_of};
 ghost use Rattle.listing_draft.specs.Invariant.{names_of};
 
-use crate::writing::branch_line;
 use kept_places::KeptPlaces;
-use listing_parser::{FunctionMark, ListingLine, Memory, Statement};
+use listing_parser::{FunctionMark, ListingLine, Memory, Statement, branch_line, is_op};
 use std::alloc::{AllocError, Global};
 
 /// How many lines were passed, and how many places they have.
@@ -83,13 +82,6 @@ fn emit_op(
             Ok(())
         }
     }
-}
-
-/// Whether a line has an instruction.
-fn is_op(line: &ListingLine) -> bool
-    ensures { result ≡ is_op (line_view line.now).statement }
-{
-    matches!(line.statement, Statement::Instruction { .. })
 }
 
 /// Makes an instruction's line what it is now, if it stays one line. Tells whether it does.

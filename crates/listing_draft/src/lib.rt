@@ -5,6 +5,5 @@
 
 mod draft;
 mod emitting;
-mod writing;
 
 pub use draft::Draft;

@@ -6,9 +6,8 @@ use Rattle.std.proofs.lemmas.Bool.{cases_Bool, and_from, le-leb, lt-ltb}
 use Rattle.std.proofs.lemmas.List.{length-append}
 use Rattle.std.proofs.lemmas.Slice.Eq.{bytes_eq-Decides}
 use Rattle.thumb_instr.specs.declared.instr.Instr.{Instr}
-use Rattle.thumb_instr.specs.declared.instr.Instr.TheVariants as instr
 use Rattle.thumb_model.specs.Listing.{Name, Mention, Value, Statement, Nothing, Instruction, Words, Aligns, Sets, ListingLine, Place, Op, Word, Label, places_in, places_of, labels_at, labels_from, code_of, has_label, is_call, is_call_instr, is_code, place_among, place_of, call_count}
-use Rattle.thumb_model.specs.Layout.{instr_size, size_at, end_of, is_among, label_address}
+use Rattle.thumb_model.specs.Layout.{size_at, end_of, is_among, label_address}
 use Rattle.thumb_model.specs.Naming.{Naming, Fits, is_in_range, is_odd, points, points_of, returns_from, laid, word_by, ends_in_call, last_is_call, return_address}
 use Rattle.thumb_model.specs.Steps.{label_place}
 use Rattle.listing_parser.proofs.LabelLemmas.{label_at}
@@ -17,17 +16,10 @@ use Rattle.listing_laws.specs.Fitting.{LiesApart, LaidNamingsFit}
 use Rattle.listing_laws.proofs.Once.{either_part}
 use Rattle.thumb_model.proofs.Moved.{count_append}
 use Rattle.thumb_model.proofs.Returns.{laid_behind, no_words}
-use Rattle.listing_parser.proofs.Namings.{op_within}
-use Rattle.thumb_model.proofs.Shared.{words_length}
+use Rattle.thumb_model.proofs.Shared.{words_length, op_within}
+pub use Rattle.label_layout.proofs.Shared.{two_least as two_bytes}
 
 -- ---- lines and their places ----
-
-pub two_bytes : (i : Instr) → 2 ≤ instr_size i
-two_bytes (instr.Call d) = omega arith
-two_bytes (instr.Barrier b) = omega arith
-two_bytes (instr.ReadSpecial d s) = omega arith
-two_bytes (instr.WriteMask m) = omega arith
-two_bytes i = omega arith
 
 -- each place takes two bytes or more
 statement_room : (s : Statement) (at : ℕ) → 2 * length (places_in s) ≤ size_at s at

@@ -1,11 +1,10 @@
 -- How many bytes the lines of a listing may take: each twice as many as its text has, since a word of four takes two of it, or 255, as alignments pad.
-use Rattle.std.proofs.Common.{◌≡◌, inl, inr, ℕ, zero, suc, ◌+◌, ◌-◌, ◌*◌, ◌%◌, ◌^◌, ◌≤◌, ◌==◌, ◌&&◌, Bool, true, false, List, [], ◌∷◌, map, length, min, refl, ap, arith, ltb-false, Option, Some, None, Ok, option_map}
-use Rattle.std.specs.Prelude.{nat_lt, nat_le, if◌then◌else◌, codes, option_and_then}
+use Rattle.std.proofs.Common.{◌≡◌, inl, inr, ℕ, ◌+◌, ◌-◌, ◌*◌, ◌%◌, ◌^◌, ◌≤◌, ◌==◌, ◌&&◌, Bool, true, false, List, [], ◌∷◌, map, length, refl, ap, arith, ltb-false, Option, Some, None, Ok, option_map}
+use Rattle.std.specs.Prelude.{nat_lt, if◌then◌else◌, codes, option_and_then}
 use Rattle.std.specs.Str.{bytes_eq}
-use Rattle.std.proofs.lemmas.Bool.{cases_Bool, leb-true}
+use Rattle.std.proofs.lemmas.Bool.{cases_Bool}
 use Rattle.std.specs.List.{concat}
 use Rattle.std.proofs.lemmas.List.{length-append}
-use Rattle.std.proofs.lemmas.Nat.{mod_below}
 use Rattle.std.proofs.Math.Pow.{pow_mono}
 use Rattle.ascii_scan.specs.Lines.{Placed, placed, placed_from, lines_of}
 use Rattle.ascii_scan.specs.Names.{is_name_byte}
@@ -17,7 +16,7 @@ use Rattle.thumb_instr.specs.declared.instr.Instr.TheVariants as instr
 use Rattle.thumb_syntax.specs.Operands.{is_name}
 use Rattle.thumb_syntax.specs.Rows.{Shown, reading}
 use Rattle.thumb_model.specs.Listing.{Name, Value, Statement, Nothing, Instruction, Words, Aligns, Sets, ListingLine}
-use Rattle.thumb_model.specs.Layout.{instr_size, padding, size_at, end_of}
+use Rattle.thumb_model.specs.Layout.{instr_size, size_at, end_of}
 use Rattle.listing_parser.specs.declared.directive.Directive.{Directive}
 use Rattle.listing_parser.specs.declared.directive.Directive.TheVariants as directive
 use Rattle.listing_parser.specs.Values.{value, values, onto_values, alone, gapped, pair}
@@ -26,6 +25,7 @@ use Rattle.listing_parser.specs.Grammar.{Bare, Read, labels_at_front, body, code
 use Rattle.listing_parser.proofs.ReadingLemmas.{rest_short}
 use Rattle.listing_parser.proofs.PrintLemmas.{OfLine, of_checked, cut, none_read}
 use Rattle.listing_parser.proofs.FewLemmas.{tokens_short, labels_short, code_short, body_short, all_few}
+use Rattle.label_layout.proofs.Shared.{padding_most}
 use Rattle.listing_laws.specs.Limits.{TextsEndInCode}
 
 -- ---- the most that a statement takes ----
@@ -44,23 +44,6 @@ room (ByKind s) = 4
 abbrev pub rooms : List Read → ℕ
 rooms [] = 0
 rooms (r ∷ rs) = room r.line.said + rooms rs
-
--- what is needed to the next multiple
-abbrev pub need : ℕ → ℕ → ℕ
-need size at = (size - at % size) % size
-
-no_need : (x : ℕ) → (0 - x) % 0 ≡ 0
-no_need x = ap (λ (y : ℕ). y % 0) (let e : 0 - x ≡ 0 = omega arith in e)
-
-need_small : (size at : ℕ) → need size at ≤ size - 1
-need_small zero at = rw (no_need (at % 0)) (omega arith)
-need_small (suc n) at = let h = mod_below (suc n - at % suc n) (suc n) (omega arith) in omega arith
-
-pub padding_most : (size most at : ℕ) → padding size most at ≤ min most (size - 1)
-padding_most size most at = elim (cases_Bool (nat_le (need size at) most)) [
-  | inl h ↦ rw h (let a = need_small size at in let b = leb-true (need size at) most h in omega arith)
-  | inr h ↦ rw h (omega arith)
-]
 
 -- a row
 instr_small : (i : Instr) → instr_size i ≤ 4

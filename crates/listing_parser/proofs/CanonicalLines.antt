@@ -25,6 +25,7 @@ use Rattle.thumb_syntax.specs.Spelling.{register_text, number_text, has_bit, sep
 use Rattle.thumb_syntax.specs.Whole.{is_whole}
 use Rattle.thumb_syntax.proofs.SlotText.{stored_by, slot_fits, follows, slots_fit}
 use Rattle.thumb_syntax.proofs.WrittenRows.{fields, row_at}
+use Rattle.thumb_syntax.proofs.Words.{front_before}
 use Rattle.thumb_syntax.proofs.Written.{written}
 use Rattle.thumb_syntax.proofs.RoundTrip.{writing_reads_back}
 use Rattle.thumb_model.specs.Listing.{Name, Nothing}
@@ -32,6 +33,7 @@ use Rattle.listing_parser.specs.Grammar.{front_of, Read, is_no_colon, is_no_at, 
 use Rattle.listing_parser.specs.Directives.{Unmarked, Plain, ByKind, Told, says, instruction, said, statement}
 use Rattle.listing_parser.specs.Replacing.{names_no_label}
 use Rattle.listing_parser.proofs.ReadingLemmas.{last_other, labels_more, labels_none}
+use Rattle.common_lemmas.proofs.Booleans.{and_false}
 
 -- ---- clear bytes ----
 
@@ -268,10 +270,6 @@ rest_clear p (b ∷ bs) all = elim (cases_Bool (p b)) [
   | inr h ↦ rw h all
 ]
 
-pub and_false : (a : Bool) → (a && false) ≡ false
-and_false true = refl
-and_false false = refl
-
 no_label : (bs : List ℕ) → list_all is_clear bs ≡ true → begins_label bs ≡ false
 no_label bs all = ap (λ (x : List ℕ). is_name (front_name bs) && is_some_byte x) (no_colon (rest is_blank bs) (rest_clear is_blank bs all)) ∙ and_false (is_name (front_name bs))
 
@@ -381,13 +379,6 @@ empty_line_checked l e few = read_checked l (unnamed (says Nothing) (whole l)) f
 abbrev pub labels_only : List Name → List ℕ → List ℕ → Read
 labels_only names text front = record { line = record { names = names; said = Plain Nothing; text = text; front = front }; mark = Unmarked }
 
-pub front_stops : (p : ℕ → Bool) (w : List ℕ) (b : ℕ) (bs : List ℕ) → list_all p w ≡ true → p b ≡ false → (front p (w ++ b ∷ bs) ≡ w) × (rest p (w ++ b ∷ bs) ≡ b ∷ bs)
-front_stops p [] b bs all e = (rw e refl, rw e refl)
-front_stops p (x ∷ xs) b bs all e =
-    let a = and_parts (p x) (list_all p xs) all in
-    let next = front_stops p xs b bs a.1 e in
-    (rw a.0 (ap (λ (w : List ℕ). x ∷ w) next.0), rw a.0 next.1)
-
 pub front_all : (p : ℕ → Bool) (bs : List ℕ) → list_all p bs ≡ true → front p bs ≡ bs
 front_all p [] all = refl
 front_all p (b ∷ bs) all = let a = and_parts (p b) (list_all p bs) all in rw a.0 (ap (λ (w : List ℕ). b ∷ w) (front_all p bs a.1))
@@ -463,19 +454,16 @@ names_no_at : (w : List ℕ) → list_all is_name_byte w ≡ true → list_all i
 names_no_at [] all = refl
 names_no_at (b ∷ bs) all = let a = and_parts (is_name_byte b) (list_all is_name_byte bs) all in and_from (is_no_at b) (list_all is_no_at bs) (name_byte_else b a.0).3 (names_no_at bs a.1)
 
-pub and_both : (a b : Bool) → a ≡ true → b ≡ true → (a && b) ≡ true
-and_both a b e f = rw e f
-
 label_begins : (w : List ℕ) → is_name w ≡ true → (front_name (w ++ 58 ∷ []) ≡ w) × (from_colon (w ++ 58 ∷ []) ≡ 58 ∷ [])
 label_begins w e =
     let text = (name_begins w (58 ∷ []) e).0 in
-    let stops = front_stops is_no_colon w 58 [] (names_no_colon w (name_bytes w e)) refl in
+    let stops = front_before is_no_colon w 58 [] (names_no_colon w (name_bytes w e)) refl in
     (ap (front is_no_colon) text ∙ stops.0, ap (rest is_no_colon) text ∙ stops.1)
 
 label_labels : (w : List ℕ) → is_name w ≡ true → labels_at_front (w ++ 58 ∷ []) ≡ (w ∷ [], [])
 label_labels w e =
     let b = label_begins w e in
-    let is : begins_label (w ++ 58 ∷ []) ≡ true = and_both (is_name (front_name (w ++ 58 ∷ []))) (is_some_byte (from_colon (w ++ 58 ∷ []))) (ap is_name b.0 ∙ e) (ap is_some_byte b.1) in
+    let is : begins_label (w ++ 58 ∷ []) ≡ true = and_from (is_name (front_name (w ++ 58 ∷ []))) (is_some_byte (from_colon (w ++ 58 ∷ []))) (ap is_name b.0 ∙ e) (ap is_some_byte b.1) in
     labels_more (w ++ 58 ∷ []) is
     ∙ ap (λ (n : Name). (let x : List Name × List ℕ = (n ∷ (labels_at_front (without_first (from_colon (w ++ 58 ∷ [])))).0, (labels_at_front (without_first (from_colon (w ++ 58 ∷ [])))).1) in x)) b.0
     ∙ ap (λ (y : List ℕ). (let x : List Name × List ℕ = (w ∷ (labels_at_front (without_first y)).0, (labels_at_front (without_first y)).1) in x)) b.1
@@ -485,7 +473,7 @@ label_code : (w : List ℕ) → is_name w ≡ true → code (w ++ 58 ∷ []) ≡
 label_code w e =
     let begins = name_begins w (58 ∷ []) e in
     code_is (w ++ 58 ∷ []) (ap begins_hash begins.0 ∙ begins.1)
-    (front_all is_no_at (w ++ 58 ∷ []) (list_all-append is_no_at w (58 ∷ []) ∙ and_both (list_all is_no_at w) true (names_no_at w (name_bytes w e)) refl))
+    (front_all is_no_at (w ++ 58 ∷ []) (list_all-append is_no_at w (58 ∷ []) ∙ and_from (list_all is_no_at w) true (names_no_at w (name_bytes w e)) refl))
 
 -- a name and a colon are read as the label alone
 pub label_line : (w : List ℕ) (l : Placed) → is_name w ≡ true → l.text ≡ w ++ 58 ∷ [] → read_line l ≡ Some (labels_only (w ∷ []) (whole l) (w ++ 58 ∷ 10 ∷ []))

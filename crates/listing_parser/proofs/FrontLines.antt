@@ -12,7 +12,8 @@ use Rattle.thumb_model.specs.Listing.{Name}
 use Rattle.listing_parser.specs.Grammar.{front_of, Read, is_no_colon, is_no_at, begins_hash, is_some_byte, without_first, front_name, from_colon, begins_label, labels_within, labels_at_front, without_return, body, code, read_line}
 use Rattle.listing_parser.specs.Directives.{Told, statement}
 use Rattle.listing_parser.proofs.ReadingLemmas.{last_other, labels_more, labels_none, within_zero, within_none, within_more, all_at_front}
-use Rattle.listing_parser.proofs.CanonicalLines.{labels_only, front_stops, front_all, take_front, front_of_named, labels_read, and_both}
+use Rattle.thumb_syntax.proofs.Words.{front_before}
+use Rattle.listing_parser.proofs.CanonicalLines.{labels_only, front_all, take_front, front_of_named, labels_read}
 
 -- ---- fronts ----
 
@@ -79,10 +80,10 @@ cut_more names bs after e next =
     let all : rest is_blank bs ≡ name ++ 58 ∷ without_first (from_colon bs) = split is_no_colon (rest is_blank bs) ∙ ap (λ (w : List ℕ). name ++ w) colon in
     let begins : begins_blank label ≡ false = same_begin name next.before (without_first (from_colon bs)) ∙ ap begins_blank (sym all) ∙ no_blank_after bs in
     let text : rest is_blank (blanks ++ label) ≡ label = rest_skips blanks label (front_passes is_blank bs) begins in
-    let stops = front_stops is_no_colon name 58 next.before (front_passes is_no_colon (rest is_blank bs)) refl in
+    let stops = front_before is_no_colon name 58 next.before (front_passes is_no_colon (rest is_blank bs)) refl in
     let same : front_name (blanks ++ label) ≡ name = ap (front is_no_colon) text ∙ stops.0 in
     let behind : from_colon (blanks ++ label) ≡ 58 ∷ next.before = ap (rest is_no_colon) text ∙ stops.1 in
-    let is_label : begins_label (blanks ++ label) ≡ true = and_both (is_name (front_name (blanks ++ label))) (is_some_byte (from_colon (blanks ++ label))) (ap is_name same ∙ named.0) (ap is_some_byte behind) in
+    let is_label : begins_label (blanks ++ label) ≡ true = and_from (is_name (front_name (blanks ++ label))) (is_some_byte (from_colon (blanks ++ label))) (ap is_name same ∙ named.0) (ap is_some_byte behind) in
     record {
       before = blanks ++ label;
       joined =

@@ -5,12 +5,12 @@ use Rattle.std.specs.Str.{bytes_eq}
 use Rattle.std.proofs.lemmas.Bool.Decides.{nat_tests}
 use Rattle.std.proofs.lemmas.Bool.{cases_Bool, or_parts}
 use Rattle.std.proofs.lemmas.List.{length-append}
-use Rattle.std.proofs.lemmas.Option.{slice_get_within}
 use Rattle.ascii_scan.specs.Lines.{lines_of}
-use Rattle.thumb_model.specs.Listing.{Name, ListingLine, Place, Label, Code, places_in, places_of, labels_at, labels_from, code_of, has_label, is_call, is_code, is_op_place, place_of, return_places}
+use Rattle.thumb_model.specs.Listing.{Name, ListingLine, Place, Label, Code, places_in, places_of, labels_at, labels_from, code_of, has_label, is_call, is_code, place_of, return_places}
 use Rattle.thumb_model.specs.Layout.{is_among}
 use Rattle.thumb_model.specs.Naming.{Naming, Fits, is_in_range, is_odd, points, points_of, returns_from}
 use Rattle.thumb_model.specs.Steps.{label_place}
+use Rattle.thumb_model.proofs.Shared.{op_within}
 use Rattle.listing_parser.specs.Parsing.{IsListing}
 use Rattle.listing_parser.specs.Namings.{if_op}
 use Rattle.listing_parser.specs.Targets.{defined_in, set_names}
@@ -123,12 +123,6 @@ more_worded : (count v q : ℕ) (xs : List (ℕ × ℕ)) → IsWord count v q �
 unfolding AreWorded
 more_worded count v q xs h each zero w p e = word_same count v w q p e h
 more_worded count v q xs h each (suc k) w p e = each k w p e
-
-pub op_within : (places : List Place) (q : ℕ) → is_op_place (slice_get places q) ≡ true → q < length places
-op_within places q t = go (slice_get places q) refl where
-  go : (o : Option Place) → slice_get places q ≡ o → q < length places
-  go None e = absurd (true≢false (sym t ∙ ap is_op_place e))
-  go (Some x) e = slice_get_within places q x e
 
 labels_worded : (names : Naming) (places : List Place) (ls : List Label) → ((k : ℕ) (l : Label) → slice_get ls k ≡ Some l → names.word_of l.name ≡ 2 * l.place + 1) → AreWorded (length places) (points_of names places ls)
 unfolding AreWorded

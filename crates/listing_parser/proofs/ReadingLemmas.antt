@@ -118,10 +118,6 @@ last_other (b ∷ c ∷ bs) last e = ap (λ w. b ∷ w) (last_other (c ∷ bs) l
 
 -- ---- line by line ----
 
-front_none : (r : Result (List Read) (ℕ × ListingFault)) → with_front [] r ≡ r
-front_none (Ok rs) = refl
-front_none (Err e) = refl
-
 front_more : (rs : List Read) (x : Read) (r : Result (List Read) (ℕ × ListingFault)) → with_front rs (with_front (x ∷ []) r) ≡ with_front (rs ++ x ∷ []) r
 front_more rs x (Ok xs) = ap (λ ys. Ok ys) (sym (append_assoc rs (x ∷ []) xs))
 front_more rs x (Err e) = refl
@@ -131,7 +127,8 @@ unfolding read_lines
 read_step l ls = refl
 
 pub read_start : (r : Result (List Read) (ℕ × ListingFault)) → with_front [] r ≡ r
-read_start r = front_none r
+read_start (Ok rs) = refl
+read_start (Err e) = refl
 
 pub read_end : (rs : List Read) (ls : List Placed) (r : Result (List Read) (ℕ × ListingFault)) → ls ≡ [] → with_front rs (read_lines ls) ≡ r → r ≡ Ok rs
 unfolding read_lines

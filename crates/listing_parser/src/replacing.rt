@@ -138,7 +138,8 @@ pub fn copy_lines(alloc: Global, lines: &[ListingLine]) -> Result<Vec<ListingLin
     Ok(copied)
 }
 
-fn is_op(line: &ListingLine) -> bool
+/// Whether a line has an instruction.
+pub fn is_op(line: &ListingLine) -> bool
     ensures { result ≡ is_op (line_view line.now).statement }
 {
     matches!(line.statement, Statement::Instruction { .. })

@@ -12,9 +12,9 @@ use std::alloc::Global;
 use thumb_instr::Instr;
 use thumb_syntax::{Label, Parsed};
 
-/// A line of its own for a branch to a label.
+/// A line of its own for a branch to a label: a tab, its canonical text with the label's name and a newline.
 #[tactic(auto, unfolding(crate::specs::Parsing::line_mentioning))]
-fn branch_line(alloc: Global, instr: &Instr, name: &[u8]) -> Result<ListingLine, Memory>
+pub fn branch_line(alloc: Global, instr: &Instr, name: &[u8]) -> Result<ListingLine, Memory>
     ensures { IfOk result (λ l. line_view l ≡ record {
       names = [];
       statement = Instruction instr.now (Some (record { name = name.now; plus = 0 }));

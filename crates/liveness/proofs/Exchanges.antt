@@ -1,8 +1,7 @@
 -- Ways and graph where instructions take the places of a window.
-use Rattle.std.proofs.Common.{if◌then◌else◌, ◌≡◌, ◌≢◌, ℕ, zero, suc, ◌+◌, ◌-◌, ◌<◌, ◌≤◌, ◌&&◌, ◌||◌, not, Bool, true, false, List, [], ◌∷◌, length, get_or, Option, Some, None, refl, sym, ap, ◌∙◌, subst, ◌⊎◌, inl, inr, arith, ne_eqb, length-append}
+use Rattle.std.proofs.Common.{◌≡◌, ◌≢◌, ℕ, zero, suc, ◌+◌, ◌-◌, ◌<◌, ◌≤◌, ◌&&◌, ◌||◌, not, true, false, List, [], ◌∷◌, length, get_or, Option, Some, None, refl, sym, ap, ◌∙◌, subst, ◌⊎◌, inl, inr, arith, ne_eqb, length-append}
 use Rattle.std.specs.Prelude.{slice_get}
 use Rattle.std.proofs.lemmas.Bool.{cases_eq, cases_lt}
-use Rattle.std.proofs.lemmas.Option.{same_Some}
 use Rattle.thumb_instr.specs.declared.instr.Instr.{Instr}
 use Rattle.thumb_instr.specs.declared.instr.Instr.TheVariants as instr
 use Rattle.thumb_instr.specs.Shape.{uses_of, writes_of}
@@ -11,7 +10,7 @@ use Rattle.thumb_model.specs.Listing.{Code}
 use Rattle.thumb_model.specs.Flow.{Way as ModelWay, Onward, way, ways_of, ways}
 use Rattle.thumb_model.proofs.Lists.{get_back}
 use Rattle.shrinking_sets.specs.Straight.{is_straight, nop, nops, reads_first, writes_in, IsApart}
-use Rattle.shrinking_sets.proofs.Exchange.{Runs, old_runs, new_runs, apart_or, straight_at, ways_same, straight_way}
+use Rattle.shrinking_sets.proofs.Exchange.{Runs, old_runs, new_runs, apart_or, runs_at, straight_at, ways_same, straight_way}
 use Rattle.padded_code.specs.Spread.{first_of, others_of, spread}
 use Rattle.code_flow.specs.declared.way.Way.{Way}
 use Rattle.code_flow.specs.declared.way.Ways.{Ways}
@@ -119,11 +118,6 @@ none_behind from q (p ∷ r ∷ ps) a h = ap (λ b. b || one_of q (r ∷ ps)) (n
 
 -- ---- the new ways ----
 
-pub run_at : (code : Code) (q : ℕ) (is : List Instr) (j : ℕ) (i : Instr) → Runs code q is → slice_get is j ≡ Some i → ways code (q + j) ≡ way (uses_of i) (writes_of i) Onward ∷ []
-run_at code q [] j i r e = absurd (cc)
-run_at code q (h ∷ is) zero i r e = ap (ways code) (let f : q + 0 ≡ q = omega arith in f) ∙ r.0 ∙ ap (λ (y : Instr). way (uses_of y) (writes_of y) Onward ∷ []) (same_Some h i e)
-run_at code q (h ∷ is) (suc j) i r e = ap (ways code) (let f : q + suc j ≡ q + 1 + j = omega arith in f) ∙ run_at code (q + 1) is j i r.1 e
-
 pub from_first : (qs : List ℕ) → AreAscending 0 qs → AreAscending (get_or qs 0 0) qs
 from_first [] a = tt
 from_first (q ∷ qs) a = (let l : q ≤ q = omega arith in l, a.1)
@@ -138,10 +132,10 @@ module _ (code new : Code) (ps : List ℕ) (window is : List Instr) (gives : Giv
   kept_ways q ws n e g = subst (λ (ms : List ModelWay). AreWays q ms (way_list ws)) (sym e) (ways_are q ws (sym (others q n) ∙ g))
 
   stands_new : (q j : ℕ) (i : Instr) → q ≡ get_or ps 0 0 + j → slice_get (spread (get_or ps 0 0) ps is) j ≡ Some i → ways new q ≡ way (uses_of i) (writes_of i) Onward ∷ []
-  stands_new q j i e g = ap (ways new) e ∙ run_at new (get_or ps 0 0) (spread (get_or ps 0 0) ps is) j i (new_runs code new (get_or ps 0 0) (spread (get_or ps 0 0) ps window) (spread (get_or ps 0 0) ps is) gives.exchange) g
+  stands_new q j i e g = ap (ways new) e ∙ runs_at new (get_or ps 0 0) (spread (get_or ps 0 0) ps is) j i (new_runs code new (get_or ps 0 0) (spread (get_or ps 0 0) ps window) (spread (get_or ps 0 0) ps is) gives.exchange) g
 
   stood_old : (q j : ℕ) (i : Instr) → q ≡ get_or ps 0 0 + j → slice_get (spread (get_or ps 0 0) ps window) j ≡ Some i → ways code q ≡ way (uses_of i) (writes_of i) Onward ∷ []
-  stood_old q j i e g = ap (ways code) e ∙ run_at code (get_or ps 0 0) (spread (get_or ps 0 0) ps window) j i (old_runs code new (get_or ps 0 0) (spread (get_or ps 0 0) ps window) (spread (get_or ps 0 0) ps is) gives.exchange) g
+  stood_old q j i e g = ap (ways code) e ∙ runs_at code (get_or ps 0 0) (spread (get_or ps 0 0) ps window) j i (old_runs code new (get_or ps 0 0) (spread (get_or ps 0 0) ps window) (spread (get_or ps 0 0) ps is) gives.exchange) g
 
   within : (q j : ℕ) (ws : Option Ways) → q ≡ get_or ps 0 0 + j → j < length (spread (get_or ps 0 0) ps window) → slice_get all' q ≡ Some ws → AreWays q (ways new q) (way_list ws)
   within q j ws e l g =

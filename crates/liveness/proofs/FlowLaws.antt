@@ -1,7 +1,7 @@
 -- Flows of a listing in which a window gave way.
 use Rattle.std.proofs.Common.{◌≡◌, ℕ, zero, suc, ◌+◌, ◌-◌, ◌&&◌, ◌||◌, not, Bool, true, false, List, [], ◌∷◌, ◌++◌, length, map, Option, Some, None, refl, sym, ap, ◌∙◌, subst, inl, inr, arith}
 use Rattle.std.specs.Prelude.{slice_get}
-use Rattle.std.proofs.lemmas.Bool.{cases_lt, or_cases}
+use Rattle.std.proofs.lemmas.Bool.{cases_lt}
 use Rattle.thumb_instr.specs.declared.instr.Instr.{Instr}
 use Rattle.thumb_instr.specs.declared.items.Items.{Items}
 use Rattle.thumb_instr.specs.Items.{one_of, has}
@@ -10,24 +10,17 @@ use Rattle.thumb_model.specs.Listing.{Code}
 use Rattle.thumb_model.specs.Flow.{Way, Leads, Onward, ToPlace, AnyPoint, Out, ways_of, ways}
 use Rattle.thumb_model.proofs.Lists.{get_back}
 use Rattle.liveness.specs.declared.flowing.Flow.{Flow}
-use Rattle.liveness.specs.Kept.{some_reads, if_onward, onward_writes, HasThese, FlowOf, AreFlowsFrom, is_straight}
+use Rattle.shrinking_sets.specs.Marks.{some_reads}
+use Rattle.shrinking_sets.specs.Straight.{is_straight}
+use Rattle.shrinking_sets.proofs.Exchange.{straight_way}
+use Rattle.padded_code.proofs.Padded.{lead_to, way_to}
+use Rattle.liveness.specs.Kept.{if_onward, onward_writes, HasThese, FlowOf, AreFlowsFrom}
 use Rattle.code_flow.specs.declared.way.Way.{Way as Ways}
 use Rattle.code_flow.specs.Flow.{AreWays}
 use Rattle.liveness.specs.Through.{uses_among, passed}
-use Rattle.liveness.proofs.Moves.{move_leads, move_way}
-use Rattle.liveness.proofs.GivesWay.{straight_way}
 use Rattle.common_lemmas.proofs.Lists.{get_front}
 
 -- ---- what a flow says ----
-
--- some way reads what the flow does
-pub reader : (ws : List Way) (x : ℕ) → some_reads ws x ≡ true → (k : ℕ) × (w : Way) × (slice_get ws k ≡ Some w) × (one_of x w.reads ≡ true)
-reader [] x h = absurd (cc)
-reader (w ∷ ws) x h =
-    elim (or_cases _ _ h) [
-      | inl t ↦ (0, w, refl, t)
-      | inr t ↦ let r = reader ws x t in (suc r.0, r.1, r.2, r.3)
-    ]
 
 -- what passes a flow isn't written by a way to the next place
 pub passer : (ws : List Way) (o : Option Items) (rest : Bool) (x : ℕ) → HasThese (onward_writes ws) o → passed o rest x ≡ true → (rest ≡ true) × (k : ℕ) × (w : Way) × (slice_get ws k ≡ Some w) × (w.leads ≡ Onward) × (one_of x w.writes ≡ false)
@@ -78,21 +71,21 @@ push_flow code q fs more f k h l e i j g m =
 
 -- ---- flows stay ----
 
-reads_moved : (f : ℕ → ℕ) (ws : List Way) (x : ℕ) → some_reads (map (move_way f) ws) x ≡ some_reads ws x
+reads_moved : (f : ℕ → ℕ) (ws : List Way) (x : ℕ) → some_reads (map (way_to f) ws) x ≡ some_reads ws x
 reads_moved f [] x = refl
 reads_moved f (w ∷ ws) x = ap (λ b. one_of x w.reads || b) (reads_moved f ws x)
 
-onward_moved : (f : ℕ → ℕ) (ws : List Way) → onward_writes (map (move_way f) ws) ≡ onward_writes ws
+onward_moved : (f : ℕ → ℕ) (ws : List Way) → onward_writes (map (way_to f) ws) ≡ onward_writes ws
 onward_moved f [] = refl
 onward_moved f (w ∷ ws) = go (onward_moved f ws) w.leads
   where
-    go : onward_writes (map (move_way f) ws) ≡ onward_writes ws → (l : Leads) → if_onward (move_leads f l) w.writes (onward_writes (map (move_way f) ws)) ≡ if_onward l w.writes (onward_writes ws)
+    go : onward_writes (map (way_to f) ws) ≡ onward_writes ws → (l : Leads) → if_onward (lead_to f l) w.writes (onward_writes (map (way_to f) ws)) ≡ if_onward l w.writes (onward_writes ws)
     go e Onward = refl
     go e (ToPlace q) = e
     go e AnyPoint = e
     go e Out = e
 
-pub flow_back : (f : ℕ → ℕ) (ws : List Way) (flow : Flow) → FlowOf (map (move_way f) ws) flow → FlowOf ws flow
+pub flow_back : (f : ℕ → ℕ) (ws : List Way) (flow : Flow) → FlowOf (map (way_to f) ws) flow → FlowOf ws flow
 flow_back f ws flow h = record {
   reads = λ x. h.reads x ∙ reads_moved f ws x;
   onward = subst (λ (o : Option (List ℕ)). HasThese o flow.onward) (onward_moved f ws) h.onward;

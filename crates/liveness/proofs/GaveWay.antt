@@ -1,6 +1,7 @@
 -- Where instructions gave way and no other set changes.
 use Rattle.std.proofs.Common.{◌≡◌, ℕ, zero, suc, ◌+◌, ◌-◌, ◌<◌, ◌≤◌, true, List, [], ◌∷◌, length, take, drop, map, Some, refl, sym, ap, ◌∙◌, subst, ◌⊎◌, inr, arith}
 use Rattle.std.specs.Prelude.{slice_get}
+use Rattle.std.proofs.lemmas.Option.{same_Some, slice_get_within}
 use Rattle.thumb_instr.specs.declared.instr.Instr.{Instr}
 use Rattle.thumb_instr.specs.declared.items.Items.{Items}
 use Rattle.thumb_instr.specs.Items.{has}
@@ -15,7 +16,8 @@ use Rattle.liveness.specs.Live.{Sets, set_at, IsLive}
 use Rattle.liveness.specs.Kept.{FlowOf, AreFlowsFrom, KeepsAt, replaced_sets}
 use Rattle.liveness.specs.Changes.{AreReadFrom, WasLive}
 use Rattle.liveness.specs.Through.{live_through, nothing, AreThrough}
-use Rattle.liveness.proofs.Moves.{fits_in, get_within, move_way, some_same}
+use Rattle.padded_code.proofs.Padded.{way_to}
+use Rattle.liveness.proofs.Moves.{fits_in}
 use Rattle.liveness.proofs.FlowLaws.{flow_back}
 use Rattle.liveness.proofs.GivesWay.{GivesWay, gives_way}
 use Rattle.liveness.proofs.Keeping.{alone_reads}
@@ -27,7 +29,7 @@ same_elements : (xs ys : List Instr) → length xs ≡ length ys → ((k : ℕ) 
 same_elements [] [] e h = refl
 same_elements [] (y ∷ ys) e h = absurd (omega arith)
 same_elements (x ∷ xs) [] e h = absurd (omega arith)
-same_elements (x ∷ xs) (y ∷ ys) e h = cons_same x y xs ys (sym (some_same y x (h 0 x refl))) (same_elements xs ys (omega arith) (λ k z g. h (suc k) z g))
+same_elements (x ∷ xs) (y ∷ ys) e h = cons_same x y xs ys (sym (same_Some y x (h 0 x refl))) (same_elements xs ys (omega arith) (λ k z g. h (suc k) z g))
 
 plain_same : (i j : Instr) → plain i ≡ plain j → i ≡ j
 plain_same i j e = cc
@@ -91,7 +93,7 @@ module _ (lines : List ListingLine) (place old new : ℕ) (sets : Sets) (w : Was
     -- the instructions that stand there are the new ones
     pub new_ones : (is : List Instr) → length is ≡ new → ((k : ℕ) (i : Instr) → slice_get is k ≡ Some i → slice_get (places_of lines) (place + k) ≡ Some (plain i)) → is ≡ w.instrs
     new_ones is n h = same_elements is w.instrs (n ∙ sym w.new_many) (λ k i e.
-        let l = get_within is k i e in
+        let l = slice_get_within is k i e in
         let there : slice_get left.places (place + k) ≡ slice_get (map plain w.instrs) k = fetch_window code place (length w.window) w.instrs (fits_in code place w.window w.instrs keeps) k (let m = w.new_many in omega arith) in
         let found = map_back plain w.instrs k (plain i) (sym there ∙ sym (ap (λ (c : Code). slice_get c.places (place + k)) code_is) ∙ h k i e) in
         found.1 ∙ ap (λ (j : Instr). Some j) (sym (plain_same i found.0 found.2)))
@@ -119,7 +121,7 @@ module _ (lines : List ListingLine) (place old new : ℕ) (sets : Sets) (w : Was
           let b = gives.behind (place + length w.window + k) (omega arith) in
           let n = w.new_many in
           let at : place + new + k ≡ to (place + length w.window + k) = omega arith in
-          let same : ways (code_of lines) (place + new + k) ≡ map (move_way to) (ways code (place + length w.window + k)) =
+          let same : ways (code_of lines) (place + new + k) ≡ map (way_to to) (ways code (place + length w.window + k)) =
           ap (λ (c : Code). ways c (place + new + k)) code_is ∙ ap (ways left) at ∙ gives.ways_moved (place + length w.window + k) (inr (omega arith)) in
           flow_back to (ways code (place + length w.window + k)) f (subst (λ (ws : List Way). FlowOf ws f) same (read.flows k f e))
 

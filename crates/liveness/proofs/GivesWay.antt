@@ -1,35 +1,16 @@
 -- Straight code gives way to other straight code, of which it may be that only the last part differs.
-use Rattle.std.proofs.Common.{◌≡◌, ℕ, ◌+◌, ◌-◌, ◌<◌, ◌≤◌, not, Bool, true, false, List, [], ◌∷◌, ◌++◌, length, length-append, take, drop, map, Option, Some, refl, ◌⊎◌, inl, inr, arith, if◌then◌else◌}
+use Rattle.std.proofs.Common.{◌≡◌, ℕ, ◌+◌, ◌-◌, ◌<◌, ◌≤◌, List, ◌++◌, length, length-append, take, drop, map, Some, ◌⊎◌, inl, inr, arith}
 use Rattle.std.specs.Prelude.{slice_get}
 use Rattle.thumb_instr.specs.declared.instr.Instr.{Instr}
-use Rattle.thumb_instr.specs.declared.instr.Instr.TheVariants as instr
-use Rattle.thumb_instr.specs.Items.{has, sp}
-use Rattle.thumb_instr.specs.Shape.{uses_of, writes_of, registers_in}
 use Rattle.thumb_model.specs.Listing.{plain, Code}
-use Rattle.thumb_model.specs.Flow.{Way, Leads, Onward, AnyPoint, Out, way, left_but, ways_of, ways, Follows}
+use Rattle.thumb_model.specs.Flow.{Way, Leads, ways, Follows}
 use Rattle.thumb_model.specs.Replaced.{moved, replaced}
 use Rattle.thumb_model.proofs.Lists.{length_map, take_all, length_drop}
 use Rattle.thumb_model.proofs.Moved.{IsOutside}
-use Rattle.liveness.specs.Kept.{is_straight, KeepsAt}
-use Rattle.liveness.proofs.Moves.{move_leads, move_way, Runs, window_runs, new_runs, is_within, ways_moved, lands, outside_label, outside_point, follows_moved, follows_back}
-
--- ---- straight code ----
-
--- a row: a straight instruction goes to the next place alone
-pub straight_way : (o : Option ℕ) (i : Instr) → is_straight i ≡ true → ways_of o i ≡ way (uses_of i) (writes_of i) Onward ∷ []
-straight_way o (instr.Bx m) h = absurd (cc)
-straight_way o (instr.Blx m) h = absurd (cc)
-straight_way o (instr.Pop l) h = go (has l.number 8) h
-  where
-    go : (b : Bool) → not b ≡ true
-        → (if b then way (sp ∷ []) (sp ∷ registers_in l.number) AnyPoint ∷ way (sp ∷ left_but (registers_in l.number)) (sp ∷ registers_in l.number) Out ∷ [] else way (sp ∷ []) (sp ∷ registers_in l.number) Onward ∷ [])
-        ≡ way (uses_of (instr.Pop l)) (writes_of (instr.Pop l)) Onward ∷ []
-    go true e = absurd (cc)
-    go false e = refl
-straight_way o (instr.BranchIf c d) h = absurd (cc)
-straight_way o (instr.Branch d) h = absurd (cc)
-straight_way o (instr.Call d) h = absurd (cc)
-straight_way o i h = refl
+use Rattle.liveness.specs.Kept.{KeepsAt}
+use Rattle.shrinking_sets.proofs.Exchange.{Runs}
+use Rattle.padded_code.proofs.Padded.{lead_to, way_to}
+use Rattle.liveness.proofs.Moves.{window_runs, new_runs, is_within, ways_moved, lands, outside_label, outside_point, follows_moved, follows_back}
 
 -- ---- a region ----
 
@@ -42,10 +23,10 @@ pub record GivesWay (code new_code : Code) (to : ℕ → ℕ) (p : ℕ) (window 
   pub behind : (q : ℕ) → p + length window ≤ q → to q + length window ≡ q + length new
   pub window_runs : Runs code p window
   pub new_runs : Runs new_code p new
-  pub ways_moved : (q : ℕ) → (q < p) ⊎ (p + length window ≤ q) → ways new_code (to q) ≡ map (move_way to) (ways code q)
+  pub ways_moved : (q : ℕ) → (q < p) ⊎ (p + length window ≤ q) → ways new_code (to q) ≡ map (way_to to) (ways code q)
   pub follows_outside : (q : ℕ) → (q < p) ⊎ (p + length window ≤ q) → (k : ℕ) (w : Way) (s : ℕ) → slice_get (ways code q) k ≡ Some w → Follows code q w.leads s → IsOutside p (length window) s
-  pub follows_moved : (q : ℕ) → (q < p) ⊎ (p + length window ≤ q) → (l : Leads) (s : ℕ) → Follows code q l s → Follows new_code (to q) (move_leads to l) (to s)
-  pub follows_back : (q : ℕ) → (q < p) ⊎ (p + length window ≤ q) → (l : Leads) (r : ℕ) → Follows new_code (to q) (move_leads to l) r → (s : ℕ) × Follows code q l s × (r ≡ to s)
+  pub follows_moved : (q : ℕ) → (q < p) ⊎ (p + length window ≤ q) → (l : Leads) (s : ℕ) → Follows code q l s → Follows new_code (to q) (lead_to to l) (to s)
+  pub follows_back : (q : ℕ) → (q < p) ⊎ (p + length window ≤ q) → (l : Leads) (r : ℕ) → Follows new_code (to q) (lead_to to l) r → (s : ℕ) × Follows code q l s × (r ≡ to s)
 
 -- where a window gives way
 pub gives_way : (code : Code) (p : ℕ) (window new : List Instr) → KeepsAt code p window new → GivesWay code (replaced code p (length window) new) (moved p (length window - length new)) p window new

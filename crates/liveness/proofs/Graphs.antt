@@ -9,7 +9,7 @@ use Rattle.thumb_model.specs.Listing.{Code}
 use Rattle.thumb_model.specs.Flow.{Way as ModelWay, Onward, way, ways}
 use Rattle.thumb_model.proofs.Lists.{present_at}
 use Rattle.shrinking_sets.specs.Straight.{reads_first, writes_in}
-use Rattle.shrinking_sets.proofs.Exchange.{old_runs, new_runs, apart_or, point_stays, point_was}
+use Rattle.shrinking_sets.proofs.Exchange.{old_runs, new_runs, apart_or, point_stays, point_was, runs_at}
 use Rattle.padded_code.specs.Spread.{spread}
 use Rattle.code_flow.specs.declared.way.Way.{Way}
 use Rattle.code_flow.specs.declared.way.Ways.{Ways}
@@ -21,7 +21,7 @@ use Rattle.liveness.specs.declared.window.Window.{Window}
 use Rattle.liveness.specs.Clears.{Change, IsChangeBy}
 use Rattle.liveness.specs.Passing.{reads_from, writes_from}
 use Rattle.liveness.specs.Window.{AreAscending, ArePut, GivesWay}
-use Rattle.liveness.proofs.Exchanges.{from_first, one_here, run_at, apart_none, ways_put, callers_same, reads_are, writes_are, spread_end}
+use Rattle.liveness.proofs.Exchanges.{from_first, one_here, apart_none, ways_put, callers_same, reads_are, writes_are, spread_end}
 
 -- one way that goes on is no jump, and leads to no code point but the next place
 abbrev other_if : Bool → ℕ → Option ℕ
@@ -49,8 +49,8 @@ module _ (code new : Code) (ps : List ℕ) (window is : List Instr) (gives : Giv
   same_within q j e l =
       let i = present_at (spread (get_or ps 0 0) ps window) j l in
       let k = present_at (spread (get_or ps 0 0) ps is) j (let n = gives.exchange.as_many in omega arith) in
-      let was = one_on q (way (uses_of i.0) (writes_of i.0) Onward) (ways_at all q) refl (one_here code all graph.ways graph.as_many q i.0 (ap (ways code) e ∙ run_at code (get_or ps 0 0) (spread (get_or ps 0 0) ps window) j i.0 (old_runs code new (get_or ps 0 0) (spread (get_or ps 0 0) ps window) (spread (get_or ps 0 0) ps is) gives.exchange) i.1)) in
-      let now = one_on q (way (uses_of k.0) (writes_of k.0) Onward) (ways_at all' q) refl (one_here new all' new_ways as_many q k.0 (ap (ways new) e ∙ run_at new (get_or ps 0 0) (spread (get_or ps 0 0) ps is) j k.0 (new_runs code new (get_or ps 0 0) (spread (get_or ps 0 0) ps window) (spread (get_or ps 0 0) ps is) gives.exchange) k.1)) in
+      let was = one_on q (way (uses_of i.0) (writes_of i.0) Onward) (ways_at all q) refl (one_here code all graph.ways graph.as_many q i.0 (ap (ways code) e ∙ runs_at code (get_or ps 0 0) (spread (get_or ps 0 0) ps window) j i.0 (old_runs code new (get_or ps 0 0) (spread (get_or ps 0 0) ps window) (spread (get_or ps 0 0) ps is) gives.exchange) i.1)) in
+      let now = one_on q (way (uses_of k.0) (writes_of k.0) Onward) (ways_at all' q) refl (one_here new all' new_ways as_many q k.0 (ap (ways new) e ∙ runs_at new (get_or ps 0 0) (spread (get_or ps 0 0) ps is) j k.0 (new_runs code new (get_or ps 0 0) (spread (get_or ps 0 0) ps window) (spread (get_or ps 0 0) ps is) gives.exchange) k.1)) in
       (now.0 ∙ sym was.0, now.1 ∙ sym was.1)
 
   same : (q : ℕ) → SameAt q

@@ -1,7 +1,7 @@
 -- Jumps to a place, followed back.
 use Rattle.std.proofs.Common.{◌≡◌, ◌≢◌, ℕ, zero, suc, ◌+◌, ◌<◌, ◌≤◌, ◌==◌, Bool, true, false, List, [], ◌∷◌, ◌++◌, length, length-append, take, get_or, Option, Some, None, if◌then◌else◌, refl, sym, ap, ◌∙◌, subst, ◌⊎◌, inl, inr, arith, eq-eqb, eqb-true, ne_eqb}
 use Rattle.std.specs.Prelude.{slice_get, slice_set}
-use Rattle.std.proofs.lemmas.Option.{slice_get_past}
+use Rattle.std.proofs.lemmas.Option.{slice_get_past, same_Some, slice_get_within}
 use Rattle.std.proofs.lemmas.Bool.{cases_eq, cases_lt, or_cases}
 use Rattle.std.proofs.lemmas.List.{length-set}
 use Rattle.thumb_instr.specs.declared.instr.Instr.{Instr}
@@ -21,7 +21,6 @@ use Rattle.liveness.specs.declared.graph.Callers.{Callers}
 use Rattle.code_flow.specs.Points.{marked}
 use Rattle.liveness.specs.Ways.{AreAllWays}
 use Rattle.liveness.specs.Graph.{leads_to, some_leads, some_return, other_than, jump_from, ways_in, ways_at, JumpsTo, IsLast, IsJump, AreCallers, AreReturns}
-use Rattle.liveness.proofs.Moves.{get_within, some_same}
 use Rattle.liveness.proofs.Paths.{or_left, or_right}
 use Rattle.liveness.proofs.Waits.{is_one, one_is}
 use Rattle.common_lemmas.proofs.Lists.{get_front}
@@ -115,7 +114,7 @@ pub target_is : (t u : ℕ) (o : Option ℕ) → Some u ≡ o → Some t ≡ o �
 target_is t u o e f = cc
 
 only_jump : (j i : Jump) → slice_get (j ∷ []) 0 ≡ Some i → j ≡ i
-only_jump j i e = some_same j i e
+only_jump j i e = same_Some j i e
 
 last_more : (all : List (Option Ways)) (jumps more : List Jump) (t n number : ℕ) → IsLast all jumps t n number → IsLast all (jumps ++ more) t n number
 last_more all jumps more t n number l = record {
@@ -147,7 +146,7 @@ pub callers_on : (all : List (Option Ways)) (n : ℕ) (c : Callers) → AreCalle
 callers_on all n c a none = record {
   as_many = a.as_many;
   few = omega (arith, a.few);
-  last = λ t number g. last_on all c.jumps.items t n number (none t (let l = get_within c.last.items t number g in omega (arith, l, a.as_many))) (a.last t number g);
+  last = λ t number g. last_on all c.jumps.items t n number (none t (let l = slice_get_within c.last.items t number g in omega (arith, l, a.as_many))) (a.last t number g);
   jumps = λ k j g. let i = a.jumps k j g in record { below = omega (arith, i.below); before = i.before; earlier = i.earlier };
 }
 
@@ -203,7 +202,7 @@ jump_noted all n target number j c c' a to g here back e f = record {
         earlier = λ t u. last_more all c.jumps.items (j ∷ []) t i.place i.earlier (o.earlier t u);
       }
       | inr l ↦
-          let inside = get_within (c.jumps.items ++ j ∷ []) k i h in
+          let inside = slice_get_within (c.jumps.items ++ j ∷ []) k i h in
           let at : length c.jumps.items ≡ k = omega (arith, l, inside, length-append c.jumps.items (j ∷ [])) in
           let is : j ≡ i = only_jump j i (sym (get_back c.jumps.items (j ∷ []) 0 k (omega (arith, at))) ∙ h) in
           subst (λ y. IsJump all (c.jumps.items ++ j ∷ []) (n + 1) y i) at (subst (λ (y : Jump). IsJump all (c.jumps.items ++ j ∷ []) (n + 1) (length c.jumps.items) y) is new_one)
@@ -237,7 +236,7 @@ jump_told all n c t rest k j ms ms' a g r told kept here = (j.place, (a.jumps k 
       | inl b ↦
           let o = told.1.others q b h in
           let same : k ≡ o.0 = omega (arith, r, o.2) in
-          let is : j ≡ o.1 = some_same j o.1 (sym g ∙ ap (slice_get c.jumps.items) same ∙ o.3) in
+          let is : j ≡ o.1 = same_Some j o.1 (sym g ∙ ap (slice_get c.jumps.items) same ∙ o.3) in
           let at : q ≡ j.place = omega (arith, l, o.4, ap (λ (y : Jump). y.place) is) in
           ap (marked ms') at ∙ here
     ]

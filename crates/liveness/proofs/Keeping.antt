@@ -12,9 +12,12 @@ use Rattle.thumb_model.proofs.Moved.{IsOutside}
 use Rattle.liveness.specs.declared.flowing.Flow.{Flow}
 use Rattle.liveness.specs.Kept.{FlowOf, AreFlowsFrom}
 use Rattle.liveness.specs.Through.{live_through, read_along, nothing}
-use Rattle.liveness.proofs.Moves.{drop_at, drop_whole, move_leads, move_way, Runs, runs_at}
+use Rattle.shrinking_sets.proofs.Exchange.{Runs, runs_at}
+use Rattle.padded_code.proofs.Padded.{lead_to, way_to}
+use Rattle.liveness.proofs.Moves.{drop_at, drop_whole}
 use Rattle.liveness.proofs.GivesWay.{GivesWay}
-use Rattle.liveness.proofs.FlowLaws.{reader, passer}
+use Rattle.shrinking_sets.proofs.Forward.{reader}
+use Rattle.liveness.proofs.FlowLaws.{passer}
 use Rattle.liveness.proofs.Paths.{or_left, or_right}
 use Rattle.common_lemmas.proofs.Lists.{get_map, map_back}
 use Rattle.shrinking_sets.proofs.Cleared.{passing, passes, only}
@@ -89,20 +92,20 @@ module _ (code new_code : Code) (to : ℕ → ℕ) (p : ℕ) (window new : List 
       elim (or_cases _ _ t) [
         | inl u ↦
             let r = reader (ways code q) x (sym (here.reads x) ∙ u) in
-            now (to q) r.0 (move_way to r.1) (moved_way r.0 r.1 r.2) r.3
+            now (to q) r.0 (way_to to r.1) (moved_way r.0 r.1 r.2) r.3
         | inr u ↦
             let r = passer (ways code q) f.onward (read_along fs x) x here.onward u in
             let next : to (q + 1) ≡ to q + 1 = let b = at.behind q l in let c = at.behind (q + 1) (omega arith) in omega arith in
-            later (to q) r.1 (move_way to r.2) (to (q + 1)) (moved_way r.1 r.2 r.3) r.5
-            (subst (λ (a : Leads). Follows new_code (to q) (move_leads to a) (to (q + 1))) (sym r.4) next)
+            later (to q) r.1 (way_to to r.2) (to (q + 1)) (moved_way r.1 r.2 r.3) r.5
+            (subst (λ (a : Leads). Follows new_code (to q) (lead_to to a) (to (q + 1))) (sym r.4) next)
             (along fs (q + 1) (omega arith) (λ k g e. subst (λ y. FlowOf (ways code y) g) (let z : q + suc k ≡ q + 1 + k = omega arith in z) (h (suc k) g e)) r.0)
       ]
     where
       here : FlowOf (ways code q) f
       here = subst (λ y. FlowOf (ways code y) f) (let z : q + 0 ≡ q = omega arith in z) (h 0 f refl)
 
-      moved_way : (k : ℕ) (w : Way) → slice_get (ways code q) k ≡ Some w → slice_get (ways new_code (to q)) k ≡ Some (move_way to w)
-      moved_way k w e = ap (λ ws. slice_get ws k) (at.ways_moved q (inr l)) ∙ get_map (move_way to) (ways code q) k w e
+      moved_way : (k : ℕ) (w : Way) → slice_get (ways code q) k ≡ Some w → slice_get (ways new_code (to q)) k ≡ Some (way_to to w)
+      moved_way k w e = ap (λ ws. slice_get ws k) (at.ways_moved q (inr l)) ∙ get_map (way_to to) (ways code q) k w e
 
   -- ---- from the old listing to the new ----
 
@@ -141,7 +144,7 @@ module _ (code new_code : Code) (to : ℕ → ℕ) (p : ℕ) (window new : List 
 
     reads_stay : (q : ℕ) → Reads code x q → Stays q
     reads_stay _ (now q k w e t) = (
-      λ a. now (to q) k (move_way to w) (ap (λ ws. slice_get ws k) (at.ways_moved q a) ∙ get_map (move_way to) (ways code q) k w e) t,
+      λ a. now (to q) k (way_to to w) (ap (λ ws. slice_get ws k) (at.ways_moved q a) ∙ get_map (way_to to) (ways code q) k w e) t,
       λ j f l.
           let i = drop_at window j l in
           let one : way (uses_of i.0) (writes_of i.0) Onward ≡ w = only (ways code q) _ k w (ap (ways code) f ∙ runs_at code p window j i.0 at.window_runs i.1) e in
@@ -149,7 +152,7 @@ module _ (code new_code : Code) (to : ℕ → ℕ) (p : ℕ) (window new : List 
     )
     reads_stay _ (later q k w s e n f t) = (
       λ a.
-          later (to q) k (move_way to w) (to s) (ap (λ ws. slice_get ws k) (at.ways_moved q a) ∙ get_map (move_way to) (ways code q) k w e) n
+          later (to q) k (way_to to w) (to s) (ap (λ ws. slice_get ws k) (at.ways_moved q a) ∙ get_map (way_to to) (ways code q) k w e) n
           (at.follows_moved q a w.leads s f)
           (arrive s (at.follows_outside q a k w s e f) t (reads_stay s t)),
       λ j g l.
@@ -214,8 +217,8 @@ module _ (code new_code : Code) (to : ℕ → ℕ) (p : ℕ) (window new : List 
           | inr m ↦ at_end r j e (omega arith) w
         ]
 
-    old_way : (r q k : ℕ) (w : Way) → Apart q → r ≡ to q → slice_get (ways new_code r) k ≡ Some w → (v : Way) × (slice_get (ways code q) k ≡ Some v) × (w ≡ move_way to v)
-    old_way r q k w a e g = map_back (move_way to) (ways code q) k w (ap (λ ws. slice_get ws k) (sym (ap (ways new_code) e ∙ at.ways_moved q a)) ∙ g)
+    old_way : (r q k : ℕ) (w : Way) → Apart q → r ≡ to q → slice_get (ways new_code r) k ≡ Some w → (v : Way) × (slice_get (ways code q) k ≡ Some v) × (w ≡ way_to to v)
+    old_way r q k w a e g = map_back (way_to to) (ways code q) k w (ap (λ ws. slice_get ws k) (sym (ap (ways new_code) e ∙ at.ways_moved q a)) ∙ g)
 
     new_way : (r j k : ℕ) (w : Way) → r ≡ p + j → (i : Instr) → slice_get new j ≡ Some i → slice_get (ways new_code r) k ≡ Some w → way (uses_of i) (writes_of i) Onward ≡ w
     new_way r j k w e i g h = only (ways new_code r) _ k w (ap (ways new_code) e ∙ runs_at new_code p new j i at.new_runs g) h
@@ -234,7 +237,7 @@ module _ (code new_code : Code) (to : ℕ → ℕ) (p : ℕ) (window new : List 
         let was = reads_back s t in
         let out : (q : ℕ) → Apart q → r ≡ to q → Reads code x q = λ q a g.
         let v = old_way r q k w a g e in
-        let b = at.follows_back q a v.0.leads s (subst (λ y. Follows new_code y (move_leads to v.0.leads) s) g (subst (λ (u : Way). Follows new_code r u.leads s) v.2 f)) in
+        let b = at.follows_back q a v.0.leads s (subst (λ y. Follows new_code y (lead_to to v.0.leads) s) g (subst (λ (u : Way). Follows new_code r u.leads s) v.2 f)) in
         later q k v.0 b.0 v.1 (ap (λ (u : Way). one_of x u.writes) (sym v.2) ∙ n) b.1 (back_at s b.0 b.2 (at.follows_outside q a k v.0 b.0 v.1 b.1) was) in (
           out,
           inside r out (λ j g l.

@@ -16,7 +16,9 @@ use Rattle.liveness.specs.declared.kept.NewSets.{NewSets}
 use Rattle.liveness.specs.Live.{Sets, word_of, set_at, IsLive}
 use Rattle.liveness.specs.Kept.{AreFlowsFrom, replaced_sets}
 use Rattle.liveness.specs.Through.{live_through, IsReadStill, AreThrough}
-use Rattle.liveness.proofs.Moves.{drop_at, move_way, runs_at}
+use Rattle.shrinking_sets.proofs.Exchange.{runs_at}
+use Rattle.padded_code.proofs.Padded.{way_to}
+use Rattle.liveness.proofs.Moves.{drop_at}
 use Rattle.liveness.proofs.GivesWay.{GivesWay}
 use Rattle.liveness.proofs.Keeping.{still_read, enters, read_before, read_within, within_read}
 use Rattle.liveness.proofs.Paths.{has_zero}
@@ -222,9 +224,9 @@ module _ (code new_code : Code) (to : ℕ → ℕ) (p : ℕ) (window new : List 
   after_forth : (x q : ℕ) → Apart q → LiveAfter code q x → LiveAfter new_code (to q) x
   after_forth x q a v = (
     v.0,
-    move_way to v.1,
+    way_to to v.1,
     to v.2,
-    ap (λ ws. slice_get ws v.0) (at.ways_moved q a) ∙ get_map (move_way to) (ways code q) v.0 v.1 v.3,
+    ap (λ ws. slice_get ws v.0) (at.ways_moved q a) ∙ get_map (way_to to) (ways code q) v.0 v.1 v.3,
     at.follows_moved q a v.1.leads v.2 v.4,
     forth x v.2 (at.follows_outside q a v.0 v.1 v.2 v.3 v.4) v.5,
   )
@@ -271,7 +273,7 @@ module _ (code new_code : Code) (to : ℕ → ℕ) (p : ℕ) (window new : List 
 
     after_back : (x q : ℕ) → Apart q → LiveAfter new_code (to q) x → LiveAfter code q x
     after_back x q a v =
-        let w = map_back (move_way to) (ways code q) v.0 v.1 (ap (λ ws. slice_get ws v.0) (sym (at.ways_moved q a)) ∙ v.3) in
+        let w = map_back (way_to to) (ways code q) v.0 v.1 (ap (λ ws. slice_get ws v.0) (sym (at.ways_moved q a)) ∙ v.3) in
         let s = at.follows_back q a w.0.leads v.2 (subst (λ (u : Way). Follows new_code (to q) u.leads v.2) w.2 v.4) in
         (v.0, w.0, s.0, w.1, s.1, back x s.0 (at.follows_outside q a v.0 w.0 s.0 w.1 s.1) (subst (Reads new_code x) s.2 v.5))
 

@@ -4,20 +4,21 @@ use Rattle.std.specs.Prelude.{slice_get}
 use Rattle.std.specs.Option.{option_map}
 use Rattle.std.specs.List.{list_all}
 use Rattle.std.proofs.lemmas.Bool.{cases_eq, or_right}
+use Rattle.std.proofs.lemmas.Option.{same_Some, slice_get_within}
 use Rattle.thumb_instr.specs.declared.instr.Instr.{Instr}
-use Rattle.thumb_instr.specs.declared.instr.Instr.TheVariants as instr
-use Rattle.thumb_instr.specs.Items.{has, sp}
-use Rattle.thumb_instr.specs.Shape.{uses_of, writes_of, registers_in}
 use Rattle.thumb_instr.specs.Window.{is_in_window}
 use Rattle.thumb_model.specs.Effect.{one_of}
-use Rattle.thumb_model.specs.Listing.{Mention, Place, Op, Word, plain, Label, Code, is_op_place, is_code, is_call, is_call_instr, label_places, return_places, IsPoint}
+use Rattle.thumb_model.specs.Listing.{Mention, Place, Op, Word, plain, Label, Code, is_op_place, is_code, is_call, label_places, return_places, IsPoint}
 use Rattle.thumb_model.specs.Naming.{Naming, points_of, returns_from, points}
 use Rattle.thumb_model.specs.Steps.{aim_of}
-use Rattle.thumb_model.specs.Flow.{Way, Leads, Onward, ToPlace, AnyPoint, Out, way, left_but, ways_of, ways_on, ways, Follows}
+use Rattle.thumb_model.specs.Flow.{Way, Leads, Onward, ToPlace, AnyPoint, Out, ways_of, ways_on, ways, Follows}
 use Rattle.thumb_model.specs.Replaced.{moved, replaced}
 use Rattle.thumb_model.proofs.Lists.{get_drop, get_take, length_map, take_short, length_drop}
 use Rattle.thumb_model.proofs.Moved.{IsReplacement, IsOutside, AreNoCalls, fetch_window, fetch_outside, place_moved, points_moved, return_outside, one_of_append}
 use Rattle.thumb_model.proofs.Points.{IsLabelsPlace, label_of_name, label_of_place}
+use Rattle.shrinking_sets.proofs.Enters.{IsAimed, are_aimed, aimed_at}
+use Rattle.shrinking_sets.proofs.Exchange.{Runs}
+use Rattle.padded_code.proofs.Padded.{lead_to, way_to, ways_of_to}
 use Rattle.liveness.specs.Kept.{KeepsAt}
 use Rattle.listing_parser.proofs.ReplaceLemmas.{and_first as and_left}
 use Rattle.listing_parser.proofs.ReadingLemmas.{and_second as and_right}
@@ -25,14 +26,6 @@ use Rattle.common_lemmas.proofs.Lists.{get_map}
 use Rattle.rule_model.proofs.Table.{one_way, no_call}
 
 -- ---- lists ----
-
-pub some_same : {A : Type 0} (a b : A) → (let o : Option A = Some a in o) ≡ Some b → a ≡ b
-some_same a b e = cc
-
-pub get_within : {A : Type 0} (xs : List A) (k : ℕ) (x : A) → slice_get xs k ≡ Some x → k < length xs
-get_within [] k x e = absurd (cc)
-get_within (y ∷ xs) zero x e = omega arith
-get_within (y ∷ xs) (suc k) x e = let h = get_within xs k x e in omega arith
 
 -- the element at a place, and those from it on
 pub drop_at : {A : Type 0} (xs : List A) (k : ℕ) → k < length xs → (x : A) × (slice_get xs k ≡ Some x) × (drop k xs ≡ x ∷ drop (k + 1) xs)
@@ -48,76 +41,11 @@ drop_whole [] (suc k) e = refl
 drop_whole (x ∷ xs) zero e = absurd (omega arith)
 drop_whole (x ∷ xs) (suc k) e = drop_whole xs k (omega arith)
 
--- ---- rows ----
-
--- a way whose place moved
-abbrev pub move_leads : (ℕ → ℕ) → Leads → Leads
-move_leads f Onward = Onward
-move_leads f (ToPlace q) = ToPlace (f q)
-move_leads f AnyPoint = AnyPoint
-move_leads f Out = Out
-
-abbrev pub move_way : (ℕ → ℕ) → Way → Way
-move_way f w = way w.reads w.writes (move_leads f w.leads)
-
--- a row: the ways of an instruction whose aim moved
-aim_moves : (f : ℕ → ℕ) (o : Option ℕ) (i : Instr) → ways_of (option_map f o) i ≡ map (move_way f) (ways_of o i)
-aim_moves f o (instr.Pop l) =
-    elim (has l.number 8) as (λ b. (if b then way (sp ∷ []) (sp ∷ registers_in l.number) AnyPoint ∷ way (sp ∷ left_but (registers_in l.number)) (sp ∷ registers_in l.number) Out ∷ [] else way (sp ∷ []) (sp ∷ registers_in l.number) Onward ∷ []) ≡ map (move_way f) (if b then way (sp ∷ []) (sp ∷ registers_in l.number) AnyPoint ∷ way (sp ∷ left_but (registers_in l.number)) (sp ∷ registers_in l.number) Out ∷ [] else way (sp ∷ []) (sp ∷ registers_in l.number) Onward ∷ [])) [
-      | true ↦ refl
-      | false ↦ refl
-    ]
-aim_moves f None (instr.BranchIf c d) = refl
-aim_moves f (Some q) (instr.BranchIf c d) = refl
-aim_moves f None (instr.Branch d) = refl
-aim_moves f (Some q) (instr.Branch d) = refl
-aim_moves f None (instr.Call d) = refl
-aim_moves f (Some q) (instr.Call d) = refl
-aim_moves f o i = refl
-
--- a way that goes to a place goes to what is aimed at
-abbrev IsAimed : Option ℕ → Leads → Type 0
-IsAimed o Onward = Unit {0}
-IsAimed o (ToPlace q) = o ≡ Some q
-IsAimed o AnyPoint = Unit {0}
-IsAimed o Out = Unit {0}
-
-abbrev AreAimed : Option ℕ → List Way → Type 0
-AreAimed o [] = Unit {0}
-AreAimed o (w ∷ ws) = IsAimed o w.leads × AreAimed o ws
-
--- a row: the ways of an instruction
-are_aimed : (o : Option ℕ) (i : Instr) → AreAimed o (ways_of o i)
-are_aimed o (instr.Bx m) = (tt, (tt, tt))
-are_aimed o (instr.Blx m) = (tt, (tt, tt))
-are_aimed o (instr.Pop l) =
-    elim (has l.number 8) as (λ b. AreAimed o (if b then way (sp ∷ []) (sp ∷ registers_in l.number) AnyPoint ∷ way (sp ∷ left_but (registers_in l.number)) (sp ∷ registers_in l.number) Out ∷ [] else way (sp ∷ []) (sp ∷ registers_in l.number) Onward ∷ [])) [
-      | true ↦ (tt, (tt, tt))
-      | false ↦ (tt, tt)
-    ]
-are_aimed None (instr.BranchIf c d) = (tt, (tt, tt))
-are_aimed (Some q) (instr.BranchIf c d) = (refl, (tt, tt))
-are_aimed None (instr.Branch d) = (tt, tt)
-are_aimed (Some q) (instr.Branch d) = (refl, tt)
-are_aimed None (instr.Call d) = (tt, tt)
-are_aimed (Some q) (instr.Call d) = (refl, tt)
-are_aimed o i = (tt, tt)
-
-aimed_at : (o : Option ℕ) (ws : List Way) (k : ℕ) (w : Way) → AreAimed o ws → slice_get ws k ≡ Some w → IsAimed o w.leads
-aimed_at o [] k w a e = absurd (cc)
-aimed_at o (v ∷ ws) zero w a e = subst (λ (u : Way). IsAimed o u.leads) (some_same v w e) a.0
-aimed_at o (v ∷ ws) (suc k) w a e = aimed_at o ws k w a.1 e
-
 -- ---- straight code ----
-
--- each place from q on has the one way of its instruction
-abbrev pub Runs : Code → ℕ → List Instr → Type 0
-Runs code q [] = Unit {0}
-Runs code q (i ∷ is) = (ways code q ≡ way (uses_of i) (writes_of i) Onward ∷ []) × Runs code (q + 1) is
 
 pub letter_at : (is : List Instr) (j : ℕ) (i : Instr) → list_all is_in_window is ≡ true → slice_get is j ≡ Some i → is_in_window i ≡ true
 letter_at [] j i h e = absurd (cc)
-letter_at (k ∷ is) zero i h e = ap is_in_window (sym (some_same k i e)) ∙ and_left _ _ h
+letter_at (k ∷ is) zero i h e = ap is_in_window (sym (same_Some k i e)) ∙ and_left _ _ h
 letter_at (k ∷ is) (suc j) i h e = letter_at is j i (and_right (is_in_window k) _ h) e
 
 pub runs_from : (code : Code) (q : ℕ) (is : List Instr) → list_all is_in_window is ≡ true → ((j : ℕ) (i : Instr) → slice_get is j ≡ Some i → slice_get code.places (q + j) ≡ Some (plain i)) → Runs code q is
@@ -126,11 +54,6 @@ runs_from code q (i ∷ is) h s = (
   ap (ways_on code) (ap (slice_get code.places) (let e : q ≡ q + 0 = omega arith in e) ∙ s 0 i refl) ∙ one_way None i (and_left (is_in_window i) _ h),
   runs_from code (q + 1) is (and_right (is_in_window i) _ h) (λ j k e. ap (slice_get code.places) (let e : q + 1 + j ≡ q + suc j = omega arith in e) ∙ s (suc j) k e),
 )
-
-pub runs_at : (code : Code) (q : ℕ) (is : List Instr) (j : ℕ) (i : Instr) → Runs code q is → slice_get is j ≡ Some i → ways code (q + j) ≡ way (uses_of i) (writes_of i) Onward ∷ []
-runs_at code q [] j i r e = absurd (cc)
-runs_at code q (k ∷ is) zero i r e = ap (ways code) (let f : q + 0 ≡ q = omega arith in f) ∙ r.0 ∙ ap (λ (x : Instr). way (uses_of x) (writes_of x) Onward ∷ []) (some_same k i e)
-runs_at code q (k ∷ is) (suc j) i r e = ap (ways code) (let f : q + suc j ≡ q + 1 + j = omega arith in f) ∙ runs_at code (q + 1) is j i r.1 e
 
 no_calls : (is : List Instr) → list_all is_in_window is ≡ true → AreNoCalls (map plain is)
 no_calls [] h = tt
@@ -142,7 +65,7 @@ module _ (code : Code) (p : ℕ) (window new : List Instr) (at : KeepsAt code p 
   -- the places of the window
   pub stands_at : (j : ℕ) (i : Instr) → slice_get window j ≡ Some i → slice_get code.places (p + j) ≡ Some (plain i)
   stands_at j i e =
-      let l = get_within window j i e in
+      let l = slice_get_within window j i e in
       sym (get_drop p code.places j (p + j) refl) ∙ sym (get_take (length window) (drop p code.places) j l) ∙ ap (λ xs. slice_get xs j) at.stands ∙ get_map plain window j i e
 
   pub is_within : p + length window ≤ length code.places
@@ -178,7 +101,7 @@ module _ (code : Code) (p : ℕ) (window new : List Instr) (at : KeepsAt code p 
   window_runs = runs_from code p window at.letters stands_at
 
   pub new_runs : Runs new_code p new
-  new_runs = runs_from new_code p new at.new_letters (λ j i e. fetch_window code p (length window) new fits_in j (get_within new j i e) ∙ get_map plain new j i e)
+  new_runs = runs_from new_code p new at.new_letters (λ j i e. fetch_window code p (length window) new fits_in j (slice_get_within new j i e) ∙ get_map plain new j i e)
 
   -- apart from the window
   abbrev pub IsApart : ℕ → Type 0
@@ -188,13 +111,13 @@ module _ (code : Code) (p : ℕ) (window new : List Instr) (at : KeepsAt code p 
   aim_moved None = refl
   aim_moved (Some m) = place_moved code p (length window) new fits_in m.name
 
-  on_moved : (o : Option Place) → ways_on new_code o ≡ map (move_way to) (ways_on code o)
+  on_moved : (o : Option Place) → ways_on new_code o ≡ map (way_to to) (ways_on code o)
   on_moved None = refl
   on_moved (Some (Word v)) = refl
-  on_moved (Some (Op i mention)) = ap (λ (a : Option ℕ). ways_of a i) (aim_moved mention) ∙ aim_moves to (aim_of code mention) i
+  on_moved (Some (Op i mention)) = ap (λ (a : Option ℕ). ways_of a i) (aim_moved mention) ∙ ways_of_to to (aim_of code mention) i
 
   -- the ways of a place apart from it
-  pub ways_moved : (q : ℕ) → IsApart q → ways new_code (to q) ≡ map (move_way to) (ways code q)
+  pub ways_moved : (q : ℕ) → IsApart q → ways new_code (to q) ≡ map (way_to to) (ways code q)
   ways_moved q a = ap (ways_on new_code) (fetch_outside code p (length window) new fits_in q (wide a) (ne a)) ∙ on_moved (slice_get code.places q)
     where
       wide : IsApart q → IsOutside p (length window) q
@@ -311,13 +234,13 @@ module _ (code : Code) (p : ℕ) (window new : List Instr) (at : KeepsAt code p 
   next_moved q (inl h) = omega arith
   next_moved q (inr h) = let s = at.shorter in omega arith
 
-  pub follows_moved : (q : ℕ) → IsApart q → (l : Leads) (s : ℕ) → Follows code q l s → Follows new_code (to q) (move_leads to l) (to s)
+  pub follows_moved : (q : ℕ) → IsApart q → (l : Leads) (s : ℕ) → Follows code q l s → Follows new_code (to q) (lead_to to l) (to s)
   follows_moved q a Onward s f = ap to f ∙ next_moved q a
   follows_moved q a (ToPlace t) s f = ap to f
   follows_moved q a AnyPoint s f = point_moved s f
   follows_moved q a Out s f = absurd f
 
-  pub follows_back : (q : ℕ) → IsApart q → (l : Leads) (r : ℕ) → Follows new_code (to q) (move_leads to l) r → (s : ℕ) × Follows code q l s × (r ≡ to s)
+  pub follows_back : (q : ℕ) → IsApart q → (l : Leads) (r : ℕ) → Follows new_code (to q) (lead_to to l) r → (s : ℕ) × Follows code q l s × (r ≡ to s)
   follows_back q a Onward r f = (q + 1, refl, f ∙ sym (next_moved q a))
   follows_back q a (ToPlace t) r f = (t, refl, f)
   follows_back q a AnyPoint r f = point_back r f

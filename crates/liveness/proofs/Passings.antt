@@ -46,10 +46,6 @@ two_ways false true w false v = refl
 two_ways false false w true v = refl
 two_ways false false w false v = refl
 
-pub no_ways : (i : Bool) → false ≡ (i && false)
-no_ways true = refl
-no_ways false = refl
-
 -- ---- the ways of a place ----
 
 -- a place of the code has ways by the list

@@ -1,18 +1,10 @@
 -- Lists of which a part gives way to others.
 use Rattle.std.proofs.Common.{◌≡◌, ℕ, zero, suc, ◌+◌, ◌-◌, ◌<◌, ◌≤◌, List, [], ◌∷◌, ◌++◌, length, length-append, append-nil, append_assoc, take, drop, map, Some, refl, sym, ap, ◌∙◌, arith}
 use Rattle.std.specs.Prelude.{slice_get, slice_set}
+use Rattle.std.proofs.lemmas.Option.{same_Some, slice_get_within}
+use Rattle.std.proofs.lemmas.List.{drop-drop}
 use Rattle.thumb_model.proofs.Lists.{drop_back, length_drop, length_map, take_all, take_back}
-use Rattle.liveness.proofs.Moves.{drop_at, get_within, some_same}
-
-drop_none : {A : Type 0} (n : ℕ) → drop n (let xs : List A = [] in xs) ≡ []
-drop_none zero = refl
-drop_none (suc n) = refl
-
-drop_more : {A : Type 0} (n m j : ℕ) (xs : List A) → j ≡ n + m → drop m (drop n xs) ≡ drop j xs
-drop_more zero m j xs e = ap (λ k. drop k xs) (let f : m ≡ j = omega arith in f)
-drop_more (suc n) m j [] e = drop_none m ∙ sym (drop_none j)
-drop_more (suc n) m zero (x ∷ xs) e = absurd (omega arith)
-drop_more (suc n) m (suc j) (x ∷ xs) e = drop_more n m j xs (omega arith)
+use Rattle.liveness.proofs.Moves.{drop_at}
 
 take_front : {A : Type 0} (xs ys : List A) (n : ℕ) → n ≡ length xs → take n (xs ++ ys) ≡ xs
 take_front xs ys n e = take_back xs ys n 0 (omega arith) ∙ append-nil xs
@@ -24,7 +16,7 @@ pub left_one : {A : Type 0} (p k : ℕ) (xs : List A) → p + k < length xs → 
 left_one p k xs h =
     let f = take_all p xs (omega arith) in
     ap (λ ys. ys ++ drop (p + 1) (take p xs ++ drop (p + k) xs)) (take_front (take p xs) (drop (p + k) xs) p (sym f))
-    ∙ ap (λ ys. take p xs ++ ys) (drop_back (take p xs) (drop (p + k) xs) (p + 1) 1 (omega arith) ∙ drop_more (p + k) 1 (p + (k + 1)) xs (omega arith))
+    ∙ ap (λ ys. take p xs ++ ys) (drop_back (take p xs) (drop (p + k) xs) (p + 1) 1 (omega arith) ∙ drop-drop 1 (p + k) xs ∙ ap (λ n. drop n xs) (let e : p + k + 1 ≡ p + (k + 1) = omega arith in e))
 
 pub length_left : {A : Type 0} (p k : ℕ) (xs : List A) → p + k ≤ length xs → length (take p xs ++ drop (p + k) xs) + k ≡ length xs
 length_left p k xs h =
@@ -42,14 +34,14 @@ set_back (x ∷ xs) ys i (suc j) v e = ap (λ zs. x ∷ zs) (set_back xs ys i j 
 
 one_more : {A B : Type 0} (f : A → B) (xs : List A) (k : ℕ) (x : A) (rest : List B) → slice_get xs k ≡ Some x → map f (take k xs) ++ (f x ∷ rest) ≡ map f (take (k + 1) xs) ++ rest
 one_more f [] k x rest e = absurd (cc)
-one_more f (y ∷ xs) zero x rest e = ap (λ z. f z ∷ rest) (sym (some_same y x e))
+one_more f (y ∷ xs) zero x rest e = ap (λ z. f z ∷ rest) (sym (same_Some y x e))
 one_more f (y ∷ xs) (suc k) x rest e = ap (λ zs. f y ∷ zs) (one_more f xs k x rest e) ∙ ap (λ m. map f (take m (y ∷ xs)) ++ rest) (let g : suc (k + 1) ≡ suc k + 1 = omega arith in g)
 
 -- one more
 pub put_one : {A B : Type 0} (f : A → B) (p k : ℕ) (old : List B) (new : List A) (n : A) → p + k < length old → slice_get new k ≡ Some n
     → slice_set (take p old ++ (map f (take k new) ++ drop (p + k) old)) (p + k) (f n) ≡ take p old ++ (map f (take (k + 1) new) ++ drop (p + (k + 1)) old)
 put_one f p k old new n h e =
-    let w = get_within new k n e in
+    let w = slice_get_within new k n e in
     let front = take_all p old (omega arith) in
     let many = take_all k new (omega arith) in
     let as_many = length_map f (take k new) in
@@ -93,6 +85,6 @@ put_left f p count old new all e h l =
     ∙ ap (λ xs. (take p old ++ map f new) ++ xs) (
     drop_back (take p old) (map f new ++ rest) (p + length new + (count - length new)) count (omega arith)
     ∙ drop_back (map f new) rest count (count - length new) (omega arith)
-    ∙ drop_more (p + length new) (count - length new) (p + count) old (omega arith)
+    ∙ drop-drop (count - length new) (p + length new) old ∙ ap (λ n. drop n old) (let g : p + length new + (count - length new) ≡ p + count = omega arith in g)
     )
     ∙ append_assoc (take p old) (map f new) (drop (p + count) old)

@@ -1,6 +1,7 @@
 -- How sets settle, and in how many visits.
 use Rattle.std.proofs.Common.{◌≡◌, ◌≢◌, ℕ, zero, suc, replicate, ◌+◌, ◌-◌, ◌*◌, ◌^◌, ◌<◌, ◌≤◌, min, Bool, true, false, List, [], ◌∷◌, length, mul-le-mul_right, Option, Some, refl, sym, ap, ◌∙◌, ◌⊎◌, inl, inr, arith}
 use Rattle.std.specs.Prelude.{slice_get}
+use Rattle.std.proofs.lemmas.Option.{slice_get_within}
 use Rattle.thumb_instr.specs.declared.items.Items.{Items}
 use Rattle.thumb_instr.specs.Items.{one_of, has}
 use Rattle.thumb_model.specs.Listing.{Code}
@@ -15,7 +16,6 @@ use Rattle.liveness.specs.Graph.{some_leads, some_return, ways_at, IsGraph}
 use Rattle.liveness.specs.declared.graph.Graph.{Graph}
 use Rattle.liveness.specs.Waiting.{left, AreWaiting, WaitMore, IsTaken}
 use Rattle.liveness.specs.Settling.{IsSettling}
-use Rattle.liveness.proofs.Moves.{get_within}
 use Rattle.liveness.proofs.Weights.{total_bound}
 use Rattle.liveness.proofs.Paths.{has_zero}
 use Rattle.liveness.proofs.Visits.{visit_sound, visit_keeps}
@@ -45,7 +45,7 @@ begun code all f w before after sound waiting many marks = record {
   sound = sound;
   waiting = waiting;
   as_many = many;
-  closed = λ q ws at off none. absurd (let t = marks q (get_within all q ws at) in cc);
+  closed = λ q ws at off none. absurd (let t = marks q (slice_get_within all q ws at) in cc);
 }
 
 -- a place that waits no more is pending

@@ -8,7 +8,8 @@ use Rattle.thumb_instr.specs.Items.{one_of}
 use Rattle.thumb_instr.proofs.Listed.{one_of_append}
 use Rattle.kept_places.specs.Marks.{marked}
 use Rattle.kept_places.proofs.Ranks.{marked_within, marked_set, marked_other, unmarked}
-use Rattle.liveness.specs.Stacked.{AreDistinct, count_marked, AreStacked}
+use Rattle.liveness.specs.Marked.{count_marked}
+use Rattle.liveness.specs.Stacked.{AreDistinct, AreStacked}
 use Rattle.liveness.specs.declared.stack.PlaceStack.TheInside.{Inside}
 use Rattle.word_bits.proofs.Words.{from_bool-le}
 use Rattle.common_lemmas.proofs.Booleans.{or_false}

@@ -1,12 +1,12 @@
 -- What is read through straight code, and its sets.
-use Rattle.std.proofs.Common.{◌≡◌, ℕ, zero, suc, ◌+◌, ◌-◌, ◌≤◌, ◌&&◌, ◌||◌, not, Bool, true, false, List, [], ◌∷◌, ◌++◌, length, take, drop, Option, Some, None, refl, sym, ap, ◌∙◌, inl, inr, arith}
+use Rattle.std.proofs.Common.{◌≡◌, ℕ, zero, suc, ◌+◌, ◌-◌, ◌&&◌, ◌||◌, not, Bool, true, false, List, [], ◌∷◌, ◌++◌, length, drop, Option, Some, None, refl, sym, ap, ◌∙◌, inl, inr, arith}
 use Rattle.std.specs.Prelude.{slice_get}
 use Rattle.std.proofs.lemmas.Bool.{cases_lt}
 use Rattle.thumb_instr.specs.declared.instr.Instr.{Instr}
 use Rattle.thumb_instr.specs.declared.items.Items.{Items}
 use Rattle.thumb_instr.specs.Items.{one_of, has}
 use Rattle.thumb_instr.specs.Shape.{uses_of, writes_of}
-use Rattle.thumb_model.proofs.Lists.{get_back, length_drop}
+use Rattle.thumb_model.proofs.Lists.{get_back}
 use Rattle.liveness.specs.declared.kept.NewSets.{NewSets}
 use Rattle.liveness.specs.Through.{live_through, nothing, AreThrough}
 use Rattle.liveness.proofs.Paths.{has_zero}
@@ -29,16 +29,6 @@ is_within a b left e none x h = held (has a x) (has b x) (sym (e x) ∙ ap (λ w
 -- what straight code doesn't read isn't live before it where nothing is after it
 pub not_read : (is : List Instr) (m was : ℕ) → ((x : ℕ) → has m x ≡ false) → ((x : ℕ) → has was x ≡ live_through is (λ y. has m y) x) → (x : ℕ) → live_through is nothing x ≡ false → has was x ≡ false
 not_read is m was em ew x h = ew x ∙ same_after is x (λ y. has m y) nothing (em x) ∙ h
-
--- a slice to the end
-pub to_the_end : {A : Type 0} (xs : List A) (k : ℕ) → take (length xs - k) (drop k xs) ≡ drop k xs
-to_the_end xs k = whole (length xs - k) (drop k xs) (omega (arith, length_drop k xs))
-  where
-    whole : {A : Type 0} (n : ℕ) (xs : List A) → length xs ≤ n → take n xs ≡ xs
-    whole zero [] h = refl
-    whole (suc n) [] h = refl
-    whole zero (x ∷ xs) h = absurd (omega arith)
-    whole (suc n) (x ∷ xs) h = ap (λ ys. x ∷ ys) (whole n xs (omega arith))
 
 -- the sets of one instruction more
 pub push_through : (new : List Instr) (after : Items) (sets more : List NewSets) (n : NewSets) (k : ℕ) → AreThrough new after sets → length sets ≡ k → more ≡ sets ++ n ∷ []

@@ -8,9 +8,11 @@ use Rattle.thumb_instr.specs.Items.{one_of}
 use Rattle.thumb_instr.proofs.Listed.{one_of_append}
 use Rattle.liveness.specs.declared.waiting.Waiting.{Waiting}
 use Rattle.code_flow.specs.Points.{marked}
-use Rattle.liveness.specs.Waiting.{count_marked, left, AreWaiting, WaitMore, IsTaken}
+use Rattle.liveness.specs.Marked.{count_marked}
+use Rattle.liveness.specs.Waiting.{left, AreWaiting, WaitMore, IsTaken}
 use Rattle.code_flow.proofs.Marking.{set_here, set_else}
 use Rattle.liveness.proofs.Paths.{or_left, or_right}
+use Rattle.liveness.proofs.Stacks.{count_bound}
 use Rattle.code_flow.proofs.Reaches.{in_both, marked_within}
 pub use Rattle.code_flow.proofs.Reaches.{is_one, one_is}
 use Rattle.word_bits.proofs.Words.{from_bool-le}
@@ -22,11 +24,6 @@ unfolding count_marked
 count_set [] p b h = absurd (omega arith)
 count_set (m ∷ ms) zero b h = omega arith
 count_set (m ∷ ms) (suc p) b h = let r = count_set ms p b (omega arith) in omega arith
-
-pub count_bound : (ms : List Bool) → count_marked ms ≤ length ms
-unfolding count_marked
-count_bound [] = omega arith
-count_bound (m ∷ ms) = let h = count_bound ms in let b = from_bool-le m in omega arith
 
 count_all : (n : ℕ) → count_marked (replicate n true) ≡ n
 unfolding count_marked

@@ -18,10 +18,6 @@ use Rattle.liveness.specs.Counted.{AreCounted}
 use Rattle.liveness.specs.Walk.{start_at, IsFitWalk, ClearsOn}
 use Rattle.listing_parser.proofs.ReplaceLemmas.{and_first as and_left}
 
-or_cases : (a b : Bool) → (a || b) ≡ true → (b ≡ false) → a ≡ true
-or_cases true b e f = refl
-or_cases false b e f = absurd (cc)
-
 -- ---- a place that is touched ----
 
 module _ (k k' : Walk) (p : ℕ) (s : Items) (before : k'.before ≡ k.before) (was : k'.was.items ≡ slice_set k.was.items p s) (members : (q : ℕ) → one_of q k'.touched.places ≡ (one_of q k.touched.places || (q == p))) (new : one_of p k.touched.places ≡ false) (inside : p < length k.was.items) (at : set_at k.before.sets.items p ≡ s.bits) where

@@ -1,24 +1,19 @@
 -- Flows of places, and the sets of live items across a replacement.
-use Rattle.std.specs.Prelude.{◌≡◌, ℕ, ◌+◌, ◌-◌, ◌<◌, ◌≤◌, ◌||◌, not, Bool, true, false, List, [], ◌∷◌, ◌++◌, length, take, drop, map, Option, Some, None, slice_get, ◌⊎◌}
+use Rattle.std.specs.Prelude.{◌≡◌, ℕ, ◌+◌, ◌-◌, ◌<◌, ◌≤◌, true, List, [], ◌∷◌, ◌++◌, length, take, drop, map, Option, Some, None, slice_get, ◌⊎◌}
 use Rattle.std.specs.List.{list_all}
 use Rattle.thumb_instr.specs.declared.instr.Instr.{Instr}
-use Rattle.thumb_instr.specs.declared.instr.Instr.TheVariants as instr
 use Rattle.thumb_instr.specs.declared.items.Items.{Items}
 use Rattle.thumb_instr.specs.Items.{one_of, has}
 use Rattle.thumb_instr.specs.Window.{is_in_window}
 use Rattle.thumb_model.specs.Listing.{plain, Label, Code, is_code}
 use Rattle.thumb_model.specs.Flow.{Way, Leads, Onward, ToPlace, AnyPoint, Out, ways}
 use Rattle.thumb_model.specs.Replaced.{move_label, replaced}
+use Rattle.shrinking_sets.specs.Marks.{some_reads}
 use Rattle.liveness.specs.declared.flowing.Flow.{Flow}
 use Rattle.liveness.specs.declared.kept.NewSets.{NewSets}
 use Rattle.liveness.specs.Live.{Sets}
 
 -- ---- flows ----
-
--- whether some way reads the item
-abbrev pub some_reads : List Way → ℕ → Bool
-some_reads [] x = false
-some_reads (w ∷ ws) x = one_of x w.reads || some_reads ws x
 
 -- what the way writes that goes straight to the next place, where one does
 abbrev pub if_onward : Leads → List ℕ → Option (List ℕ) → Option (List ℕ)
@@ -46,18 +41,6 @@ pub record FlowOf (ws : List Way) (f : Flow) : Type 0 where
 -- the flows of places from q on
 abbrev pub AreFlowsFrom : Code → ℕ → List Flow → Type 0
 AreFlowsFrom code q fs = (k : ℕ) (f : Flow) → slice_get fs k ≡ Some f → FlowOf (ways code (q + k)) f
-
--- ---- straight code ----
-
--- whether an instruction's one way goes to the next place, and comes back from nowhere
-abbrev pub is_straight : Instr → Bool
-is_straight (instr.Bx m) = false
-is_straight (instr.Blx m) = false
-is_straight (instr.Pop l) = not (has l.number 8)
-is_straight (instr.BranchIf c d) = false
-is_straight (instr.Branch d) = false
-is_straight (instr.Call d) = false
-is_straight i = true
 
 -- ---- a replacement ----
 

@@ -7,6 +7,7 @@ pub mod Grows
 pub mod Kept
 pub mod KeptLive
 pub mod Live
+pub mod Marked
 pub mod Parts
 pub mod Passes
 pub mod Passing

@@ -1,19 +1,14 @@
 -- What is kept of places that wait.
-use Rattle.std.specs.Prelude.{◌≡◌, ℕ, ◌+◌, ◌≤◌, Bool, false, List, [], ◌∷◌, length, vec_capacity}
-use Rattle.std.specs.Int.{from_bool}
+use Rattle.std.specs.Prelude.{◌≡◌, ℕ, ◌≤◌, false, List, [], ◌∷◌, length, vec_capacity}
 use Rattle.kept_places.specs.Marks.{marked}
 use Rattle.thumb_instr.specs.Items.{one_of}
+use Rattle.liveness.specs.Marked.{count_marked}
 use Rattle.liveness.specs.declared.stack.PlaceStack.TheInside.{Inside}
 
 -- no place is there twice
 abbrev pub AreDistinct : List ℕ → Type 0
 AreDistinct [] = Unit {0}
 AreDistinct (p ∷ ps) = (one_of p ps ≡ false) × AreDistinct ps
-
--- how many places are marked
-unfoldable pub count_marked : List Bool → ℕ
-count_marked [] = 0
-count_marked (m ∷ ms) = from_bool m + count_marked ms
 
 pub record AreStacked (s : Inside) : Type 0 where
   pub room : length s.marks.items ≤ vec_capacity s.places

@@ -1,14 +1,9 @@
 -- The places that wait for a visit.
-use Rattle.std.specs.Prelude.{◌≡◌, ◌≢◌, ℕ, ◌+◌, ◌<◌, ◌≤◌, Bool, true, List, [], ◌∷◌, length, ◌⊎◌}
-use Rattle.std.specs.Int.{from_bool}
+use Rattle.std.specs.Prelude.{◌≡◌, ◌≢◌, ℕ, ◌+◌, ◌<◌, ◌≤◌, true, length, ◌⊎◌}
 use Rattle.thumb_instr.specs.Items.{one_of}
+use Rattle.liveness.specs.Marked.{count_marked}
 use Rattle.liveness.specs.declared.waiting.Waiting.{Waiting}
 use Rattle.code_flow.specs.Points.{marked}
-
--- how many places are marked
-unfoldable pub count_marked : List Bool → ℕ
-count_marked [] = 0
-count_marked (m ∷ ms) = from_bool m + count_marked ms
 
 -- how many places wait
 abbrev pub left : Waiting → ℕ

@@ -4,7 +4,8 @@ ghost use Rattle.thumb_instr.specs.Items.{has};
 ghost use Rattle.thumb_model.specs.Listing.{code_of, places_of};
 ghost use Rattle.thumb_model.specs.Flow.{ways, ways_of};
 ghost use Rattle.code_flow.specs.Flow.{way_list};
-ghost use Rattle.liveness.specs.Kept.{is_straight, onward_writes, HasThese, FlowOf, AreFlowsFrom};
+ghost use Rattle.shrinking_sets.specs.Straight.{is_straight};
+ghost use Rattle.liveness.specs.Kept.{onward_writes, HasThese, FlowOf, AreFlowsFrom};
 ghost use Rattle.liveness.specs.Through.{uses_among};
 
 use arrayvec::ArrayVec;

@@ -43,7 +43,7 @@ fn jump_from(ways: Option<Ways>, next: u32) -> Option<u32>
 }
 
 /// Whether a way leads to any code point.
-fn is_return(way: Way) -> bool
+pub(crate) fn is_return(way: Way) -> bool
     ensures { result ≡ is_return way.next }
 {
     match way.next {

@@ -2,10 +2,11 @@
 ghost use Rattle.std.specs.Prelude.{◌≡◌, ◌&&◌, not, Bool, ℕ};
 ghost use Rattle.thumb_instr.specs.Items.{has};
 ghost use Rattle.code_flow.specs.Flow.{way_list};
-ghost use Rattle.liveness.specs.Graph.{is_return, leads_to};
+ghost use Rattle.liveness.specs.Graph.{leads_to};
 ghost use Rattle.liveness.specs.Through.{uses_among};
 ghost use Rattle.liveness.specs.Passing.{passes_points, passes_to, writes_among};
 
+use crate::graph::is_return;
 use code_flow::{Next, Way, Ways};
 use thumb_instr::Items;
 
@@ -52,16 +53,6 @@ fn leads_to(place: u32, way: Way) -> bool
 {
     match way.next {
         Next::Place(there) => there == place,
-        _ => false,
-    }
-}
-
-/// Whether a way leads to any code point.
-fn is_return(way: Way) -> bool
-    ensures { result ≡ is_return way.next }
-{
-    match way.next {
-        Next::Points => true,
         _ => false,
     }
 }

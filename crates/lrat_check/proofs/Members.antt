@@ -2,6 +2,7 @@
 use Rattle.std.proofs.Common.{◌≡◌, ℕ, suc, ◌<◌, ◌⊎◌, List, [], ◌∷◌, get_or, refl, sym, ◌∙◌, ap, inl, inr, arith}
 use Rattle.std.specs.Prelude.{AllPairs, Contains}
 use Rattle.std.proofs.lemmas.List.Elements.{Contains-append_right, Contains-append_cases, All-contains}
+pub use Rattle.common_lemmas.proofs.Lists.{none_in}
 
 module _ {X : Type 0} (x : X) (xs : List X) where
   pub head_in : Contains (x ∷ xs) x
@@ -21,9 +22,6 @@ module _ {X : Type 0} (x : X) (xs : List X) where
 
   pub rest_of_pairs : (R : X → X → Type 0) → AllPairs R (x ∷ xs) → AllPairs R xs
   rest_of_pairs R h = λ i j d l b. h (suc i) (suc j) d (omega arith) (omega arith)
-
-pub none_in : {X : Type 0} (x : X) → Contains [] x → ⊥
-none_in x c = omega (arith, c.1)
 
 -- lists in one order that have the same elements are the same
 pub same_elements : {X : Type 0} (n : X → ℕ) (xs ys : List X) → AllPairs (λ x y. n x < n y) xs → AllPairs (λ x y. n x < n y) ys → ((z : X) → Contains xs z → Contains ys z) → ((z : X) → Contains ys z → Contains xs z) → xs ≡ ys

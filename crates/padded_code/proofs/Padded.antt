@@ -34,7 +34,8 @@ either : (to : ℕ → ℕ) (b : Bool) (a c : List Way) → a ≡ map (way_to to
 either to true a c e f = e
 either to false a c e f = f
 
-ways_of_to : (to : ℕ → ℕ) (aim : Option ℕ) (i : Instr) → ways_of (option_map to aim) i ≡ map (way_to to) (ways_of aim i)
+-- a row: the ways of an instruction whose aim moves
+pub ways_of_to : (to : ℕ → ℕ) (aim : Option ℕ) (i : Instr) → ways_of (option_map to aim) i ≡ map (way_to to) (ways_of aim i)
 ways_of_to to aim (instr.Pop l) =
     let point : List Way = way (sp ∷ []) (sp ∷ registers_in l.number) AnyPoint ∷ way (sp ∷ left_but (registers_in l.number)) (sp ∷ registers_in l.number) Out ∷ [] in
     let on : List Way = way (sp ∷ []) (sp ∷ registers_in l.number) Onward ∷ [] in
@@ -48,12 +49,12 @@ ways_of_to to (Some p) (instr.Call d) = refl
 ways_of_to to aim i = refl
 
 -- a way of a list that moved is one that moved
-way_back : (to : ℕ → ℕ) (ws : List Way) (k : ℕ) (w : Way) → slice_get (map (way_to to) ws) k ≡ Some w → (v : Way) × (slice_get ws k ≡ Some v) × (way_to to v ≡ w)
+pub way_back : (to : ℕ → ℕ) (ws : List Way) (k : ℕ) (w : Way) → slice_get (map (way_to to) ws) k ≡ Some w → (v : Way) × (slice_get ws k ≡ Some v) × (way_to to v ≡ w)
 way_back to [] k w e = absurd (cc)
 way_back to (v ∷ ws) zero w e = (v, refl, same_Some (way_to to v) w e)
 way_back to (v ∷ ws) (suc k) w e = way_back to ws k w e
 
-way_forth : (to : ℕ → ℕ) (ws : List Way) (k : ℕ) (w : Way) → slice_get ws k ≡ Some w → slice_get (map (way_to to) ws) k ≡ Some (way_to to w)
+pub way_forth : (to : ℕ → ℕ) (ws : List Way) (k : ℕ) (w : Way) → slice_get ws k ≡ Some w → slice_get (map (way_to to) ws) k ≡ Some (way_to to w)
 way_forth to ws k w e = slice_get-map (way_to to) ws k ∙ ap (option_map (way_to to)) e
 
 -- the ways of a nop

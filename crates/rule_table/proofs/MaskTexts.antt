@@ -1,5 +1,5 @@
 -- The items of masks in their texts.
-use Rattle.std.proofs.Common.{◌≡◌, ℕ, zero, suc, ◌<◌, ◌≤◌, ◌==◌, ◌&&◌, ◌||◌, Bool, true, false, List, [], ◌∷◌, ◌++◌, length, map, refl, sym, ◌∙◌, ap, arith, cond, Option, Some, None, inl, inr, eqb-true, eq-eqb, append_assoc, append-nil, leb-true, nat_le}
+use Rattle.std.proofs.Common.{◌≡◌, ℕ, zero, suc, ◌<◌, ◌≤◌, ◌==◌, ◌&&◌, ◌||◌, Bool, true, false, List, [], ◌∷◌, ◌++◌, map, refl, sym, ◌∙◌, ap, arith, cond, Option, Some, None, inl, inr, eqb-true, eq-eqb, append_assoc, append-nil, leb-true, nat_le}
 use Rattle.std.specs.Prelude.{nat_lt}
 use Rattle.std.specs.List.{flat_map, list_all}
 use Rattle.std.specs.Int.{bit_at}
@@ -249,7 +249,3 @@ rows_tests (x ∷ xs) = ap (λ b. nat_lt x.item 19 && b) (rows_tests xs)
 
 pub rows_small : (xs : List MaskItem) → map row_of xs ≡ mask_rows → list_all (λ (r : MaskItem). nat_lt r.item 19) xs ≡ true
 rows_small xs e = rows_tests xs ∙ ap (list_all (λ (r : ℕ × List ℕ). nat_lt r.0 19)) e
-
-pub empty_list : (xs : List ℕ) → (length xs == 0) ≡ true → xs ≡ []
-empty_list [] e = refl
-empty_list (x ∷ xs) e = absurd (omega (arith, eqb-true (length (x ∷ xs)) 0 e))

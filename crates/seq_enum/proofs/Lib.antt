@@ -13,3 +13,4 @@ pub mod CostReading
 pub mod Weighing
 pub mod Counting
 pub mod CheaperSequences
+pub mod Shared

@@ -1,9 +1,10 @@
 -- What lies before each mnemonic of a list.
-use Rattle.std.proofs.Common.{◌≡◌, ℕ, zero, suc, ◌+◌, ◌-◌, ◌<◌, ◌≤◌, List, [], ◌∷◌, ◌++◌, ◌⊎◌, inl, inr, length, take, slice_get, Some, refl, sym, ap, ◌∙◌, arith, length-append, get_or, add-one}
+use Rattle.std.proofs.Common.{◌≡◌, ℕ, zero, suc, ◌+◌, ◌-◌, ◌<◌, ◌≤◌, List, [], ◌∷◌, ◌++◌, ◌⊎◌, inl, inr, length, take, slice_get, Some, sym, ap, ◌∙◌, arith, length-append, get_or, add-one}
 use Rattle.std.proofs.Math.Seq.{take-suc}
 use Rattle.std.proofs.lemmas.List.Concat.{flat_map-append}
 use Rattle.std.proofs.lemmas.Option.{slice_get-get_or, same_Some}
 use Rattle.std.specs.List.{flat_map}
+use Rattle.std.proofs.lemmas.List.{take-append-le}
 use Rattle.seq_enum.specs.Alphabet.{rows, members, alphabet}
 use Rattle.seq_enum.specs.Numberings.{AreStarts}
 use Rattle.thumb_instr.specs.declared.kind.Kind.{Kind}
@@ -16,11 +17,6 @@ pub front_fewer : {X A : Type 0} (f : X → List A) (n : ℕ) (xs : List X) → 
 front_fewer f zero xs = omega arith
 front_fewer f (suc n) [] = omega arith
 front_fewer f (suc n) (x ∷ xs) = omega (arith, front_fewer f n xs, length-append (f x) (flat_map f (take n xs)), length-append (f x) (flat_map f xs))
-
-take_front : {X : Type 0} (i : ℕ) (xs ys : List X) → i ≤ length xs → take i (xs ++ ys) ≡ take i xs
-take_front zero xs ys h = refl
-take_front (suc i) [] ys h = absurd (omega arith)
-take_front (suc i) (x ∷ xs) ys h = ap (λ zs. x ∷ zs) (take_front i xs ys (omega arith))
 
 before_or_last : (i n : ℕ) → i < suc n → (i < n) ⊎ (i ≡ n)
 before_or_last i zero h = inr (omega arith)
@@ -40,11 +36,11 @@ starts_more k pool rows row starts s = record {
     at : (i : ℕ) → (i < length rows) ⊎ (i ≡ length rows) → slice_get (starts ++ last ∷ []) i ≡ Some (length (flat_map (members k pool) (take i (rows ++ row ∷ []))))
     at i (inl h) =
         get_front starts (last ∷ []) i (omega (arith, s.as_many)) ∙ s.each i h
-        ∙ ap (λ (rs : List Kind). Some (length (flat_map (members k pool) rs))) (sym (take_front i rows (row ∷ []) (omega arith)))
+        ∙ ap (λ (rs : List Kind). Some (length (flat_map (members k pool) rs))) (sym (take-append-le i rows (row ∷ []) (omega arith)))
     at i (inr e) =
         get_back starts (last ∷ []) i (omega (arith, s.as_many, e))
         ∙ ap (slice_get (last ∷ [])) (let z : i - length starts ≡ 0 = omega (arith, s.as_many, e) in z)
-        ∙ ap (λ (rs : List Kind). Some (length (flat_map (members k pool) rs))) (sym (ap (λ n. take n (rows ++ row ∷ [])) e ∙ take_front (length rows) rows (row ∷ []) (omega arith) ∙ take_whole rows))
+        ∙ ap (λ (rs : List Kind). Some (length (flat_map (members k pool) rs))) (sym (ap (λ n. take n (rows ++ row ∷ [])) e ∙ take-append-le (length rows) rows (row ∷ []) (omega arith) ∙ take_whole rows))
 
 -- what lies before the next mnemonic, and behind it
 pub starts_next : (k : ℕ) (pool : List ℕ) (rows : List Kind) (row : Kind) (i : ℕ) (starts next : List ℕ) (total count : ℕ) → i < length rows → AreStarts k pool (take i rows) starts

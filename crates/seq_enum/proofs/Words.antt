@@ -98,11 +98,11 @@ IsPlace-empty letters = record {
     at zero e = refl
     at (suc i) e = absurd cc
 
-pub power_small : (size n : ℕ) → size ≤ 1952 → n ≤ 4 → size ^ n ≤ 1952 ^ 4
+pub power_small : (size n : ℕ) → size ≤ 1952 → n ≤ 5 → size ^ n ≤ 1952 ^ 5
 power_small size n h k =
     let pos : 0 < 1952 = omega arith in
     let one : size ^ n ≤ 1952 ^ n = pow-le-pow_left h n in
-    let two : 1952 ^ n ≤ 1952 ^ 4 = pow-le-pow_right pos k in
+    let two : 1952 ^ n ≤ 1952 ^ 5 = pow-le-pow_right pos k in
     omega arith
 
 pub sum_below-more : (f : ℕ → ℕ) (n : ℕ) → sum_below f (n + 1) ≡ sum_below f n + f n

@@ -46,7 +46,7 @@ impl<'a> Numbering<'a> {
         ensures { IsPlace result (sequences self.now.registers self.now.pool.now) seq.now }
     {
         let instrs = seq.as_slice();
-        let before = shorter(self.size, instrs.len() as u32);
+        let before = count_below(self.size, instrs.len() as u32);
         moved(before, self.place_of_word(instrs))
     }
 
@@ -125,13 +125,13 @@ fn moved(before: u64, place: Option<u64>) -> Option<u64>
     Some(before + place?)
 }
 
-/// How many sequences are shorter.
+/// How many sequences have fewer than `count` instructions, where there are so many instructions.
 #[tactic(auto, using(crate::proofs::Words::sums))]
-fn shorter(size: u64, count: u32) -> u64
+pub fn count_below(size: u64, count: u32) -> u64
     requires few { size ≤ 1952 }
-    requires short { count ≤ 5 }
+    requires short { count ≤ 6 }
     ensures value { result ≡ sum_below (λ n. size ^ n) count }
-    ensures small { result ≤ count * 1952 ^ 4 }
+    ensures small { result ≤ count * 1952 ^ 5 }
 {
     let mut total = 0;
     for n in 0..count {

@@ -120,7 +120,7 @@ fn word_of(letters: &[Instr], number: u64) -> Option<(ArrayVec<Instr, 5>, u64)>
 }
 
 /// The letters of a place among the sequences of so many.
-fn letters_at(letters: &[Instr], count: u32, place: u64) -> ArrayVec<Instr, 5>
+pub fn letters_at(letters: &[Instr], count: u32, place: u64) -> ArrayVec<Instr, 5>
     requires some { 0 < length letters.now }
     requires short { count ≤ 5 }
     requires within { place < length letters.now ^ count }

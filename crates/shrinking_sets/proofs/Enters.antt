@@ -40,18 +40,18 @@ behind_call p (x ∷ xs) q e =
 -- ---- aims ----
 
 -- a way that goes to a place goes to what is aimed at
-abbrev IsAimed : Option ℕ → Leads → Type 0
+abbrev pub IsAimed : Option ℕ → Leads → Type 0
 IsAimed o Onward = Unit {0}
 IsAimed o (ToPlace q) = o ≡ Some q
 IsAimed o AnyPoint = Unit {0}
 IsAimed o Out = Unit {0}
 
-abbrev AreAimed : Option ℕ → List Way → Type 0
+abbrev pub AreAimed : Option ℕ → List Way → Type 0
 AreAimed o [] = Unit {0}
 AreAimed o (w ∷ ws) = IsAimed o w.leads × AreAimed o ws
 
 -- a row: the ways of an instruction
-are_aimed : (o : Option ℕ) (i : Instr) → AreAimed o (ways_of o i)
+pub are_aimed : (o : Option ℕ) (i : Instr) → AreAimed o (ways_of o i)
 are_aimed o (instr.Bx m) = (tt, (tt, tt))
 are_aimed o (instr.Blx m) = (tt, (tt, tt))
 are_aimed o (instr.Pop l) =
@@ -67,7 +67,7 @@ are_aimed None (instr.Call d) = (tt, tt)
 are_aimed (Some q) (instr.Call d) = (refl, tt)
 are_aimed o i = (tt, tt)
 
-aimed_at : (o : Option ℕ) (ws : List Way) (k : ℕ) (w : Way) → AreAimed o ws → slice_get ws k ≡ Some w → IsAimed o w.leads
+pub aimed_at : (o : Option ℕ) (ws : List Way) (k : ℕ) (w : Way) → AreAimed o ws → slice_get ws k ≡ Some w → IsAimed o w.leads
 aimed_at o [] k w a e = absurd (cc)
 aimed_at o (v ∷ ws) zero w a e = subst (λ (u : Way). IsAimed o u.leads) (same_Some v w e) a.0
 aimed_at o (v ∷ ws) (suc k) w a e = aimed_at o ws k w a.1 e

@@ -59,6 +59,11 @@ runs_from code q (i ∷ is) h s =
       runs_from code (q + 1) is (and_parts (is_straight i) _ h).1 (λ j k e. let g = s (suc j) k e in (g.0, ap (slice_get code.places) (let e : q + 1 + j ≡ q + suc j = omega arith in e) ∙ g.1)),
     )
 
+pub runs_at : (code : Code) (q : ℕ) (is : List Instr) (j : ℕ) (i : Instr) → Runs code q is → slice_get is j ≡ Some i → ways code (q + j) ≡ way (uses_of i) (writes_of i) Onward ∷ []
+runs_at code q [] j i r e = absurd (cc)
+runs_at code q (h ∷ is) zero i r e = ap (ways code) (let f : q + 0 ≡ q = omega arith in f) ∙ r.0 ∙ ap (λ (y : Instr). way (uses_of y) (writes_of y) Onward ∷ []) (same_Some h i e)
+runs_at code q (h ∷ is) (suc j) i r e = ap (ways code) (let f : q + suc j ≡ q + 1 + j = omega arith in f) ∙ runs_at code (q + 1) is j i r.1 e
+
 -- ---- code points ----
 
 -- whether a call stands there

@@ -9,7 +9,7 @@ use Rattle.thumb_model.specs.Flow.{Way, ways_on, ways, Reads, now, later}
 use Rattle.shrinking_sets.specs.Marks.{some_reads, Passes, IsForward}
 
 -- the way that reads the item
-reader : (ws : List Way) (x : ℕ) → some_reads ws x ≡ true → (k : ℕ) × (w : Way) × (slice_get ws k ≡ Some w) × (one_of x w.reads ≡ true)
+pub reader : (ws : List Way) (x : ℕ) → some_reads ws x ≡ true → (k : ℕ) × (w : Way) × (slice_get ws k ≡ Some w) × (one_of x w.reads ≡ true)
 reader [] x h = absurd (cc)
 reader (w ∷ ws) x h =
     elim (or_cases _ _ h) [

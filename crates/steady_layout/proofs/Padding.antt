@@ -1,13 +1,14 @@
 -- What alignments pad, and which addresses are multiples of 4.
-use Rattle.std.proofs.Common.{◌≡◌, ◌∙◌, inl, inr, ℕ, zero, suc, ◌+◌, ◌-◌, ◌*◌, ◌%◌, ◌/◌, ◌<◌, ◌≤◌, ◌==◌, ◌&&◌, Bool, true, min, sym, ap, arith}
+use Rattle.std.proofs.Common.{◌≡◌, ◌∙◌, inl, inr, ℕ, suc, ◌+◌, ◌-◌, ◌*◌, ◌%◌, ◌/◌, ◌<◌, ◌≤◌, ◌==◌, ◌&&◌, Bool, true, sym, ap, arith}
 use Rattle.std.specs.Prelude.{nat_le, nat_lt}
-use Rattle.std.proofs.lemmas.Bool.{cases_Bool, cases_eq, and_parts, ltb-true, leb-true, eqb-true, le-leb}
+use Rattle.std.proofs.lemmas.Bool.{cases_eq, and_parts, ltb-true, leb-true, eqb-true, le-leb}
 use Rattle.std.proofs.lemmas.Nat.{mod_below, div-add-mod', mod-mul-add, mul-mod_second}
 use Rattle.std.proofs.Math.Nat.{mod-eq_of_lt, suc-mul}
 use Rattle.thumb_instr.specs.declared.instr.Instr.{Instr}
 use Rattle.thumb_instr.specs.declared.instr.Instr.TheVariants as instr
 use Rattle.thumb_model.specs.Listing.{Statement, Instruction, Aligns}
 use Rattle.thumb_model.specs.Layout.{instr_size, padding, size_at}
+use Rattle.label_layout.proofs.Shared.{padding_most}
 use Rattle.steady_layout.specs.Steady.{most_of, aligns_surely, ends_aligned}
 
 -- an instruction takes some bytes: a row
@@ -16,23 +17,6 @@ some_bytes (instr.Call d) = omega arith
 some_bytes i = omega arith
 
 -- ---- padding ----
-
--- what is needed to the next multiple
-abbrev need : ℕ → ℕ → ℕ
-need size at = (size - at % size) % size
-
-no_need : (x : ℕ) → (0 - x) % 0 ≡ 0
-no_need x = ap (λ (y : ℕ). y % 0) (let e : 0 - x ≡ 0 = omega arith in e)
-
-need_small : (size at : ℕ) → need size at ≤ size - 1
-need_small zero at = rw (no_need (at % 0)) (omega arith)
-need_small (suc n) at = let h = mod_below (suc n - at % suc n) (suc n) (omega arith) in omega arith
-
-pub padding_most : (size most at : ℕ) → padding size most at ≤ min most (size - 1)
-padding_most size most at = elim (cases_Bool (nat_le (need size at) most)) [
-  | inl h ↦ rw h (let a = need_small size at in let b = leb-true (need size at) most h in omega arith)
-  | inr h ↦ rw h (omega arith)
-]
 
 pub size_most : (s : Statement) (at : ℕ) → size_at s at ≤ most_of s
 size_most (Aligns size most) at = padding_most size most at

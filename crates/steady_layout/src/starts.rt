@@ -1,10 +1,10 @@
 //! Where lines begin in the widest layout.
-ghost use Rattle.std.specs.Prelude.{◌≡◌, ◌+◌, ◌-◌, ◌*◌, ◌≤◌, ◌^◌, ◌<◌, min, length, nat_le, Some, None, if◌then◌else◌};
+ghost use Rattle.std.specs.Prelude.{◌≡◌, ◌+◌, ◌-◌, ◌≤◌, ◌^◌, ◌<◌, min, length, nat_le, Some, None, if◌then◌else◌};
 ghost use Rattle.label_layout.specs.Addresses.{in_code_region};
 ghost use Rattle.listing_parser.specs.Views.{statement_view};
 ghost use Rattle.steady_layout.specs.Steady.{most_of, aligns_surely as surely_aligns, ends_aligned as stays_aligned, behind};
 
-use label_layout::{CODE_END, instr_size};
+use label_layout::{behind, behind_words, instr_size};
 use listing_parser::Statement;
 
 /// Where a line begins, whichever instructions before it were replaced by runs that are no longer.
@@ -14,30 +14,6 @@ pub struct Start {
     pub at: u32,
     /// Whether its address surely is a multiple of 4.
     pub aligned: bool,
-}
-
-/// The address behind so many bytes, where it lies in the Code region.
-fn further(at: u32, size: u32) -> Option<u32>
-    requires { at ≤ 2 ^ 29 }
-    ensures { result ≡ in_code_region (at + size) }
-{
-    if size <= CODE_END - at {
-        Some(at + size)
-    } else {
-        None
-    }
-}
-
-/// The address behind so many words, where it lies in the Code region.
-fn further_words(at: u32, count: usize) -> Option<u32>
-    requires { at ≤ 2 ^ 29 }
-    ensures { result ≡ in_code_region (at + 4 * count) }
-{
-    if count <= ((CODE_END - at) / 4) as usize {
-        Some(at + 4 * count as u32)
-    } else {
-        None
-    }
 }
 
 /// The most bytes that an alignment pads.
@@ -54,9 +30,9 @@ fn furthest(statement: &Statement, at: u32) -> Option<u32>
 {
     match statement {
         Statement::Nothing | Statement::Sets { .. } => Some(at),
-        Statement::Instruction { instr, .. } => further(at, instr_size(instr)),
-        Statement::Words(values) => further_words(at, values.len()),
-        Statement::Aligns { size, most } => further(at, most_padding(*size, *most)),
+        Statement::Instruction { instr, .. } => behind(at, instr_size(instr)),
+        Statement::Words(values) => behind_words(at, values.len()),
+        Statement::Aligns { size, most } => behind(at, most_padding(*size, *most)),
     }
 }
 

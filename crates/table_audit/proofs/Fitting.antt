@@ -11,7 +11,8 @@ use Rattle.rule_table.specs.Table.{Rule, Table}
 use Rattle.table_audit.specs.Shorter.{named_count, alphabet_registers, IsCanonicalSide, SidesFit}
 use Rattle.table_audit.specs.Canonical.{HasFormula}
 use Rattle.table_audit.specs.Orders.{IsInOrder, AreWithin}
-use Rattle.table_audit.proofs.Numbering.{over_sequences, has_number}
+use Rattle.seq_enum.proofs.Shared.{over_sequences}
+use Rattle.table_audit.proofs.Numbering.{has_number}
 use Rattle.fingerprints.proofs.Letters.{IsLetter, letter}
 
 -- a sequence has a number exactly where each instruction is a letter

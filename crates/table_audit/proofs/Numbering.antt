@@ -1,17 +1,17 @@
 -- The sequences with fewer instructions than some number, among all of an alphabet.
-use Rattle.std.proofs.Common.{◌≡◌, ℕ, zero, suc, ◌+◌, ◌-◌, ◌*◌, ◌^◌, ◌<◌, ◌≤◌, List, [], ◌∷◌, ◌++◌, inl, inr, length, refl, sym, ◌∙◌, ap, arith, subst, Option, Some, None, slice_get, length-append, add-one, zero-add, All, Contains, map, take, get_or}
+use Rattle.std.proofs.Common.{◌≡◌, ℕ, zero, suc, ◌+◌, ◌-◌, ◌*◌, ◌^◌, ◌<◌, ◌≤◌, List, [], ◌∷◌, ◌++◌, inl, inr, length, refl, sym, ◌∙◌, ap, arith, Option, Some, None, slice_get, length-append, add-one, zero-add, All, Contains, map, take, get_or}
 use Rattle.std.specs.List.{flat_map}
 use Rattle.std.specs.Option.{option_map}
 use Rattle.std.proofs.lemmas.List.{take_more, take_all, length-map, length-take-le}
-use Rattle.std.proofs.lemmas.List.Elements.{All-push, All-take}
+use Rattle.std.proofs.lemmas.List.Elements.{All-take}
 use Rattle.std.proofs.lemmas.List.Concat.{flat_map-append}
-use Rattle.std.proofs.lemmas.Option.{slice_get_within, same_Some, slice_get-map, slice_get-get_or, get_or_from_slice_get, slice_get_cases}
+use Rattle.std.proofs.lemmas.Option.{slice_get_within, same_Some, slice_get-map, slice_get-get_or, slice_get_cases}
 use Rattle.std.proofs.lemmas.Bool.Decides.{leb_tells}
 use Rattle.thumb_instr.specs.declared.instr.Instr.{Instr}
 use Rattle.seq_enum.specs.Alphabet.{numbers_from, alphabet, words, sequences, sequences_of, IsOver}
 use Rattle.seq_enum.specs.Places.{sum_below}
-use Rattle.seq_enum.proofs.Numbered.{get_back, flat_map_from, get-flat_map}
-use Rattle.seq_enum.proofs.Words.{length-words, words_parts}
+use Rattle.seq_enum.proofs.Numbered.{get_back, get-flat_map}
+use Rattle.seq_enum.proofs.Words.{length-words}
 use Rattle.fingerprints.proofs.PrintCandidates.{length_within}
 use Rattle.table_audit.specs.Shorter.{sequences_below}
 use Rattle.common_lemmas.proofs.Lists.{get_front}
@@ -71,19 +71,6 @@ pub count_is : (k : ℕ) (pool : List ℕ) (n m size count : ℕ) → size ≡ l
 count_is k pool n m size count e f h = h ∙ ap (λ s. sum_below (λ i. s ^ i) m) e ∙ ap (λ j. sum_below (λ i. length (alphabet k pool) ^ i) j) f ∙ sym (length-sequences_below k pool n)
 
 -- ---- the letters of sequences ----
-
--- each instruction of a numbered sequence is a letter
-over_words : (letters : List Instr) (n i : ℕ) (w : List Instr) → slice_get (words letters n) i ≡ Some w → All (Contains letters) w
-unfolding words
-over_words letters zero zero w e = subst (All (Contains letters)) (same_Some [] w e) (λ k d low. absurd (omega arith))
-over_words letters zero (suc i) w e = absurd cc
-over_words letters (suc n) i w e =
-    words_parts letters n i w e (λ h j v x front at is.
-    subst (All (Contains letters)) (sym is) (All-push (Contains letters) v x (over_words letters n h v front) (j, slice_get_within letters j x at, get_or_from_slice_get letters j x x at)))
-
-pub over_sequences : (k : ℕ) (pool : List ℕ) (q : ℕ) (s : List Instr) → slice_get (sequences k pool) q ≡ Some s → IsOver k pool s
-unfolding sequences_of
-over_sequences k pool q s e = flat_map_from (words (alphabet k pool)) (numbers_from 0 6) q s e (λ m j at. over_words (alphabet k pool) m j s at)
 
 -- a sequence of letters is a word
 words_have : (letters : List Instr) (n : ℕ) (s : List Instr) → length s ≡ n → All (Contains letters) s → (i : ℕ) × (slice_get (words letters n) i ≡ Some s)

@@ -9,7 +9,7 @@ use Rattle.seq_enum.specs.Alphabet.{sequences}
 use Rattle.bit_blast.specs.Exactness.{IsMaskOver}
 use Rattle.rule_table.specs.Header.{Header}
 use Rattle.table_audit.specs.Shorter.{named_count, alphabet_registers, IsCanonicalSide}
-use Rattle.table_audit.proofs.Numbering.{over_sequences}
+use Rattle.seq_enum.proofs.Shared.{over_sequences}
 use Rattle.table_audit.proofs.Fitting.{are_over, ordered_of}
 use Rattle.rule_model.proofs.Table.{over_wider}
 

@@ -10,9 +10,8 @@ ghost use Rattle.table_audit.specs.Acceptance.{lengths_below, WideVerdict};
 
 use crate::errors::AuditError;
 use crate::sides::with_scratch;
-use fingerprints::count_below;
 use rule_table::Table;
-use seq_enum::{Costs, Pool, seq_at, size, weight};
+use seq_enum::{Costs, Pool, count_below, seq_at, size, weight};
 use thumb_instr::Seq;
 
 /// The greatest number of sequences that may have to be told from an entry.

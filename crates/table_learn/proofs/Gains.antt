@@ -1,7 +1,7 @@
 -- One more window, and the table in the end.
 use Rattle.std.proofs.Common.{◌≡◌, ℕ, zero, suc, ◌+◌, ◌-◌, ◌<◌, ◌≤◌, ◌^◌, ◌%◌, ◌/◌, ◌*◌, inl, inr, List, [], ◌∷◌, ◌++◌, Option, Some, None, All, length, map, slice_get, take, get_or, refl, sym, ◌∙◌, ap, subst, arith, zero-add, length-append, true, false, nat_le, leb-true, leb-false}
 use Rattle.std.specs.Prelude.{IfSome, IsSome}
-use Rattle.std.proofs.lemmas.List.{take-append-le, take_all}
+use Rattle.std.proofs.lemmas.List.{take-append-le, take_all, map-append}
 use Rattle.std.proofs.lemmas.List.Elements.{All-nil, All-cons, All-append}
 use Rattle.std.proofs.lemmas.Bool.{cases_lt}
 use Rattle.std.proofs.lemmas.Option.{slice_get_within, slice_get-get_or}
@@ -56,10 +56,6 @@ push_at : {X : Type 0} (xs : List X) (x : X) → slice_get (xs ++ x ∷ []) (len
 push_at [] x = refl
 push_at (y ∷ ys) x = push_at ys x
 
-map-push : {X Y : Type 0} (f : X → Y) (xs : List X) (x : X) → map f (xs ++ x ∷ []) ≡ map f xs ++ f x ∷ []
-map-push f [] x = refl
-map-push f (y ∷ ys) x = ap (λ zs. f y ∷ zs) (map-push f ys x)
-
 -- ---- one more window ----
 
 kept_windows : (s : Settings) (found : List Seen) (rules : List Rule) → map learnt_from (map (without_told s found) rules) ≡ map learnt_from rules
@@ -88,7 +84,7 @@ gain_quiet s windows w states rules e g same fit = record {
   long = g.long;
   begins = g.begins;
   valid = g.valid;
-  matched = map-push learnt_from rules e ∙ ap (λ ws. ws ++ learnt_from e ∷ []) g.matched ∙ ap (λ (v : Window). windows ++ v ∷ []) same;
+  matched = map-append learnt_from rules (e ∷ []) ∙ ap (λ ws. ws ++ learnt_from e ∷ []) g.matched ∙ ap (λ (v : Window). windows ++ v ∷ []) same;
   fits = λ n z at. elim (push_cases rules e n z at) [
     | inl k ↦ g.fits n z k
     | inr k ↦ subst (λ y. IsFit s states states y) k.1 fit
@@ -106,7 +102,7 @@ gain s windows w states more rules e g valid earned same fit = record {
   long = let l : length (states ++ more) ≡ length states + length more = length-append states more in omega (arith, l, g.long);
   begins = take-append-le 64 states more g.long ∙ g.begins;
   valid = All-append IsState states more g.valid valid;
-  matched = kept_windows s more (rules ++ e ∷ []) ∙ map-push learnt_from rules e ∙ ap (λ ws. ws ++ learnt_from e ∷ []) g.matched ∙ ap (λ (v : Window). windows ++ v ∷ []) same;
+  matched = kept_windows s more (rules ++ e ∷ []) ∙ map-append learnt_from rules (e ∷ []) ∙ ap (λ ws. ws ++ learnt_from e ∷ []) g.matched ∙ ap (λ (v : Window). windows ++ v ∷ []) same;
   fits = λ n z at.
       let from = map_at (without_told s more) (rules ++ e ∷ []) n z at in
       subst (λ y. IsFit s (states ++ more) (states ++ more) y) from.2

@@ -17,7 +17,7 @@ use Rattle.rule_table.specs.Views.{opened_of}
 use Rattle.rule_table.specs.Table.{Opened, Rule, numbers_of, IsState}
 use Rattle.table_audit.specs.Shorter.{named_count, alphabet_registers, IsBelow, weight_in, is_named, values_in}
 use Rattle.table_audit.proofs.Below.{below_is}
-use Rattle.table_audit.proofs.Numbering.{over_sequences}
+use Rattle.seq_enum.proofs.Shared.{over_sequences}
 use Rattle.table_audit.proofs.Fitting.{ordered_of}
 use Rattle.table_learn.specs.Learnt.{Settings, Window, TellsFirst, IsSpentSearch, IsProvedBySolver, learnt_from}
 use Rattle.table_learn.specs.Given.{IsWindow}

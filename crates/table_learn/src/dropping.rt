@@ -104,29 +104,6 @@ fn drop_told<L: Ledger>(
     Ok((entry, freed))
 }
 
-/// The entries without the open numbers that one of the states tells, and how many bytes shorter their text is.
-fn drop_each<L: Ledger>(
-    alloc: Global,
-    settings: &Settings,
-    entries: Vec<Entry>,
-    found: &[WState],
-    steps: &mut Steps<L>,
-) -> Result<(Vec<Entry>, u64), AllocError>
-    requires { All IsSided (map rule_of entries.items) }
-    ensures kept { IfOk result (λ r. map rule_of r.0.items ≡ map (without_told (settings_of settings.now) (map seen found.now)) (map rule_of entries.items)) }
-    ensures freed { IfOk result (λ r. rules_length (map rule_of r.0.items) + r.1 ≡ rules_length (map rule_of entries.items)) }
-    ensures cost { OnOk result (steps.new ≤ steps.old + runs_on (length found.now) (map rule_of entries.items)) }
-{
-    let mut kept = Vec::with_capacity(alloc, entries.len())?;
-    let mut freed = 0;
-    for entry in entries {
-        let (entry, less) = drop_told(alloc, settings, entry, found, steps)?;
-        freed = plus(freed, less)?;
-        kept.push(entry)?;
-    }
-    Ok((kept, freed))
-}
-
 /// The entries without the open numbers that one of the found states tells, and how many bytes shorter their text is.
 pub(crate) fn drop_all_told<L: Ledger>(
     alloc: Global,
@@ -143,5 +120,12 @@ pub(crate) fn drop_all_told<L: Ledger>(
     if found.is_empty() {
         return Ok((entries, 0));
     }
-    drop_each(alloc, settings, entries, found, steps)
+    let mut kept = Vec::with_capacity(alloc, entries.len())?;
+    let mut freed = 0;
+    for entry in entries {
+        let (entry, less) = drop_told(alloc, settings, entry, found, steps)?;
+        freed = plus(freed, less)?;
+        kept.push(entry)?;
+    }
+    Ok((kept, freed))
 }

@@ -7,7 +7,6 @@ mod errors;
 mod image;
 pub mod laws;
 mod machine;
-mod naming;
 mod pushing;
 
 pub use assembling::assemble;

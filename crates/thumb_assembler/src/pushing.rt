@@ -9,11 +9,11 @@ ghost use Rattle.thumb_assembler.specs.Pushes.{PushedCode, Pushes, PushesValue, 
 
 use crate::aiming::aimed;
 use crate::errors::Flaw;
-use crate::naming::word_of;
 use label_layout::{Layout, padding};
 use listing_parser::{Listing, Mention, Statement, Value};
 use std::alloc::AllocError;
 use thumb_instr::Instr;
+use thumb_machine::fixed_word;
 use thumb_table::{Code, encode};
 
 /// BF00, the code of `nop`.
@@ -84,7 +84,7 @@ fn push_value(
             push_word(bytes, *number)?;
             Ok(())
         }
-        Value::OfName(Mention { name, plus }) => match word_of(listing, layout, name) {
+        Value::OfName(Mention { name, plus }) => match fixed_word(listing, layout, name) {
             None => Err(Flaw::NoAddress),
             Some(word) => {
                 push_word(bytes, word.wrapping_add(*plus))?;

@@ -9,7 +9,6 @@ use Rattle.std.specs.declared.vec.Vec.{Vec}
 use Rattle.std.proofs.lemmas.Bool.{cases_Bool, or_parts}
 use Rattle.std.proofs.Math.Bool.{or-false, or-true}
 use Rattle.std.proofs.lemmas.List.{take_all}
-use Rattle.std.proofs.lemmas.Slice.Eq.{bytes_eq-Decides}
 use Rattle.indexmap.specs.IndexMap.{insert_entry}
 use Rattle.thumb_model.specs.Listing.{Name, Statement, Sets, ListingLine, Place, code_of, place_of, places_of}
 use Rattle.thumb_model.specs.Layout.{cleared, is_among, label_address, lies_in, or_else, set_address, set_in, size_at}
@@ -19,9 +18,7 @@ use Rattle.label_layout.proofs.Labels.{or_none}
 use Rattle.listing_parser.specs.Targets.{defined_in, set_names}
 use Rattle.thumb_machine.specs.Laid.{firsts, lies_nowhere, outside_word, own_word, nowhere, place_name}
 use Rattle.thumb_machine.specs.Words.{AreFixed, AreOwn, Entries, fixed_by, fixed_word, with_name, word_in}
-
-same_text : (a b : Name) → bytes_eq a b ≡ true → a ≡ b
-same_text a b e = (bytes_eq-Decides a b).0 e
+use Rattle.common_lemmas.proofs.Lists.{same_bytes}
 
 -- ---- tables ----
 
@@ -30,8 +27,8 @@ pub put_in : (q : Name) (es : Entries) (k : Vec ℕ Global) (w : ℕ) → word_i
 put_in q [] k w = refl
 put_in q (x ∷ es) k w = elim (cases_Bool (bytes_eq k.items x.0.items)) [
   | inl same ↦ rw same (elim (cases_Bool (bytes_eq q x.0.items)) [
-    | inl here ↦ rw (here, ap (bytes_eq q) (same_text k.items x.0.items same) ∙ here) refl
-    | inr there ↦ rw (there, ap (bytes_eq q) (same_text k.items x.0.items same) ∙ there) refl
+    | inl here ↦ rw (here, ap (bytes_eq q) (same_bytes k.items x.0.items same) ∙ here) refl
+    | inr there ↦ rw (there, ap (bytes_eq q) (same_bytes k.items x.0.items same) ∙ there) refl
   ])
   | inr other ↦ rw other (elim (cases_Bool (bytes_eq q x.0.items)) [
     | inl here ↦ rw (here, apart q k.items x.0.items here other) refl
@@ -40,7 +37,7 @@ put_in q (x ∷ es) k w = elim (cases_Bool (bytes_eq k.items x.0.items)) [
 ] where
   apart : (q k x : Name) → bytes_eq q x ≡ true → bytes_eq k x ≡ false → bytes_eq q k ≡ false
   apart q k x here other = elim (cases_Bool (bytes_eq q k)) [
-    | inl same ↦ absurd (true≢false (sym here ∙ ap (λ (n : Name). bytes_eq n x) (same_text q k same) ∙ other))
+    | inl same ↦ absurd (true≢false (sym here ∙ ap (λ (n : Name). bytes_eq n x) (same_bytes q k same) ∙ other))
     | inr differs ↦ differs
   ]
 
@@ -56,7 +53,7 @@ pub fixed_more : (base : ℕ) (lines : List ListingLine) (known : List Name) (k 
     → new ≡ insert_entry (λ x y. bytes_eq x.items y.items) old k w → AreFixed base lines known old → AreFixed base lines (known ++ k.items ∷ []) new
 fixed_more base lines known k w old new is put are = record {
   words = λ n. ap (λ (es : Entries). word_in es n) put ∙ put_in n old k w ∙ elim (cases_Bool (bytes_eq n k.items)) [
-    | inl same ↦ rw (same, among_last n k.items known, same, or-true (is_among n known)) (sym (ap (fixed_word base lines) (same_text n k.items same) ∙ is))
+    | inl same ↦ rw (same, among_last n k.items known, same, or-true (is_among n known)) (sym (ap (fixed_word base lines) (same_bytes n k.items same) ∙ is))
     | inr other ↦ rw (other, among_last n k.items known, other, or-false (is_among n known)) (are.words n)
   ];
 }
@@ -67,7 +64,7 @@ fixed_none base lines known k old none are = record {
   words = λ n. are.words n ∙ elim (cases_Bool (bytes_eq n k)) [
     | inl same ↦ rw (among_last n k known, same, or-true (is_among n known)) (elim (cases_Bool (is_among n known)) [
       | inl h ↦ rw h refl
-      | inr h ↦ rw h (sym (ap (fixed_word base lines) (same_text n k same) ∙ none))
+      | inr h ↦ rw h (sym (ap (fixed_word base lines) (same_bytes n k same) ∙ none))
     ])
     | inr other ↦ rw (among_last n k known, other, or-false (is_among n known)) refl
   ];
@@ -140,7 +137,7 @@ pub own_put : (base : ℕ) (lines : List ListingLine) (known : List Name) (k : V
 own_put base lines known k w old new are none is put = record {
   words = λ n. ap (λ (es : Entries). word_in es n) put ∙ put_in n old k w ∙ elim (cases_Bool (bytes_eq n k.items)) [
     | inl same ↦
-        let gone : or_else (fixed_word base lines n) (own_word 0 n known) ≡ None = sym (are.words n) ∙ nothing_there (word_in old n) (ap (λ (m : Name). is_some (word_in old m)) (same_text n k.items same) ∙ none) in
+        let gone : or_else (fixed_word base lines n) (own_word 0 n known) ≡ None = sym (are.words n) ∙ nothing_there (word_in old n) (ap (λ (m : Name). is_some (word_in old m)) (same_bytes n k.items same) ∙ none) in
         let here : (if bytes_eq n k.items then Some w else word_in old n) ≡ Some w = rw same refl in
         let z : 0 + length known ≡ length known = omega arith in
         let mine : (if bytes_eq n k.items then Some ((805306368 + 256 * (0 + length known)) % 2 ^ 32) else None) ≡ Some w =
@@ -225,7 +222,7 @@ known_step base lines known names (Some n) = elim (cases_Bool (is_some (lies_in 
 
   skipped : is_among n known ≡ true → (m : Name) → (not (bytes_eq m n) && is_other known m) ≡ is_other known m
   skipped old m = elim (cases_Bool (bytes_eq m n)) [
-    | inl e ↦ (let known_too : is_among m known ≡ true = ap (λ (k : Name). is_among k known) (same_text m n e) ∙ old in rw (e, known_too) refl)
+    | inl e ↦ (let known_too : is_among m known ≡ true = ap (λ (k : Name). is_among k known) (same_bytes m n e) ∙ old in rw (e, known_too) refl)
     | inr e ↦ rw e refl
   ]
 

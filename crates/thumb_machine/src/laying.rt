@@ -19,8 +19,8 @@ use std::alloc::{AllocError, Global};
 /// The first word of an external name without an address.
 const FIRST_WORD: u64 = 0x3000_0000;
 
-/// The word of a label, or the address set for a name.
-fn fixed_word(listing: &Listing, layout: &Layout, name: &[u8]) -> Option<u32>
+/// The word of a name: a label's address, 1 more where it is code, or the address that the listing sets. The layout is the listing's.
+pub fn fixed_word(listing: &Listing, layout: &Layout, name: &[u8]) -> Option<u32>
     requires { AreAddresses listing.now layout.now }
     ensures { result ≡ fixed_word_of layout.now.base listing.now name.now }
 {

@@ -24,6 +24,7 @@ mod world;
 
 pub use answers::{Answer, Answers, Bytes};
 pub use event::Event;
+pub use laying::fixed_word;
 pub use machine::{Machine, Position, Stage, State, registers_of, stage_of};
 pub use memory::Memory;
 pub use naming::Naming;

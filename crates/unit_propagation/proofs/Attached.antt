@@ -8,9 +8,7 @@ use Rattle.clause_model.specs.Clauses.{negated}
 use Rattle.clause_arena.specs.Contents.{Clause, Content, HasClause, HasLiteral, Watches, IsWhole, references_of, literals_of, literals_in, clause_among, with_clause}
 use Rattle.unit_propagation.specs.Watching.{IsWatched, IsAttached, IsKnown, IsAdded}
 use Rattle.clause_arena.proofs.Copies.{among_earlier, among_new}
-
-pub none_in : (x : ℕ) → Contains [] x → ⊥
-none_in x c = let b : c.0 < 0 = c.1 in absurd (omega arith)
+pub use Rattle.common_lemmas.proofs.Lists.{none_in}
 
 module _ (earlier pushed later : Content) (at : ℕ) (literals : List ℕ) (push : pushed ≡ with_clause earlier record { at = at; literals = literals; is_dropped = false }) (above : All (λ r. r < at) (references_of earlier))
     (clauses : later.clauses ≡ pushed.clauses) (size : length later.chains ≡ length pushed.chains) where

@@ -7,6 +7,7 @@ use Rattle.seq_enum.specs.Alphabet.{numbers_from}
 use Rattle.window_harvest.specs.Harvest.{Pair, Limits, WindowSpan, IsPairAt, ArePairs, none, passed, given, AreFirsts, ended, known, new, spot_of, spots_at, spots, AreAdded}
 use Rattle.window_harvest.specs.Keys.{IsPut}
 use Rattle.std.proofs.lemmas.List.Concat.{flat_map-append}
+use Rattle.std.proofs.lemmas.List.{map-append}
 
 pairs_append : (limits : Limits) (lines : List ListingLine) (ys : List WindowSpan) (b : List Pair) → ArePairs limits lines ys b → (xs : List WindowSpan) (a : List Pair) → ArePairs limits lines xs a → ArePairs limits lines (xs ++ ys) (a ++ b)
 pairs_append limits lines ys b q _ _ none = q
@@ -65,16 +66,12 @@ numbers_one first = refl
 pub numbers_more : (first n : ℕ) → numbers_from first (n + 1) ≡ numbers_from first n ++ (first + n) ∷ []
 numbers_more first n = numbers_split n first 1 ∙ ap (λ l. numbers_from first n ++ l) (numbers_one (first + n))
 
-map_append : {A B : Type 0} (f : A → B) (xs ys : List A) → map f (xs ++ ys) ≡ map f xs ++ map f ys
-map_append f [] ys = refl
-map_append f (x ∷ xs) ys = ap (λ l. f x ∷ l) (map_append f xs ys)
-
 -- the spots of a place, one more
 pub spots_more : (limits : Limits) (lines : List ListingLine) (place n : ℕ) (seen mid next : List Pair) → AreAdded limits lines (map (spot_of place) (numbers_from 1 n)) seen mid → AreAdded limits lines (spot_of place (n + 1) ∷ []) mid next
     → AreAdded limits lines (map (spot_of place) (numbers_from 1 (n + 1))) seen next
 spots_more limits lines place n seen mid next a b =
     let same : map (spot_of place) (numbers_from 1 (n + 1)) ≡ map (spot_of place) (numbers_from 1 n) ++ spot_of place (n + 1) ∷ [] =
-    ap (map (spot_of place)) (numbers_more 1 n) ∙ map_append (spot_of place) (numbers_from 1 n) ((1 + n) ∷ []) ∙ ap (λ m. map (spot_of place) (numbers_from 1 n) ++ spot_of place m ∷ []) (let e : 1 + n ≡ n + 1 = omega arith in e) in
+    ap (map (spot_of place)) (numbers_more 1 n) ∙ map-append (spot_of place) (numbers_from 1 n) ((1 + n) ∷ []) ∙ ap (λ m. map (spot_of place) (numbers_from 1 n) ++ spot_of place m ∷ []) (let e : 1 + n ≡ n + 1 = omega arith in e) in
     subst (λ (l : List WindowSpan). AreAdded limits lines l seen next) (sym same) (added_append limits lines (map (spot_of place) (numbers_from 1 n)) (spot_of place (n + 1) ∷ []) seen mid next a b)
 
 pub spots_none : (limits : Limits) (lines : List ListingLine) (place : ℕ) (seen : List Pair) → AreAdded limits lines (map (spot_of place) (numbers_from 1 0)) seen seen
@@ -94,7 +91,7 @@ pub spots_end : (limits : Limits) (lines : List ListingLine) (place n left : ℕ
     → AreAdded limits lines (map (spot_of place) (numbers_from 1 n)) seen next → AreAdded limits lines (spots_at left place) seen next
 spots_end limits lines place n left seen next h empty a =
     let split : numbers_from 1 left ≡ numbers_from 1 n ++ numbers_from (1 + n) (left - n) = ap (numbers_from 1) (let e : left ≡ n + (left - n) = omega arith in e) ∙ numbers_split n 1 (left - n) in
-    let same : spots_at left place ≡ map (spot_of place) (numbers_from 1 n) ++ map (spot_of place) (numbers_from (1 + n) (left - n)) = ap (map (spot_of place)) split ∙ map_append (spot_of place) (numbers_from 1 n) (numbers_from (1 + n) (left - n)) in
+    let same : spots_at left place ≡ map (spot_of place) (numbers_from 1 n) ++ map (spot_of place) (numbers_from (1 + n) (left - n)) = ap (map (spot_of place)) split ∙ map-append (spot_of place) (numbers_from 1 n) (numbers_from (1 + n) (left - n)) in
     subst (λ (l : List WindowSpan). AreAdded limits lines l seen next) (sym same)
     (added_append limits lines (map (spot_of place) (numbers_from 1 n)) (map (spot_of place) (numbers_from (1 + n) (left - n))) seen next next a
     (all_passed limits lines place next (left - n) (1 + n) (λ m b c. empty m (omega arith) (omega arith))))
@@ -108,6 +105,3 @@ places_more limits lines left place seen mid next a b =
     let same : spots left (place + 1) ≡ spots left place ++ spots_at left place =
     ap (flat_map (spots_at left)) (numbers_more 0 place) ∙ flat_map-append (spots_at left) (numbers_from 0 place) ((0 + place) ∷ []) ∙ ap (λ l. spots left place ++ l) (append-nil (spots_at left (0 + place)) ∙ ap (spots_at left) (let e : 0 + place ≡ place = omega arith in e)) in
     subst (λ (l : List WindowSpan). AreAdded limits lines l seen next) (sym same) (added_append limits lines (spots left place) (spots_at left place) seen mid next a b)
-
-pub pairs_more : {A B : Type 0} (f : A → B) (xs : List A) (x : A) → map f (xs ++ x ∷ []) ≡ map f xs ++ f x ∷ []
-pairs_more f xs x = map_append f xs (x ∷ [])

@@ -1,19 +1,10 @@
 -- Sequences of an alphabet against their numbers.
-use Rattle.std.proofs.Common.{◌≡◌, ℕ, zero, suc, ◌+◌, ◌<◌, ◌≤◌, List, [], ◌∷◌, ◌++◌, length, Some, refl, sym, ap, ◌∙◌, subst, arith, append-nil, append_assoc}
-use Rattle.std.specs.Prelude.{slice_get, map, Contains}
-use Rattle.std.proofs.lemmas.Option.{same_Some}
+use Rattle.std.proofs.Common.{◌≡◌, ℕ, suc, ◌+◌, ◌<◌, ◌≤◌, List, [], ◌∷◌, ◌++◌, length, Some, refl, sym, ap, ◌∙◌, subst, arith, append-nil, append_assoc}
+use Rattle.std.specs.Prelude.{map, Contains}
 use Rattle.thumb_instr.specs.declared.instr.Instr.{Instr}
 use Rattle.seq_enum.specs.Alphabet.{numbers_from, those_within, grid2, grid3, rows, members, alphabet, words, sequences_of, sequences, IsOver}
-use Rattle.seq_enum.proofs.Numbered.{flat_map_from, numbers_at}
-use Rattle.seq_enum.proofs.Words.{words_parts}
-use Rattle.window_harvest.proofs.Lists.{In, contains_in, in_contains, in_map, in_lists, Each, each_all, all_each, each_append}
-
-word_each : (letters : List Instr) (n i : ℕ) (w : List Instr) → slice_get (words letters n) i ≡ Some w → Each (Contains letters) w
-unfolding words
-word_each letters zero zero w e = subst (Each (Contains letters)) (same_Some [] w e) tt
-word_each letters zero (suc i) w e = absurd (cc)
-word_each letters (suc n) i w e = words_parts letters n i w e (λ h j v x front at is.
-    subst (Each (Contains letters)) (sym is) (each_append (Contains letters) v (x ∷ []) (word_each letters n h v front) (in_contains letters x (j, at), tt)))
+use Rattle.seq_enum.proofs.Numbered.{numbers_at}
+use Rattle.window_harvest.proofs.Lists.{In, contains_in, in_map, in_lists, Each, all_each}
 
 one_more : (letters : List Instr) (n : ℕ) (v : List Instr) (x : Instr) → In (words letters n) v → In letters x → In (words letters (suc n)) (v ++ x ∷ [])
 unfolding words
@@ -29,11 +20,6 @@ longer letters n m v (x ∷ xs) e a b =
 first_word : (letters : List Instr) → In (words letters 0) []
 unfolding words
 first_word letters = (0, refl)
-
--- a sequence by its number is over the alphabet
-pub number_over : (k : ℕ) (pool : List ℕ) (i : ℕ) (w : List Instr) → slice_get (sequences k pool) i ≡ Some w → IsOver k pool w
-unfolding sequences_of
-number_over k pool i w e = flat_map_from (words (alphabet k pool)) (numbers_from 0 6) i w e (λ n j at. each_all (Contains (alphabet k pool)) w (word_each (alphabet k pool) n j w at))
 
 -- at most five instructions of the alphabet have a number
 pub over_number : (k : ℕ) (pool : List ℕ) (w : List Instr) → length w ≤ 5 → IsOver k pool w → In (sequences k pool) w

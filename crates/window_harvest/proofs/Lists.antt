@@ -42,18 +42,9 @@ abbrev pub Each : {A : Type 0} → (A → Type 0) → List A → Type 0
 Each P [] = Unit {0}
 Each P (x ∷ xs) = P x × Each P xs
 
-pub each_all : {A : Type 0} (P : A → Type 0) (xs : List A) → Each P xs → All P xs
-each_all P [] e k d h = absurd (omega arith)
-each_all P (x ∷ xs) e zero d h = e.0
-each_all P (x ∷ xs) e (suc k) d h = each_all P xs e.1 k d (omega arith)
-
 pub all_each : {A : Type 0} (P : A → Type 0) (xs : List A) → All P xs → Each P xs
 all_each P [] a = tt
 all_each P (x ∷ xs) a = (a 0 x (omega arith), all_each P xs (λ k d h. a (suc k) d (omega arith)))
-
-pub each_append : {A : Type 0} (P : A → Type 0) (xs ys : List A) → Each P xs → Each P ys → Each P (xs ++ ys)
-each_append P [] ys a b = b
-each_append P (x ∷ xs) ys a b = (a.0, each_append P xs ys a.1 b)
 
 pub in_parts : {A : Type 0} (xs ys : List A) (x : A) → In (xs ++ ys) x → In xs x ⊎ In ys x
 in_parts [] ys x e = inr e

@@ -85,10 +85,6 @@ from_append : (m : ℕ) (xs ys : List Label) → AreFrom m xs → AreFrom m ys �
 from_append m [] ys a b = b
 from_append m (x ∷ xs) ys a b = (a.0, from_append m xs ys a.1 b)
 
-from_parts : (m : ℕ) (xs ys : List Label) → AreFrom m (xs ++ ys) → AreFrom m xs × AreFrom m ys
-from_parts m [] ys a = (tt, a)
-from_parts m (x ∷ xs) ys a = let r = from_parts m xs ys a.1 in ((a.0, r.0), r.1)
-
 at_from : (c m : ℕ) (names : List Name) → m ≤ c → AreFrom m (labels_at c names)
 at_from c m [] h = tt
 at_from c m (n ∷ ns) h = (h, at_from c m ns h)

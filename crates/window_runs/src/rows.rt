@@ -87,7 +87,7 @@ fn stays_joined(statement: &Statement, joined: bool) -> bool
 }
 
 /// An instruction that mentions nothing and may stand in a window.
-fn letter(instr: &Instr, mention: Option<&Mention>) -> Option<Instr>
+pub fn letter(instr: &Instr, mention: Option<&Mention>) -> Option<Instr>
     ensures { result ≡ letter_of instr.now (option_map (λ r. mention_view r.now) mention.entry) }
 {
     match mention {

@@ -1,6 +1,7 @@
 use Rattle.std.proofs.Common.{arith, refl}
+use Rattle.std.proofs.lemmas.List.{nil_from_length}
 use Rattle.thumb_model.specs.Listing.{code_of}
-use Rattle.code_flow.proofs.Reaches.{taken, was_marked, marks_reached, no_items}
+use Rattle.code_flow.proofs.Reaches.{taken, was_marked, marks_reached}
 use Rattle.code_flow.proofs.reaching.reached.Goals as goal
 
 pub follow_all-requires-clause-place : goal.follow_all-requires-clause-place
@@ -10,4 +11,4 @@ pub follow_all-requires-clause-reaching : goal.follow_all-requires-clause-reachi
 follow_all-requires-clause-reaching g c = taken (code_of c.args.listing.now) c.loop-place.reaching _ c.in-Some.place c.in-Some.ensures.items refl c.loop-place.invariant.reaching
 
 pub returns-clause-reached : goal.returns-clause-reached
-returns-clause-reached g c = marks_reached (code_of c.args.listing.now) c.loop-place.reaching c.loop-place.invariant.reaching c.loop-place.invariant.points (no_items c.loop-place.reaching.waiting.items (omega (arith, c.in_default.ensures.cases.0, c.loop-place.reaching.waiting.ok.0)))
+returns-clause-reached g c = marks_reached (code_of c.args.listing.now) c.loop-place.reaching c.loop-place.invariant.reaching c.loop-place.invariant.points (nil_from_length c.loop-place.reaching.waiting.items (omega (arith, c.in_default.ensures.cases.0, c.loop-place.reaching.waiting.ok.0)))

@@ -1,4 +1,4 @@
-use Rattle.std.proofs.Common.{◌≡◌, ◌||◌, ◌&&◌, Bool, List, true, false, sym, ap, ◌∙◌, refl}
+use Rattle.std.proofs.Common.{◌≡◌, ◌||◌, ◌&&◌, List, true, false, sym, ap, ◌∙◌, refl}
 use Rattle.std.proofs.lemmas.Option.{slice_get_read}
 use Rattle.thumb_instr.specs.declared.items.Items.{Items}
 use Rattle.thumb_instr.specs.Items.{has}
@@ -6,11 +6,8 @@ use Rattle.code_flow.specs.Flow.{way_list}
 use Rattle.liveness.specs.Live.{set_at, word_of}
 use Rattle.liveness.specs.Passes.{gained, led}
 use Rattle.liveness.proofs.Visits.{changes}
+use Rattle.common_lemmas.proofs.Booleans.{or_false}
 use Rattle.liveness.proofs.visiting.visit.Goals as goal
-
-or_false : (a : Bool) → a ≡ (a || false)
-or_false true = refl
-or_false false = refl
 
 pub returns-then-is_point-clause-visit : goal.returns-then-is_point-clause-visit
 returns-then-is_point-clause-visit g c =
@@ -26,4 +23,4 @@ returns-else-is_point-clause-visit g c =
     changes _ _ _ _ _ _ c.index-old.result.now _ _ _ c.requires.before c.requires.after at c.if-new-old.false
     (λ x. c.union-new.ensures x ∙ ap (λ b. has c.index-old.result.now.bits x || b) (c.look-seen.ensures.before x ∙ ap (λ (l : List Items). gained (way_list c.args.ways) l c.args.found.now.points.bits x) c.as_slice.ensures.value))
     (λ x. c.look-seen.ensures.after x ∙ ap (λ (l : List Items). led (way_list c.args.ways) l c.args.found.now.points.bits x) c.as_slice.ensures.value)
-    (λ x. or_false (has c.args.found.now.points.bits x) ∙ ap (λ b. has c.args.found.now.points.bits x || (b && has c.union-new.result.bits x)) (sym c.if-is_point.false))
+    (λ x. sym (or_false (has c.args.found.now.points.bits x)) ∙ ap (λ b. has c.args.found.now.points.bits x || (b && has c.union-new.result.bits x)) (sym c.if-is_point.false))

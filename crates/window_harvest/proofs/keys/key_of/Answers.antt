@@ -1,7 +1,8 @@
 use Rattle.std.proofs.Common.{◌≡◌, ◌∙◌, None, Some, refl, sym, subst, arith}
 use Rattle.thumb_model.specs.Effect.{register_count}
 use Rattle.seq_enum.specs.Alphabet.{IsPlace, IsOver, sequences}
-use Rattle.window_harvest.proofs.Alphabet.{number_over, over_number, over_none}
+use Rattle.seq_enum.proofs.Shared.{over_sequences}
+use Rattle.window_harvest.proofs.Alphabet.{over_number, over_none}
 use Rattle.window_harvest.proofs.keys.key_of.Goals as goal
 
 pub returns-then-count-eq0 : goal.returns-then-count-eq0
@@ -26,7 +27,7 @@ returns-in-Some c =
     let place : IsPlace (Some c.in-Some.number) (sequences c.args.count c.args.limits.pool.now) c.args.seq.now = rw (n.registers_are, n.pool_is) at c.in-Some.ensures in (
       record {
         few = omega (arith, c.requires.count, c.if-count-from.false, c.from.ensures);
-        over = subst (λ k. IsOver k c.args.limits.pool.now c.args.seq.now) c.requires.count (number_over c.args.count c.args.limits.pool.now c.in-Some.number c.args.seq.now (place.stands c.in-Some.number refl));
+        over = subst (λ k. IsOver k c.args.limits.pool.now c.args.seq.now) c.requires.count (over_sequences c.args.count c.args.limits.pool.now c.in-Some.number c.args.seq.now (place.stands c.in-Some.number refl));
       },
       record { registers = c.requires.count; number = place; mask = refl },
     )

@@ -1,4 +1,4 @@
-use Rattle.std.proofs.Common.{◌≡◌, ◌≤◌, ◌<◌, ◌-◌, ℕ, List, [], take, drop, length, get_or, refl, sym, ◌∙◌, ap, subst, ◌+◌, Some, None, arith}
+use Rattle.std.proofs.Common.{◌≡◌, ◌≤◌, ◌<◌, ◌-◌, ℕ, List, take, drop, length, get_or, refl, sym, ◌∙◌, ap, subst, ◌+◌, Some, None, arith}
 use Rattle.std.specs.Prelude.{Any, All, Contains}
 use Rattle.std.proofs.lemmas.List.{get_or_default}
 use Rattle.std.proofs.lemmas.List.Elements.{All-nil}
@@ -8,7 +8,7 @@ use Rattle.clause_arena.specs.Contents.{literals_of}
 use Rattle.cdcl_core.specs.Analysed.{Sees}
 use Rattle.cdcl_core.specs.Implied.{clauses_of}
 use Rattle.cdcl_core.proofs.Lists.{reason_of}
-use Rattle.cdcl_core.proofs.Conflicts.{Resolved, Resolved-begun, Resolved-skip, Resolved-next, Resolved-learns, has_reason, none_seen, some_seen}
+use Rattle.cdcl_core.proofs.Conflicts.{Resolved, Resolved-begun, Resolved-skip, Resolved-next, Resolved-learns, has_reason, none_seen, sees_clause, some_seen}
 use Rattle.cdcl_core.proofs.solver.Solver.analyse.Goals as goal
 
 read : (shown trail : List ℕ) (n l : ℕ) → shown ≡ trail → l ≡ get_or shown n l → l ≡ get_or trail n l
@@ -20,15 +20,12 @@ in_trail shown trail seen from count e a = subst (λ (xs : List ℕ). Any (Conta
 out_of_trail : (shown trail seen : List ℕ) (from count : ℕ) → shown ≡ trail → (Any (Contains seen) (take count (drop from shown)) → ⊥) → Any (Contains seen) (take count (drop from trail)) → ⊥
 out_of_trail shown trail seen from count e f a = f (subst (λ (xs : List ℕ). Any (Contains seen) (take count (drop from xs))) (sym e) a)
 
-begun : (trail clause literals before seen : List ℕ) → before ≡ [] → literals ≡ clause → Sees trail literals before seen → Sees trail clause [] seen
-begun trail clause literals before seen e f s = subst (λ (xs : List ℕ). Sees trail xs [] seen) f (subst (λ (xs : List ℕ). Sees trail literals xs seen) e s)
-
 pub see-requires : goal.see-requires
 see-requires c = subst (All (Contains c.args.self.now.trail)) (sym c.truncate.ensures) (All-nil (Contains c.args.self.now.trail))
 
 pub loop-at-init : goal.loop-at-init
 loop-at-init c = subst (λ (n : ℕ). Resolved (clauses_of c.args.self.now.arena) c.args.self.now.trail c.args.start n c.see.new.seen) (sym c.len-at.ensures.value)
-    (Resolved-begun c.args.self.now.arena c.args.self.now.reasons.items c.args.self.now.trail c.args.low c.args.start c.args.conflict c.requires c.literals-literals.ensures.consistent c.see.new.seen (begun c.args.self.now.trail (literals_of c.args.self.now.arena c.args.conflict) c.lits.result.now c.truncate.new.self c.see.new.seen c.truncate.ensures c.lits.ensures c.in_ok-see.ensures))
+    (Resolved-begun c.args.self.now.arena c.args.self.now.reasons.items c.args.self.now.trail c.args.low c.args.start c.args.conflict c.requires c.literals-literals.ensures.consistent c.see.new.seen (sees_clause c.args.self.now.trail (literals_of c.args.self.now.arena c.args.conflict) c.lits.result.now c.truncate.new.self c.see.new.seen c.truncate.ensures c.lits.ensures c.in_ok-see.ensures))
 
 pub loop-at-preserved : goal.loop-at-preserved
 loop-at-preserved c =

@@ -1,15 +1,12 @@
-use Rattle.std.proofs.Common.{◌-◌, subst, arith}
-use Rattle.kept_places.specs.Marks.{IsStart}
+use Rattle.std.proofs.Common.{◌≡◌, ◌<◌, false, subst, suc}
+use Rattle.std.specs.Prelude.{IfNone, IfSome}
+use Rattle.kept_places.specs.Marks.{is_gone, rank}
 use Rattle.listing_draft.specs.Drafted.{Drafted}
-use Rattle.listing_draft.proofs.Drafts.{first_kept, kept_before}
 use Rattle.listing_draft.proofs.draft.Draft.previous.Goals as goal
 
-pub returns-then-start-eq0-clause-none : goal.returns-then-start-eq0-clause-none
-returns-then-start-eq0-clause-none c =
-    let start = subst (λ (d : Drafted). IsStart d.gone c.args.place c.start-start.result) c.self.view_is c.start-start.ensures in
-    first_kept c.args.self.now.gone c.args.place c.start-start.result start c.if-start-eq0.true
+pub returns-clause-some : goal.returns-clause-some
+returns-clause-some c =
+    subst (λ (d : Drafted). IfSome c.previous.result (λ q. (q < c.args.place) × (is_gone d.gone q ≡ false) × (suc (rank d.gone q) ≡ rank d.gone c.args.place))) c.self.view_is c.previous.ensures.some
 
-pub returns-else-start-eq0-clause-some : goal.returns-else-start-eq0-clause-some
-returns-else-start-eq0-clause-some c =
-    let start = subst (λ (d : Drafted). IsStart d.gone c.args.place c.start-start.result) c.self.view_is c.start-start.ensures in
-    kept_before c.args.self.now.gone c.args.place c.start-start.result (c.start-start.result - 1) start (omega (arith, c.if-start-eq0.false))
+pub returns-clause-none : goal.returns-clause-none
+returns-clause-none c = subst (λ (d : Drafted). IfNone c.previous.result (rank d.gone c.args.place ≡ 0)) c.self.view_is c.previous.ensures.none

@@ -9,5 +9,5 @@ returns c =
     let few : length c.args.seq.now ≤ 5 = rw is at c.as_slice-instrs.ensures.few in
     let place : IsPlace c.place_of_word.result (words (alphabet c.args.self.now.registers c.args.self.now.pool.now) (length c.args.seq.now)) c.args.seq.now =
     rw is at c.place_of_word.ensures.value in
-    rw (c.moved.ensures, c.shorter-before.ensures.value, c.requires.size, is)
+    rw (c.moved.ensures, c.count_below-before.ensures.value, c.requires.size, is)
     (IsPlace-sequences c.args.self.now.registers c.args.self.now.pool.now c.args.seq.now few c.place_of_word.result place)

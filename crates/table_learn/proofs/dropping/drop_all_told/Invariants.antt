@@ -6,7 +6,7 @@ use Rattle.window_exec.specs.State.{seen}
 use Rattle.rule_table.specs.Views.{rule_of}
 use Rattle.table_learn.specs.Fitness.{without_told}
 use Rattle.table_learn.specs.Lengths.{rules_length}
-use Rattle.table_learn.proofs.dropping.drop_each.Given as goal
+use Rattle.table_learn.proofs.dropping.drop_all_told.Given as goal
 
 abbrev pub invariant-loop-entry : goal.invariant-loop-entry
 invariant-loop-entry g l = record {

@@ -1,6 +1,0 @@
-use Rattle.std.proofs.Common.{◌≡◌, ◌≤◌, ◌*◌, ◌^◌}
-use Rattle.seq_enum.specs.Places.{sum_below}
-use Rattle.fingerprints.proofs.widths.count_below.Given as goal
-
-abbrev pub invariant-loop-n : goal.invariant-loop-n
-invariant-loop-n l = record { total : l.total ≡ sum_below (λ n. l.size ^ n) l.n; small : l.total ≤ l.n * 2 ^ 61 }
