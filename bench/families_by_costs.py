@@ -125,7 +125,7 @@ def judge_sides(table, costs, scratch, families):
         elif line.startswith("open "):
             opens[-1].add(int(line.split()[1]))
     weight = lambda side: sum(costs[name] for name, _ in side)
-    letters = {k: [instruction(letter) for letter in alphabet(k, pool)] for k in range(1, 5)}
+    instrs = {k: [instruction(instr) for instr in alphabet(k, pool)] for k in range(1, 5)}
     states = [*listed(text), *STATES]
     for entry, named in zip(entries_of(text), opens):
         left, right, mask = entry["left"], entry["right"], entry["mask"]
@@ -136,7 +136,7 @@ def judge_sides(table, costs, scratch, families):
         ends = [carried_out(left, state) for state in states]
         differs = lambda side: any(carried_out(side, state)[item] != end[item] for state, end in zip(states, ends) for item in mask)
         assert not differs(right), entry
-        over = letters[registers(entry, scratch)]
+        over = instrs[registers(entry, scratch)]
         if len(over) ** len(left) > 40000 or FACTS["entries beside all cheaper sequences"] > 20 * FACTS["tables"]:
             continue
         FACTS["entries beside all cheaper sequences"] += 1

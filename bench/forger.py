@@ -321,16 +321,16 @@ def forged_entries(rng, table, entry, others, count):
 
     k = len(tables.registers_of(entry["left"]))
     most = min(k + table.one("scratch"), 4)
-    letters = tables.alphabet(most, table.head["pool"])
+    instrs = tables.alphabet(most, table.head["pool"])
     own = tables.alphabet(k, table.head["pool"])
     for _ in range(count):
-        for side, choice in (("right", letters), ("left", own)):
+        for side, choice in (("right", instrs), ("left", own)):
             if entry[side]:
                 n = rng.randrange(len(entry[side]))
                 yield f"another instruction on the {side}", but(**{side: entry[side][:n] + [rng.choice(choice)] + entry[side][n + 1 :]})
     if entry["right"]:
         yield "a shorter right side", but(right=entry["right"][:-1])
-    yield "an instruction more on the right", but(right=entry["right"] + [rng.choice(letters)])
+    yield "an instruction more on the right", but(right=entry["right"] + [rng.choice(instrs)])
     yield "the right side turned round", but(right=entry["right"][::-1])
     for item in tables.ITEMS:
         mask = set(entry["mask"]) ^ {item}
@@ -436,10 +436,10 @@ def near_pairs(most):
     """Pairs of a left and a right side with a mask which no seeded state and none of 100 random ones tells apart, and one with an edge in it does: some of each kind."""
     chance = random.Random(3)
     for k, pool, masks in ((1, [1, 255], ("r0", "r0 n z", "r0 c", "r0 n z c", "n", "z", "c", "v", "n z c v", "z c", "r0 v")), (2, [0], ("r0", "r0 r1 z", "z", "c", "v", "z c", "n z"))):
-        letters = tables.alphabet(k, pool)
+        instrs = tables.alphabet(k, pool)
         usual = tables.seeded(42) + [([chance.getrandbits(32) for _ in range(4)], chance.getrandbits(4)) for _ in range(100)]
         edges = [([*words, 0, 0][:4], n) for words in itertools.product(EDGES, repeat=k) for n in (0, 15)]
-        sides = [[]] + [[letter] for letter in letters] + [[one, two] for one in letters for two in letters if k == 1]
+        sides = [[]] + [[instr] for instr in instrs] + [[one, two] for one in instrs for two in instrs if k == 1]
         sides = [side for side in sides if tables.registers_of(side) == list(range(len(tables.registers_of(side))))]
         ends = [([tables.packed(tables.run(side, state)) for state in usual], [tables.packed(tables.run(side, state)) for state in edges]) for side in sides]
         for mask in masks:

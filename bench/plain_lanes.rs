@@ -294,30 +294,30 @@ pub fn print_of(sequence: &[Instr], columns: &[Column], mask: Mask) -> u64 {
     print[0]
 }
 
-/// The print of each sequence of at most `longest` letters, in the order of their numbers.
-pub fn prints_within(letters: &[Instr], columns: &[Column], mask: Mask, longest: usize) -> Vec<u64> {
+/// The print of each sequence of at most `longest` instructions, in the order of their numbers.
+pub fn prints_within(alphabet: &[Instr], columns: &[Column], mask: Mask, longest: usize) -> Vec<u64> {
     let mut prints = Vec::new();
     for length in 0..=longest {
-        print_length(letters, columns, mask, length, &mut prints);
+        print_length(alphabet, columns, mask, length, &mut prints);
     }
     prints
 }
 
-fn print_length(letters: &[Instr], columns: &[Column], mask: Mask, length: usize, prints: &mut Vec<u64>) {
+fn print_length(alphabet: &[Instr], columns: &[Column], mask: Mask, length: usize, prints: &mut Vec<u64>) {
     match length {
         0 => prints.push(print_of(&[], columns, mask)),
-        1 => print_letters(letters, columns, mask, prints),
+        1 => print_instrs(alphabet, columns, mask, prints),
         _ => {
-            for letter in letters {
-                let after: Vec<Column> = columns.iter().map(|(lanes, count)| (lanes.after(letter), *count)).collect();
-                print_length(letters, &after, mask, length - 1, prints);
+            for instr in alphabet {
+                let after: Vec<Column> = columns.iter().map(|(lanes, count)| (lanes.after(instr), *count)).collect();
+                print_length(alphabet, &after, mask, length - 1, prints);
             }
         }
     }
 }
 
-fn print_letters(letters: &[Instr], columns: &[Column], mask: Mask, prints: &mut Vec<u64>) {
-    let mut fours = letters.chunks_exact(4);
+fn print_instrs(alphabet: &[Instr], columns: &[Column], mask: Mask, prints: &mut Vec<u64>) {
+    let mut fours = alphabet.chunks_exact(4);
     for four in &mut fours {
         let mut four_prints = [0; 4];
         for (lanes, count) in columns {
@@ -326,8 +326,8 @@ fn print_letters(letters: &[Instr], columns: &[Column], mask: Mask, prints: &mut
         }
         prints.extend(four_prints);
     }
-    for letter in fours.remainder() {
-        prints.push(print_of(std::slice::from_ref(letter), columns, mask));
+    for instr in fours.remainder() {
+        prints.push(print_of(std::slice::from_ref(instr), columns, mask));
     }
 }
 

@@ -8,22 +8,22 @@ use crate::line::{line, Line, Statement};
 use crate::listing::Listing;
 use crate::plain_flows::{shape, N};
 use crate::plain_tables::{self, write_instr, Entry, Table};
-use crate::plain_windows::{letter_of, Letter, Naming};
+use crate::plain_windows::{window_instr, Naming, WindowInstr};
 use std::collections::HashMap;
 use std::hash::{BuildHasherDefault, Hasher};
 
 /// The most instructions of a left side.
 pub const LONGEST: usize = 5;
 
-/// A letter as it stands in keys: never 0.
-fn code(letter: &Letter) -> u128 {
-    let [a, b, c] = letter.registers.map(u128::from);
-    u128::from(letter.form) + 1 | a << 6 | b << 8 | c << 10 | u128::from(letter.number) << 12
+/// An instruction as it stands in keys: never 0.
+fn code(instr: &WindowInstr) -> u128 {
+    let [a, b, c] = instr.registers.map(u128::from);
+    u128::from(instr.form) + 1 | a << 6 | b << 8 | c << 10 | u128::from(instr.number) << 12
 }
 
-/// A key with a letter more.
-pub fn longer(key: u128, letter: &Letter) -> u128 {
-    key << 20 | code(letter)
+/// A key with an instruction more.
+pub fn longer(key: u128, instr: &WindowInstr) -> u128 {
+    key << 20 | code(instr)
 }
 
 #[derive(Default)]
@@ -48,22 +48,22 @@ impl Hasher for Mixed {
 #[derive(Clone)]
 pub struct Rule {
     /// The right side, each with the items that it reads and writes.
-    pub right: Vec<(Letter, u32, u32)>,
+    pub right: Vec<(WindowInstr, u32, u32)>,
     /// The registers that its left side names and its mask doesn't have, and the flags that its mask doesn't have.
     pub dead: u32,
     /// Whether its right side names a register more.
     pub needs_scratch: bool,
 }
 
-/// A letter whose number has 8 bits, with another number.
-pub fn with_byte(letter: &Letter, number: u8) -> Letter {
-    if (4..=7).contains(&letter.form) { Letter { number, ..*letter } } else { *letter }
+/// An instruction whose number has 8 bits, with another number.
+pub fn with_byte(instr: &WindowInstr, number: u8) -> WindowInstr {
+    if (4..=7).contains(&instr.form) { WindowInstr { number, ..*instr } } else { *instr }
 }
 
 /// A family of such an entry: the entry's rule, and where its number stands in the left side.
 pub struct Family {
     pub rule: Rule,
-    left: Vec<Letter>,
+    left: Vec<WindowInstr>,
     hole: usize,
     number: u8,
     low: u32,
@@ -71,19 +71,19 @@ pub struct Family {
 }
 
 impl Family {
-    /// A letter with a value in its hole.
-    fn filled(&self, letter: &Letter, value: u8) -> Letter {
-        if letter.number == self.number { with_byte(letter, value) } else { *letter }
+    /// An instruction with a value in its hole.
+    fn filled(&self, instr: &WindowInstr, value: u8) -> WindowInstr {
+        if instr.number == self.number { with_byte(instr, value) } else { *instr }
     }
 
     /// The rule of the value under which the left side is a window, where it is.
-    pub fn instance(&self, window: &[Letter]) -> Option<Rule> {
+    pub fn instance(&self, window: &[WindowInstr]) -> Option<Rule> {
         let value = window[self.hole].number;
-        let is_left = |(own, there): (&Letter, &Letter)| self.filled(own, value).number == there.number;
+        let is_left = |(own, there): (&WindowInstr, &WindowInstr)| self.filled(own, value).number == there.number;
         if u32::from(value) < self.low || u32::from(value) > self.high || !self.left.iter().zip(window).all(is_left) {
             return None;
         }
-        let right = self.rule.right.iter().map(|(letter, uses, writes)| (self.filled(letter, value), *uses, *writes)).collect();
+        let right = self.rule.right.iter().map(|(instr, uses, writes)| (self.filled(instr, value), *uses, *writes)).collect();
         Some(Rule { right, ..self.rule })
     }
 }
@@ -97,15 +97,15 @@ pub struct Rules {
 }
 
 /// A side's instructions, each with the items that it reads and writes.
-fn letters_of(side: &[plain_tables::Instr]) -> Vec<(Letter, u32, u32)> {
-    let letter = |instr| {
+fn instrs_of(side: &[plain_tables::Instr]) -> Vec<(WindowInstr, u32, u32)> {
+    let made = |instr| {
         let mut text = Vec::new();
         write_instr(&mut text, "", instr);
         let (instr, _) = instruction(text.trim_ascii_end()).unwrap();
         let (uses, writes) = shape(&instr);
-        (letter_of(&instr).unwrap(), uses, writes)
+        (window_instr(&instr).unwrap(), uses, writes)
     };
-    side.iter().map(letter).collect()
+    side.iter().map(made).collect()
 }
 
 /// Items by other names, those of r0 to r3.
@@ -114,12 +114,12 @@ pub fn under(order: &[u8; 8], items: u32) -> u32 {
 }
 
 /// An entry's rule, and its left side by its names.
-fn rule_of(entry: &Entry) -> (Rule, Vec<Letter>) {
+fn rule_of(entry: &Entry) -> (Rule, Vec<WindowInstr>) {
     let mut naming = Naming::new();
-    let left: Vec<Letter> = letters_of(&entry.left).iter().map(|(letter, ..)| naming.named(letter)).collect();
+    let left: Vec<WindowInstr> = instrs_of(&entry.left).iter().map(|(instr, ..)| naming.named(instr)).collect();
     let dead_registers = !entry.mask & ((1 << naming.count) - 1);
     let dead = u32::from(dead_registers) | u32::from(!entry.mask >> 4) * N;
-    let right = letters_of(&entry.right);
+    let right = instrs_of(&entry.right);
     let named = 1u32.checked_shl(u32::from(naming.count)).map_or(0, |end| !(end - 1) & 0xf);
     let needs_scratch = right.iter().any(|(_, uses, writes)| (uses | writes) & named != 0);
     (Rule { right, dead, needs_scratch }, left)
@@ -143,8 +143,8 @@ impl Rules {
             if is_lighter(entry) {
                 let (rule, left) = rule_of(entry);
                 let number = raised.number as u8;
-                let hole = left.iter().position(|letter| (4..=7).contains(&letter.form) && letter.number == number).expect("a hole");
-                let key = left.iter().fold(0, |key, letter| longer(key, &with_byte(letter, 0)));
+                let hole = left.iter().position(|instr| (4..=7).contains(&instr.form) && instr.number == number).expect("a hole");
+                let key = left.iter().fold(0, |key, instr| longer(key, &with_byte(instr, 0)));
                 let family = Family { rule, left, hole, number, low: raised.low, high: raised.high };
                 rules.by_blinded.entry(key).or_default().push(family);
             }
@@ -158,9 +158,9 @@ fn line_of(text: &[u8]) -> Line {
     line(text).expect("a line")
 }
 
-/// The listing of the lines that are left of the given one, by the places that are kept, in order: the letter that stands there, and the line of the window
-/// that it came of.
-pub fn left_of(given: Listing, kept: impl Iterator<Item = (u32, Option<Letter>)>, is_changed: &[bool]) -> Listing {
+/// The listing of the lines that are left of the given one, by the places that are kept, in order: the instruction that stands there, and the line of the
+/// window that it came of.
+pub fn left_of(given: Listing, kept: impl Iterator<Item = (u32, Option<WindowInstr>)>, is_changed: &[bool]) -> Listing {
     let mut lines = Vec::with_capacity(given.lines.len());
     let mut kept = kept.peekable();
     for (n, line) in given.lines.into_iter().enumerate() {
@@ -173,10 +173,10 @@ pub fn left_of(given: Listing, kept: impl Iterator<Item = (u32, Option<Letter>)>
             text.push(b'\n');
             lines.push(Line { text, statement: Statement::Nothing, ..line });
         }
-        while let Some((_, letter)) = kept.next_if(|(home, _)| *home == n as u32) {
-            if let (Some(letter), true) = (letter, is_changed) {
+        while let Some((_, instr)) = kept.next_if(|(home, _)| *home == n as u32) {
+            if let (Some(instr), true) = (instr, is_changed) {
                 let mut text = vec![b'\t'];
-                letter.write(&mut text);
+                instr.write(&mut text);
                 text.push(b'\n');
                 lines.push(line_of(&text));
             }

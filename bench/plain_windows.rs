@@ -8,19 +8,19 @@ use crate::listing::Listing;
 
 /// An instruction of a window: its form and operation as one number, its registers in the order of its text, and its number.
 #[derive(Clone, Copy, PartialEq, Eq, Hash)]
-pub struct Letter {
+pub struct WindowInstr {
     pub form: u8,
     pub registers: [u8; 3],
     pub count: u8,
     pub number: u8,
 }
 
-/// The instruction as a letter, where it may stand in a window: one of both encodings of an effect.
-pub fn letter_of(instr: &Instr) -> Option<Letter> {
-    let letter = |form: u8, registers: &[u8], number: u8| {
+/// The instruction as it stands in windows, where it may stand in one: one of both encodings of an effect.
+pub fn window_instr(instr: &Instr) -> Option<WindowInstr> {
+    let made = |form: u8, registers: &[u8], number: u8| {
         let mut all = [0; 3];
         all[..registers.len()].copy_from_slice(registers);
-        Some(Letter { form, registers: all, count: registers.len() as u8, number }).filter(|_| registers.iter().all(|r| *r < 8))
+        Some(WindowInstr { form, registers: all, count: registers.len() as u8, number }).filter(|_| registers.iter().all(|r| *r < 8))
     };
     let sum = |sum: Sum| match sum {
         Sum::Add => 0,
@@ -33,19 +33,19 @@ pub fn letter_of(instr: &Instr) -> Option<Letter> {
         ByteOperation::Sub => 7,
     };
     match *instr {
-        Instr::Three { sum: s, target, left, right } => letter(sum(s), &[target, left, right], 0),
-        Instr::ThreeNumber { sum: s, target, source, number } if target == source => letter(6 + sum(s), &[target], number),
-        Instr::ThreeNumber { sum: s, target, source, number } => letter(2 + sum(s), &[target, source], number),
-        Instr::TwoNumber { operation, target, number } => letter(byte(operation), &[target], number),
-        Instr::ShiftLeft { target, source, amount } => letter(8, &[target, source], amount),
-        Instr::ShiftRight { shift: Right::Lsr, target, source, amount } => letter(9, &[target, source], amount),
-        Instr::ShiftRight { shift: Right::Asr, target, source, amount } => letter(10, &[target, source], amount),
-        Instr::Two { operation, target, other } => letter(11 + operation as u8, &[target, other], 0),
-        Instr::Movs { target, source } => letter(27, &[target, source], 0),
-        Instr::Mov { target, source } => letter(28, &[target, source], 0),
-        Instr::Add { target, source } => letter(29, &[target, source], 0),
-        Instr::Extend { extension, target, source } => letter(30 + extension_number(extension), &[target, source], 0),
-        Instr::Reverse { reversal, target, source } => letter(34 + reversal_number(reversal), &[target, source], 0),
+        Instr::Three { sum: s, target, left, right } => made(sum(s), &[target, left, right], 0),
+        Instr::ThreeNumber { sum: s, target, source, number } if target == source => made(6 + sum(s), &[target], number),
+        Instr::ThreeNumber { sum: s, target, source, number } => made(2 + sum(s), &[target, source], number),
+        Instr::TwoNumber { operation, target, number } => made(byte(operation), &[target], number),
+        Instr::ShiftLeft { target, source, amount } => made(8, &[target, source], amount),
+        Instr::ShiftRight { shift: Right::Lsr, target, source, amount } => made(9, &[target, source], amount),
+        Instr::ShiftRight { shift: Right::Asr, target, source, amount } => made(10, &[target, source], amount),
+        Instr::Two { operation, target, other } => made(11 + operation as u8, &[target, other], 0),
+        Instr::Movs { target, source } => made(27, &[target, source], 0),
+        Instr::Mov { target, source } => made(28, &[target, source], 0),
+        Instr::Add { target, source } => made(29, &[target, source], 0),
+        Instr::Extend { extension, target, source } => made(30 + extension_number(extension), &[target, source], 0),
+        Instr::Reverse { reversal, target, source } => made(34 + reversal_number(reversal), &[target, source], 0),
         _ => None,
     }
 }
@@ -80,10 +80,10 @@ impl Naming {
         Naming { names: [u8::MAX; 8], order: [0; 8], count: 0 }
     }
 
-    /// The letter with its registers' names.
+    /// The instruction with its registers' names.
     #[inline]
-    pub fn named(&mut self, letter: &Letter) -> Letter {
-        letter.with(|register| {
+    pub fn named(&mut self, instr: &WindowInstr) -> WindowInstr {
+        instr.with(|register| {
             let name = &mut self.names[usize::from(register)];
             if *name == u8::MAX {
                 *name = self.count;
@@ -95,15 +95,15 @@ impl Naming {
     }
 }
 
-impl Letter {
-    /// The letter with other registers.
+impl WindowInstr {
+    /// The instruction with other registers.
     #[inline]
-    pub fn with(&self, mut other: impl FnMut(u8) -> u8) -> Letter {
-        let mut letter = *self;
-        for register in &mut letter.registers[..usize::from(self.count)] {
+    pub fn with(&self, mut other: impl FnMut(u8) -> u8) -> WindowInstr {
+        let mut instr = *self;
+        for register in &mut instr.registers[..usize::from(self.count)] {
             *register = other(*register);
         }
-        letter
+        instr
     }
 
     /// Puts its canonical text behind others.
@@ -126,14 +126,14 @@ impl Letter {
     }
 }
 
-/// The places of a listing: the letter that stands there, and whether it is behind the letter before with nothing between that ends a window.
-pub fn rows(listing: &Listing) -> Vec<(Option<Letter>, bool)> {
+/// The places of a listing: the instruction that stands there, and whether it is behind the instruction before with nothing between that ends a window.
+pub fn rows(listing: &Listing) -> Vec<(Option<WindowInstr>, bool)> {
     let mut rows = Vec::with_capacity(listing.spots.len());
     let mut joined = false;
     for line in &listing.lines {
         joined = joined && line.names.is_empty();
         match &line.statement {
-            Statement::Runs { instr, mention: None } => rows.push((letter_of(instr), joined)),
+            Statement::Runs { instr, mention: None } => rows.push((window_instr(instr), joined)),
             Statement::Runs { .. } => rows.push((None, joined)),
             Statement::Words(values) => rows.extend(values.iter().map(|_| (None, false))),
             _ => {}

@@ -322,8 +322,8 @@ class Sequences:
     at most so many."""
 
     def __init__(self, k, pool, left, first, costs):
-        self.letters = alphabet(k, pool)
-        self.numbers = {text: place for place, text in enumerate(self.letters)}
+        self.alphabet = alphabet(k, pool)
+        self.numbers = {text: place for place, text in enumerate(self.alphabet)}
         self.longest, self.first, self.costs = left - (costs is None), first, costs
         self.left_by, self.weights = None, None
 
@@ -333,31 +333,31 @@ class Sequences:
 
     def count(self, length):
         """How many have fewer instructions."""
-        return sum(len(self.letters) ** n for n in range(length))
+        return sum(len(self.alphabet) ** n for n in range(length))
 
     def at(self, number):
         length = 0
-        while number >= len(self.letters) ** length:
-            number -= len(self.letters) ** length
+        while number >= len(self.alphabet) ** length:
+            number -= len(self.alphabet) ** length
             length += 1
         texts = []
         for _ in range(length):
-            number, place = divmod(number, len(self.letters))
-            texts.append(self.letters[place])
+            number, place = divmod(number, len(self.alphabet))
+            texts.append(self.alphabet[place])
         return texts[::-1]
 
     def number_of(self, texts):
         number = 0
         for text in texts:
-            number = number * len(self.letters) + self.numbers[text]
+            number = number * len(self.alphabet) + self.numbers[text]
         return self.count(len(texts)) + number
 
     def fill(self):
         level, weights = [self.first], [0]
-        costs = [self.weight([letter]) for letter in self.letters]
+        costs = [self.weight([instr]) for instr in self.alphabet]
         self.left_by, self.weights = [packed(self.first)], [0]
         for _ in range(self.longest):
-            level = [run([letter], state) for state in level for letter in self.letters]
+            level = [run([instr], state) for state in level for instr in self.alphabet]
             weights = [weight + cost for weight in weights for cost in costs]
             self.left_by += map(packed, level)
             self.weights += weights

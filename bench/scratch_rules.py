@@ -12,7 +12,7 @@ FULL = 0xFFFFFFFF
 EXTENSIONS = {"uxtb": lambda x: x & 0xFF, "uxth": lambda x: x & 0xFFFF, "sxtb": lambda x: ((x & 0xFF) ^ 0x80) - 0x80 & FULL, "sxth": lambda x: ((x & 0xFFFF) ^ 0x8000) - 0x8000 & FULL}
 
 
-def letters():
+def instrs():
     """Each instruction's text, and what it makes of a word."""
     for amount in (number for number in POOL if number < 32):
         yield f"lsls r0, r0, #{amount}", lambda x, n=amount: x << n & FULL
@@ -31,7 +31,7 @@ def is_mask(effects, number, words):
 def sides():
     random.seed(7)
     words = [FULL, *(random.getrandbits(32) for _ in range(8))]
-    for three in itertools.product(list(letters()), repeat=3):
+    for three in itertools.product(list(instrs()), repeat=3):
         (_, first), (_, second), (_, third) = three
         number = third(second(first(FULL)))
         if number in POOL and number & number + 1 and is_mask((first, second, third), number, words):

@@ -10,8 +10,8 @@ mod plain_checker;
 mod plain_costs;
 #[path = "../plain_formulas.rs"]
 mod plain_formulas;
-#[path = "../plain_letters.rs"]
-mod plain_letters;
+#[path = "../plain_alphabet.rs"]
+mod plain_alphabet;
 #[path = "../plain_newness.rs"]
 mod plain_newness;
 #[path = "../plain_outcomes.rs"]
@@ -23,7 +23,7 @@ mod plain_tables;
 
 use plain_checker::{Checker, code};
 use plain_formulas::{Builder, family_formula, formula};
-use plain_letters::{alphabet, seeded, text_of};
+use plain_alphabet::{alphabet, seeded, text_of};
 use plain_newness::are_new;
 use plain_outcomes::{Outcomes, WIDEST, weight, width};
 use plain_steps::{Instr, Mask, WState, differ, run};
@@ -113,7 +113,7 @@ struct Auditor<'a> {
     table: &'a Table,
     pool: Vec<u32>,
     /// The instructions over r0 to r3 and the pool, by their texts.
-    letters: HashMap<String, Instr>,
+    instrs: HashMap<String, Instr>,
     states: Vec<WState>,
     /// By the count of registers.
     outcomes: Vec<Outcomes>,
@@ -125,8 +125,8 @@ impl<'a> Auditor<'a> {
         let states: Vec<WState> = table.states.iter().map(|(r, nzcv)| WState { r: *r, nzcv: *nzcv }).collect();
         let first = states.first().copied().unwrap_or(WState { r: [0; 4], nzcv: 0 });
         let outcomes = (0..=4).map(|k| Outcomes::new(k, alphabet(k as u32, &pool), table.costs.as_ref(), &first)).collect();
-        let letters = alphabet(4, &pool).into_iter().map(|instr| (text_of(&instr), instr)).collect();
-        Auditor { table, pool, letters, states, outcomes }
+        let instrs = alphabet(4, &pool).into_iter().map(|instr| (text_of(&instr), instr)).collect();
+        Auditor { table, pool, instrs, states, outcomes }
     }
 
     /// So many registers and, where the table allows one and r0 to r3 have one left, a scratch register.
@@ -143,8 +143,8 @@ impl<'a> Auditor<'a> {
 
     /// Whether an entry may have to be told from few enough sequences.
     fn judge_width(&self) -> Result<(), String> {
-        let letters = alphabet(u32::from(self.with_scratch(self.table.regs)), &self.pool).len();
-        let width = width(letters, usize::from(self.table.left), self.table.costs.as_ref());
+        let size = alphabet(u32::from(self.with_scratch(self.table.regs)), &self.pool).len();
+        let width = width(size, usize::from(self.table.left), self.table.costs.as_ref());
         if width > WIDEST { Err(format!("wide {width}")) } else { Ok(()) }
     }
 
@@ -154,8 +154,8 @@ impl<'a> Auditor<'a> {
         side.iter().for_each(|instr| write_instr(&mut text, "", instr));
         let mut operands = side.iter().flat_map(|instr| &instr.operands[..usize::from(instr.count)]);
         let are_few = operands.all(|operand| !matches!(operand, Operand::Register(register) if *register >= registers));
-        let letter = |line: &str| self.letters.get(line).copied().filter(|_| are_few);
-        String::from_utf8(text).ok()?.lines().map(letter).collect()
+        let instr = |line: &str| self.instrs.get(line).copied().filter(|_| are_few);
+        String::from_utf8(text).ok()?.lines().map(instr).collect()
     }
 
     /// The sides of an entry and its mask, where they are of the table's form.

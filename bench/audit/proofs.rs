@@ -2,15 +2,15 @@
 
 #[path = "../plain_formulas.rs"]
 mod plain_formulas;
-#[path = "../plain_letters.rs"]
-mod plain_letters;
+#[path = "../plain_alphabet.rs"]
+mod plain_alphabet;
 #[path = "../plain_solver.rs"]
 mod plain_solver;
 #[path = "../plain_steps.rs"]
 mod plain_steps;
 
 use plain_formulas::formula;
-use plain_letters::{seeded, text_of};
+use plain_alphabet::{seeded, text_of};
 use plain_solver::{Verdict, number, solve};
 use plain_steps::{Instr, Mask, Sum};
 use std::fmt::Write as _;

@@ -39,7 +39,7 @@ use crate::layout::{layout, Fault, LayoutError};
 use crate::listing::{parse, print, Listing, MOST_LINES};
 use crate::plain_rules::{instruction_count, left_of, longer, parted, under, Rule, Rules, LONGEST};
 use crate::plain_tables::read_table;
-use crate::plain_windows::{rows, Letter, Naming};
+use crate::plain_windows::{rows, Naming, WindowInstr};
 use crate::reach::is_steady;
 use crate::refusals::{Refusals, Refused};
 use std::hint::black_box;
@@ -71,8 +71,8 @@ struct Rewriter<'a> {
     graph: Graph,
     ground: Option<Ground>,
     due: Due,
-    /// The letter of each place, and whether nothing stands before it that ends a window.
-    rows: Vec<(Option<Letter>, bool)>,
+    /// The instruction of each place, and whether nothing stands before it that ends a window.
+    rows: Vec<(Option<WindowInstr>, bool)>,
     is_labelled: Vec<bool>,
     /// The line in which each instruction stands, and whether a line's own instruction is gone.
     home: Vec<u32>,
@@ -86,7 +86,7 @@ struct Rewriter<'a> {
 }
 
 /// Marks the places before one at which a window may begin that comes to it.
-fn put_due(due: &mut Due, kept: &Kept, rows: &[(Option<Letter>, bool)], longest: usize, place: usize) {
+fn put_due(due: &mut Due, kept: &Kept, rows: &[(Option<WindowInstr>, bool)], longest: usize, place: usize) {
     let mut at = kept.previous[place];
     for _ in 0..longest {
         if at == NONE || rows[at].0.is_none() {
@@ -179,11 +179,11 @@ impl<'a> Rewriter<'a> {
         let mut naming = Naming::new();
         let (mut at, mut key) = (place, 0);
         while window.count < rules.longest {
-            let (Some(letter), is_joined) = self.rows[at] else { break };
+            let (Some(instr), is_joined) = self.rows[at] else { break };
             if !is_joined && window.count > 0 {
                 break;
             }
-            let named = naming.named(&letter);
+            let named = naming.named(&instr);
             if naming.count > 4 {
                 break;
             }
@@ -219,9 +219,9 @@ impl<'a> Rewriter<'a> {
         let home = self.home[places[0]];
         self.lines = self.lines_with(window, rule.right.len());
         let mut effects = [(0, 0); LONGEST];
-        for (n, ((letter, uses, writes), place)) in rule.right.iter().zip(places).enumerate() {
+        for (n, ((instr, uses, writes), place)) in rule.right.iter().zip(places).enumerate() {
             effects[n] = (under(&window.order, *uses), under(&window.order, *writes));
-            self.rows[*place].0 = Some(letter.with(|name| window.order[usize::from(name)]));
+            self.rows[*place].0 = Some(instr.with(|name| window.order[usize::from(name)]));
         }
         let (first, behind) = (places[0], self.graph.kept.next[places[window.count - 1]]);
         for place in places {

@@ -7,8 +7,8 @@
 mod plain_costs;
 #[path = "../plain_formulas.rs"]
 mod plain_formulas;
-#[path = "../plain_letters.rs"]
-mod plain_letters;
+#[path = "../plain_alphabet.rs"]
+mod plain_alphabet;
 #[path = "../plain_outcomes.rs"]
 mod plain_outcomes;
 #[path = "../plain_solver.rs"]
@@ -18,7 +18,7 @@ mod plain_steps;
 
 use plain_costs::Costs;
 use plain_formulas::{Builder, formula};
-use plain_letters::{alphabet, seeded, text_of};
+use plain_alphabet::{alphabet, seeded, text_of};
 use plain_outcomes::{Outcomes, WIDEST, weight, width};
 use plain_solver::{Line, Verdict, number, solve};
 use plain_steps::{Instr, Mask, WState, differ, run, tells};
@@ -279,7 +279,7 @@ fn mask_of(tail: &str) -> Mask {
 /// The settings and the windows of a table's text.
 fn read(text: &str) -> (Settings, Vec<Window>) {
     let mut settings = Settings { regs: 0, left: 0, seed: 0, budget: 0, pool: Vec::new(), scratch: 0, costs: None };
-    let mut letters = HashMap::new();
+    let mut instrs = HashMap::new();
     let mut windows = Vec::new();
     let mut left: Vec<&str> = Vec::new();
     let mut in_header = true;
@@ -296,7 +296,7 @@ fn read(text: &str) -> (Settings, Vec<Window>) {
             "budget" => settings.budget = tail.parse().unwrap(),
             "pool" => {
                 settings.pool = tail.split(' ').map(|n| n.parse().unwrap()).collect();
-                letters = alphabet(settings.regs, &settings.pool).into_iter().map(|instr| (text_of(&instr), instr)).collect();
+                instrs = alphabet(settings.regs, &settings.pool).into_iter().map(|instr| (text_of(&instr), instr)).collect();
             }
             "scratch" => settings.scratch = tail.parse().unwrap(),
             "costs" => {
@@ -306,7 +306,7 @@ fn read(text: &str) -> (Settings, Vec<Window>) {
             "left" => left.push(tail),
             "mask" => {
                 let k = (register_count(&left) + settings.scratch).min(4);
-                windows.push(Window { left: left.iter().map(|text| letters[*text]).collect(), mask: mask_of(tail), k });
+                windows.push(Window { left: left.iter().map(|text| instrs[*text]).collect(), mask: mask_of(tail), k });
             }
             _ => {}
         }
@@ -318,8 +318,8 @@ fn main() -> io::Result<()> {
     let mut text = String::new();
     io::stdin().read_to_string(&mut text)?;
     let (settings, windows) = read(&text);
-    let letters = alphabet((settings.regs + settings.scratch).min(4), &settings.pool);
-    let width = width(letters.len(), settings.left, settings.costs.as_ref());
+    let instrs = alphabet((settings.regs + settings.scratch).min(4), &settings.pool);
+    let width = width(instrs.len(), settings.left, settings.costs.as_ref());
     if width > WIDEST {
         eprintln!("refused wide {width}");
         return Ok(());

@@ -19,35 +19,35 @@ mod words;
 
 use crate::listing::{parse, Listing};
 use crate::plain_flows::{Flows, C, N, V, Z};
-use crate::plain_windows::{rows, Letter, Naming};
+use crate::plain_windows::{rows, Naming, WindowInstr};
 use std::collections::HashSet;
 use std::hint::black_box;
 use std::io::{self, Read};
 use std::time::Instant;
 
-/// The numbers of the pool that a letter may have.
-fn is_over(letter: &Letter, pool: &[u8]) -> bool {
-    match letter.form {
-        2..=7 | 9 | 10 => pool.contains(&letter.number),
-        8 => pool.contains(&letter.number) && letter.number < 32,
+/// The numbers of the pool that an instruction may have.
+fn is_over(instr: &WindowInstr, pool: &[u8]) -> bool {
+    match instr.form {
+        2..=7 | 9 | 10 => pool.contains(&instr.number),
+        8 => pool.contains(&instr.number) && instr.number < 32,
         _ => true,
     }
 }
 
-type Window = ([Option<Letter>; 5], u32);
+type Window = ([Option<WindowInstr>; 5], u32);
 
-fn canonical(window: &[Letter], live: u32, regs: usize, pool: &[u8]) -> Option<Window> {
+fn canonical(window: &[WindowInstr], live: u32, regs: usize, pool: &[u8]) -> Option<Window> {
     let mut naming = Naming::new();
-    let mut letters = [None; 5];
-    for (n, letter) in window.iter().enumerate() {
-        if !is_over(letter, pool) {
+    let mut instrs = [None; 5];
+    for (n, instr) in window.iter().enumerate() {
+        if !is_over(instr, pool) {
             return None;
         }
-        letters[n] = Some(naming.named(letter));
+        instrs[n] = Some(naming.named(instr));
     }
     let order = naming.order.get(..usize::from(naming.count)).filter(|order| order.len() <= regs)?;
     let registers: u32 = order.iter().enumerate().map(|(name, register)| (live >> register & 1) << name).sum();
-    Some((letters, registers | (live & (N | Z | C | V))))
+    Some((instrs, registers | (live & (N | Z | C | V))))
 }
 
 fn windows(listing: &Listing, flows: &Flows, regs: usize, left: usize, pool: &[u8]) -> Vec<(usize, Window)> {
@@ -55,11 +55,11 @@ fn windows(listing: &Listing, flows: &Flows, regs: usize, left: usize, pool: &[u
     let mut seen = HashSet::new();
     let mut pairs = Vec::new();
     for place in 0..rows.len() {
-        let run: Vec<Letter> = rows[place..]
+        let run: Vec<WindowInstr> = rows[place..]
             .iter()
             .take(left)
             .enumerate()
-            .map_while(|(n, (letter, joined))| letter.filter(|_| n == 0 || *joined))
+            .map_while(|(n, (instr, joined))| instr.filter(|_| n == 0 || *joined))
             .collect();
         for count in 1..=run.len() {
             if let Some(pair) = canonical(&run[..count], flows.after[place + count - 1], regs, pool) {
@@ -90,11 +90,11 @@ fn print_windows(pairs: &[(usize, Window)], settings: &Settings) {
     let Settings { regs, left, budget, pool } = settings;
     let numbers: String = pool.iter().map(|number| format!(" {number}")).collect();
     println!("peep 1\nregs {regs}\nleft {left}\nseed 42\nbudget {budget}\npool{numbers}");
-    for (_, (letters, mask)) in pairs {
+    for (_, (instrs, mask)) in pairs {
         println!("entry");
-        for letter in letters.iter().flatten() {
+        for instr in instrs.iter().flatten() {
             let mut text = Vec::new();
-            letter.write(&mut text);
+            instr.write(&mut text);
             println!("left {}", String::from_utf8_lossy(&text));
         }
         let names = ["r0", "r1", "r2", "r3"].into_iter().zip(0..).chain([("n", 15), ("z", 16), ("c", 17), ("v", 18)]);

@@ -2,13 +2,13 @@
 
 #[path = "../plain_lanes.rs"]
 mod plain_lanes;
-#[path = "../plain_letters.rs"]
-mod plain_letters;
+#[path = "../plain_alphabet.rs"]
+mod plain_alphabet;
 #[path = "../plain_steps.rs"]
 mod plain_steps;
 
 use plain_lanes::{columns_of, index, prints_within};
-use plain_letters::{alphabet, seeded};
+use plain_alphabet::{alphabet, seeded};
 use plain_steps::{Instr, Mask, WState, step};
 use std::time::Instant;
 
@@ -26,36 +26,36 @@ fn print_in(states: &[WState]) -> u64 {
     })
 }
 
-fn print_length(letters: &[Instr], states: &[WState], length: u32, prints: &mut Vec<u64>) {
+fn print_length(instrs: &[Instr], states: &[WState], length: u32, prints: &mut Vec<u64>) {
     if length == 0 {
         prints.push(print_in(states));
         return;
     }
-    for letter in letters {
+    for instr in instrs {
         let mut after = [states[0]; 64];
         for (after, state) in after.iter_mut().zip(states) {
-            *after = step(letter, *state);
+            *after = step(instr, *state);
         }
-        print_length(letters, &after, length - 1, prints);
+        print_length(instrs, &after, length - 1, prints);
     }
 }
 
-fn single_prints(letters: &[Instr], states: &[WState]) -> Vec<u64> {
+fn single_prints(instrs: &[Instr], states: &[WState]) -> Vec<u64> {
     let mut prints = Vec::new();
     for length in 0..=2 {
-        print_length(letters, states, length, &mut prints);
+        print_length(instrs, states, length, &mut prints);
     }
     prints
 }
 
 fn main() {
     let states = seeded(42);
-    let letters = alphabet(3, &POOL);
+    let instrs = alphabet(3, &POOL);
     let mask = Mask { registers: [true, true, true, false], nzcv: 15 };
     let start = Instant::now();
     let prints = match std::env::args().nth(1) {
-        Some(_) => single_prints(&letters, &states),
-        None => prints_within(&letters, &columns_of(&states), mask, 2),
+        Some(_) => single_prints(&instrs, &states),
+        None => prints_within(&instrs, &columns_of(&states), mask, 2),
     };
     let pairs = index(&prints);
     let milliseconds = start.elapsed().as_millis();

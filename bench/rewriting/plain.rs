@@ -36,7 +36,7 @@ use crate::listing::{parse, print, Listing, MOST_LINES};
 use crate::live::Live;
 use crate::plain_rules::{instruction_count, left_of, longer, parted, under, with_byte, Rule, Rules, LONGEST};
 use crate::plain_tables::read_table;
-use crate::plain_windows::{rows, Letter, Naming};
+use crate::plain_windows::{rows, Naming, WindowInstr};
 use crate::reach::Reach;
 use std::borrow::Cow;
 use std::hint::black_box;
@@ -73,8 +73,8 @@ struct Rewriter<'a> {
     listing: &'a Listing,
     live: Live,
     reach: Reach,
-    /// The letter of each place, and whether nothing stands before it that ends a window.
-    rows: Vec<(Option<Letter>, bool)>,
+    /// The instruction of each place, and whether nothing stands before it that ends a window.
+    rows: Vec<(Option<WindowInstr>, bool)>,
     is_labelled: Vec<bool>,
     next: Vec<u32>,
     previous: Vec<u32>,
@@ -183,10 +183,10 @@ impl<'a> Rewriter<'a> {
     }
 
     /// The first family that applies to a window of this key, which is blind to numbers of 8 bits.
-    fn first_family(&mut self, key: u128, letters: &[Letter], window: &Window) -> Option<(Window, Cow<'a, Rule>)> {
+    fn first_family(&mut self, key: u128, instrs: &[WindowInstr], window: &Window) -> Option<(Window, Cow<'a, Rule>)> {
         let rules = self.rules;
         rules.by_blinded.get(&key)?.iter().find_map(|family| {
-            let rule = family.instance(letters)?;
+            let rule = family.instance(instrs)?;
             Some((self.applied(&rule, window)?, Cow::Owned(rule)))
         })
     }
@@ -196,23 +196,23 @@ impl<'a> Rewriter<'a> {
         let rules = self.rules;
         let mut window = Window { places: [0; LONGEST], count: 0, order: [0; 8], named: 0 };
         let mut keys = [(0, 0, 0); LONGEST];
-        let mut letters = [Letter { form: 0, registers: [0; 3], count: 0, number: 0 }; LONGEST];
+        let mut instrs = [WindowInstr { form: 0, registers: [0; 3], count: 0, number: 0 }; LONGEST];
         let has_families = !rules.by_blinded.is_empty();
         let mut naming = Naming::new();
         let (mut at, mut key, mut blinded) = (place, 0, 0);
         while at != END && window.count < rules.longest {
-            let (Some(letter), is_joined) = self.rows[at as usize] else { break };
+            let (Some(instr), is_joined) = self.rows[at as usize] else { break };
             if !is_joined && window.count > 0 {
                 break;
             }
-            let named = naming.named(&letter);
+            let named = naming.named(&instr);
             if naming.count > 4 {
                 break;
             }
             key = longer(key, &named);
             if has_families {
                 blinded = longer(blinded, &with_byte(&named, 0));
-                letters[window.count] = named;
+                instrs[window.count] = named;
             }
             keys[window.count] = (key, blinded, naming.count);
             window.places[window.count] = at;
@@ -227,7 +227,7 @@ impl<'a> Rewriter<'a> {
                 return Some(applied);
             }
             if has_families {
-                if let Some(applied) = self.first_family(blinded, &letters[..window.count], &window) {
+                if let Some(applied) = self.first_family(blinded, &instrs[..window.count], &window) {
                     return Some(applied);
                 }
             }
@@ -258,9 +258,9 @@ impl<'a> Rewriter<'a> {
         let home = self.home[places[0]];
         self.lines = self.lines_with(window, new);
         let mut effects = [(0, 0); LONGEST];
-        for (n, ((letter, uses, writes), place)) in rule.right.iter().zip(places).enumerate() {
+        for (n, ((instr, uses, writes), place)) in rule.right.iter().zip(places).enumerate() {
             effects[n] = (under(&window.order, *uses), under(&window.order, *writes));
-            self.rows[*place].0 = Some(letter.with(|name| window.order[usize::from(name)]));
+            self.rows[*place].0 = Some(instr.with(|name| window.order[usize::from(name)]));
         }
         for place in places {
             self.is_changed[self.home[*place] as usize] = true;
@@ -349,7 +349,7 @@ impl<'a> Rewriter<'a> {
 
 /// What is left of a listing that was rewritten.
 struct Left {
-    rows: Vec<(Option<Letter>, bool)>,
+    rows: Vec<(Option<WindowInstr>, bool)>,
     next: Vec<u32>,
     first: u32,
     home: Vec<u32>,

@@ -103,32 +103,32 @@ fn alphabet(k: u8, pool: &[u8]) -> Vec<Instr> {
     all
 }
 
-/// Goes on to the next sequence: the digits of its letters, the last counting fastest.
-fn next(places: &mut Vec<usize>, word: &mut Vec<Instr>, letters: &[Instr]) {
+/// Goes on to the next sequence: the digits of its instructions, the last counting fastest.
+fn next(places: &mut Vec<usize>, word: &mut Vec<Instr>, instrs: &[Instr]) {
     for at in (0..places.len()).rev() {
         places[at] += 1;
-        if places[at] < letters.len() {
-            word[at] = letters[places[at]];
+        if places[at] < instrs.len() {
+            word[at] = instrs[places[at]];
             return;
         }
         places[at] = 0;
-        word[at] = letters[0];
+        word[at] = instrs[0];
     }
     places.push(0);
-    word.push(letters[0]);
+    word.push(instrs[0]);
 }
 
 fn main() {
-    let letters = alphabet(3, &[0, 1, 2, 4, 8, 16, 24, 31, 255]);
+    let instrs = alphabet(3, &[0, 1, 2, 4, 8, 16, 24, 31, 255]);
     let start = Instant::now();
     let (mut places, mut word) = (Vec::new(), Vec::new());
     let mut sum = 0u64;
     for _ in 0..5_000_000 {
         let last = word.last().map_or(0, numbers);
         sum = sum.rotate_left(5) ^ last ^ (word.len() as u64).rotate_left(16);
-        next(&mut places, &mut word, &letters);
+        next(&mut places, &mut word, &instrs);
     }
     eprintln!("{} ms", start.elapsed().as_millis());
-    let codes = letters.iter().fold(0u64, |codes, letter| codes.rotate_left(5) ^ u64::from(encode(letter)));
+    let codes = instrs.iter().fold(0u64, |codes, instr| codes.rotate_left(5) ^ u64::from(encode(instr)));
     println!("{codes:016x} {sum:016x}");
 }

@@ -3,7 +3,7 @@
 
 ghost use Rattle.std.specs.Prelude.{◌<◌, ◌≤◌, length};
 
-use seq_enum::{Pool, Walk, letters};
+use seq_enum::{Pool, Walk, alphabet_instrs};
 use std::alloc::Global;
 use std::time::Instant;
 use thumb_instr::{Instr, parts};
@@ -17,11 +17,11 @@ fn code(instr: &Instr) -> u64 {
     }
 }
 
-/// A digest of the letters.
-fn letters_digest(letters: &[Instr]) -> u64 {
+/// A digest of the alphabet.
+fn alphabet_digest(alphabet: &[Instr]) -> u64 {
     let mut sum = 0u64;
-    for letter in letters {
-        sum = sum.rotate_left(5) ^ code(letter);
+    for instr in alphabet {
+        sum = sum.rotate_left(5) ^ code(instr);
     }
     sum
 }
@@ -33,11 +33,11 @@ fn numbers(instr: &Instr) -> u64 {
 }
 
 /// A digest of the registers and numbers of the last instructions.
-fn digest(letters: &[Instr], count: u32) -> u64
-    requires some { 0 < length letters.now }
-    requires few { length letters.now ≤ 1952 }
+fn digest(alphabet: &[Instr], count: u32) -> u64
+    requires some { 0 < length alphabet.now }
+    requires few { length alphabet.now ≤ 1952 }
 {
-    let mut walk = Walk::new(letters);
+    let mut walk = Walk::new(alphabet);
     let mut sum = 0u64;
     for _turn in 0..count {
         let instrs = walk.instrs();
@@ -56,10 +56,10 @@ fn main(rt: HostRuntime) -> anyhow::Result<()> {
     let Some(pool) = pool else {
         return Ok(());
     };
-    let letters = letters(rt.alloc(), 3, &pool)?;
+    let alphabet = alphabet_instrs(rt.alloc(), 3, &pool)?;
     let start = Instant::now(&rt)?;
-    let sum = digest(&letters, 5_000_000);
+    let sum = digest(&alphabet, 5_000_000);
     eprintln!(rt; "{} ms", start.elapsed(&rt)?.as_millis())?;
-    println!(rt; "{:016x} {sum:016x}", letters_digest(&letters))?;
+    println!(rt; "{:016x} {sum:016x}", alphabet_digest(&alphabet))?;
     Ok(())
 }

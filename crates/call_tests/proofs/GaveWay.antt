@@ -60,7 +60,7 @@ gap_of_two before place instr lines g = record {
 }
 
 pub was_live : (before : List ListingLine) (place : ℕ) (instr : Instr) (lines : List ListingLine) (sets : Sets) → GaveWay before place instr lines → is_in_window instr ≡ true → IsLive (code_of before) sets → WasLive lines place 2 1 sets
-was_live before place instr lines sets g letter live = record {
+was_live before place instr lines sets g in_window live = record {
   before = before;
   window = g.window;
   instrs = instr ∷ [];
@@ -71,8 +71,8 @@ was_live before place instr lines sets g letter live = record {
   old_many = g.two;
   new_many = refl;
   stood = ap (λ n. take n (drop place (places_of before))) (sym g.two) ∙ g.stood.stands;
-  letters = g.stood.letters;
-  new_letters = and_from (is_in_window instr) true letter refl;
+  in_window = g.stood.in_window;
+  new_in_window = and_from (is_in_window instr) true in_window refl;
   unlabelled = window_unlabelled before place g.window 2 g.two g.stood;
   labels_stay = settled_stay (places_of before) (labels_from 0 before) place 2 (instr ∷ []) (gap_of_two before place instr lines g) (inl (omega arith));
   is = g.is;

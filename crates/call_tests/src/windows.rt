@@ -33,7 +33,7 @@ pub(crate) fn with_one(
 /// `uxtb r0, r0`
 pub(crate) fn uxtb() -> Instr
     ensures unlabelled { names_no_label result ≡ true }
-    ensures letter { is_in_window result ≡ true }
+    ensures in_window { is_in_window result ≡ true }
 {
     Instr::Extend {
         extension: Extension::Uxtb,

@@ -8,11 +8,11 @@ use Rattle.thumb_model.specs.Listing.{Name, Value, Statement, Nothing, Instructi
 use Rattle.thumb_model.specs.Replaced.{is_op, labels_kept}
 use Rattle.thumb_model.proofs.Lists.{get_back, get_drop, length_map}
 use Rattle.window_runs.specs.declared.rows.WindowPlace.{WindowPlace}
-use Rattle.window_runs.specs.Rows.{is_unlabelled, letter_of, rows_of, stays_joined, rows_from}
+use Rattle.window_runs.specs.Rows.{is_unlabelled, window_instr, rows_of, stays_joined, rows_from}
 use Rattle.edited_listing.specs.Items.{Item, AsGiven, New, home_of, AreSorted}
 use Rattle.edited_listing.specs.Emitting.{is_given_at, emit_at, line_at, lines_from}
 use Rattle.edited_listing.specs.Giving.{WordsStand}
-use Rattle.edited_listing.specs.Edited.{letter_in}
+use Rattle.edited_listing.specs.Edited.{instr_in}
 use Rattle.edited_listing.specs.Known.{row_joined, joined_at, all_from}
 use Rattle.edited_listing.proofs.Sorted.{sorted_less, not_given}
 use Rattle.edited_listing.proofs.Emits.{and_true}
@@ -30,28 +30,28 @@ and_none false b c e = refl
 -- ---- rows of lines ----
 
 abbrev word_row : Value → WindowPlace
-word_row v = record { letter = None; is_joined = false }
+word_row v = record { instr = None; is_joined = false }
 
--- a row's letter is that of its place
-abbrev Letters : List ListingLine → WindowPlace → Type 0
-Letters ls r = (a : Bool) (j : ℕ) → slice_get (rows_from a ls) j ≡ Some r → r.letter ≡ letter_in (slice_get (places_of ls) j)
+-- a row's instruction is that of its place
+abbrev IsOfPlace : List ListingLine → WindowPlace → Type 0
+IsOfPlace ls r = (a : Bool) (j : ℕ) → slice_get (rows_from a ls) j ≡ Some r → r.instr ≡ instr_in (slice_get (places_of ls) j)
 
-word_letter : (ls : List ListingLine) (r : WindowPlace) → Letters ls r → (c : Bool) (vs : List Value) (j : ℕ) → slice_get (map word_row vs ++ rows_from c ls) j ≡ Some r → r.letter ≡ letter_in (slice_get (map Word vs ++ places_of ls) j)
-word_letter ls r rec c [] j h = rec c j h
-word_letter ls r rec c (v ∷ vs) zero h = ap (λ (x : WindowPlace). x.letter) (sym (same_Some (word_row v) r h))
-word_letter ls r rec c (v ∷ vs) (suc j) h = word_letter ls r rec c vs j h
+word_instr : (ls : List ListingLine) (r : WindowPlace) → IsOfPlace ls r → (c : Bool) (vs : List Value) (j : ℕ) → slice_get (map word_row vs ++ rows_from c ls) j ≡ Some r → r.instr ≡ instr_in (slice_get (map Word vs ++ places_of ls) j)
+word_instr ls r rec c [] j h = rec c j h
+word_instr ls r rec c (v ∷ vs) zero h = ap (λ (x : WindowPlace). x.instr) (sym (same_Some (word_row v) r h))
+word_instr ls r rec c (v ∷ vs) (suc j) h = word_instr ls r rec c vs j h
 
-statement_letter : (ls : List ListingLine) (r : WindowPlace) → Letters ls r → (c : Bool) (s : Statement) (j : ℕ) → slice_get (rows_of c s ++ rows_from (stays_joined c s) ls) j ≡ Some r → r.letter ≡ letter_in (slice_get (places_in s ++ places_of ls) j)
-statement_letter ls r rec c Nothing j h = rec c j h
-statement_letter ls r rec c (Instruction i m) zero h = ap (λ (x : WindowPlace). x.letter) (sym (same_Some (record { letter = letter_of i m; is_joined = c }) r h))
-statement_letter ls r rec c (Instruction i m) (suc j) h = rec true j h
-statement_letter ls r rec c (Words vs) j h = word_letter ls r rec c vs j h
-statement_letter ls r rec c (Aligns size most) j h = rec false j h
-statement_letter ls r rec c (Sets name address) j h = rec c j h
+statement_instr : (ls : List ListingLine) (r : WindowPlace) → IsOfPlace ls r → (c : Bool) (s : Statement) (j : ℕ) → slice_get (rows_of c s ++ rows_from (stays_joined c s) ls) j ≡ Some r → r.instr ≡ instr_in (slice_get (places_in s ++ places_of ls) j)
+statement_instr ls r rec c Nothing j h = rec c j h
+statement_instr ls r rec c (Instruction i m) zero h = ap (λ (x : WindowPlace). x.instr) (sym (same_Some (record { instr = window_instr i m; is_joined = c }) r h))
+statement_instr ls r rec c (Instruction i m) (suc j) h = rec true j h
+statement_instr ls r rec c (Words vs) j h = word_instr ls r rec c vs j h
+statement_instr ls r rec c (Aligns size most) j h = rec false j h
+statement_instr ls r rec c (Sets name address) j h = rec c j h
 
-pub row_letter : (ls : List ListingLine) (r : WindowPlace) → Letters ls r
-row_letter [] r b k e = absurd (cc)
-row_letter (l ∷ ls) r b k e = statement_letter ls r (row_letter ls r) (b && is_unlabelled l.names) l.statement k e
+pub row_instr : (ls : List ListingLine) (r : WindowPlace) → IsOfPlace ls r
+row_instr [] r b k e = absurd (cc)
+row_instr (l ∷ ls) r b k e = statement_instr ls r (row_instr ls r) (b && is_unlabelled l.names) l.statement k e
 
 -- the row of an instruction, and those behind it
 op_row : (c : Bool) (s : Statement) (rs : List WindowPlace) → is_op s ≡ true → joined_at (rows_of c s ++ rs) 0 ≡ c

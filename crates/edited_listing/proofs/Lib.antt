@@ -11,7 +11,7 @@ pub mod Rest
 pub mod Unchanged
 pub mod Edits
 pub mod Held
-pub mod Letters
+pub mod Instrs
 pub mod Emits
 pub mod Counts
 pub mod Ops

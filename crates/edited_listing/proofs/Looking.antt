@@ -9,7 +9,7 @@ use Rattle.thumb_model.proofs.Lists.{present_at}
 use Rattle.listing_parser.specs.Parsing.{own_line}
 use Rattle.window_runs.specs.declared.rows.WindowPlace.{WindowPlace}
 use Rattle.window_runs.specs.Rows.{rows_from}
-use Rattle.window_runs.specs.Runs.{letter_at}
+use Rattle.window_runs.specs.Runs.{instr_at}
 use Rattle.window_runs.proofs.Lengths.{rows_length}
 use Rattle.padded_code.proofs.Kept.{kept_at}
 use Rattle.edited_listing.specs.declared.standing.Standing.{Standing}
@@ -17,10 +17,10 @@ use Rattle.edited_listing.specs.declared.standing.Standing.TheVariants as standi
 use Rattle.edited_listing.specs.Items.{Item, AsGiven, New, home_of, items_from, AreSorted}
 use Rattle.edited_listing.specs.Changes.{home_at}
 use Rattle.edited_listing.specs.Places.{has_home, item_of}
-use Rattle.edited_listing.specs.Edited.{Edited, IsEdited, letter_in, lines_now, marks, padded, standing_places}
+use Rattle.edited_listing.specs.Edited.{Edited, IsEdited, instr_in, lines_now, marks, padded, standing_places}
 use Rattle.edited_listing.specs.Known.{row_joined, joined_at, all_from, HasLabelAt, HasLabelIn}
 use Rattle.edited_listing.specs.Looks.{home_in, home_of_place, IsNextKept}
-use Rattle.edited_listing.proofs.Joins.{row_letter, joined_now}
+use Rattle.edited_listing.proofs.Joins.{row_instr, joined_now}
 use Rattle.edited_listing.proofs.Moved.{labels_between}
 use Rattle.edited_listing.proofs.Kept.{home_get, item_at, words_stand}
 use Rattle.edited_listing.proofs.Padded.{places_kept}
@@ -112,17 +112,17 @@ labelled_here e q from is h k b =
       | inr f ↦ let x = item_here e f.0 f.1 f.2 in inr (rank (marks e) f.0, x.0, f.3, x.1, f.4 ∙ ap suc (sym x.2))
     ]))
 
--- ---- letters ----
+-- ---- instructions ----
 
-abbrev letter_row : Bool → Option WindowPlace → Option Instr
-letter_row begins None = None
-letter_row begins (Some r) = if begins || r.is_joined then r.letter else None
+abbrev instr_in_row : Bool → Option WindowPlace → Option Instr
+instr_in_row begins None = None
+instr_in_row begins (Some r) = if begins || r.is_joined then r.instr else None
 
-letter_drop : (begins : Bool) (rows : List WindowPlace) (k : ℕ) → letter_at begins (drop k rows) ≡ letter_row begins (slice_get rows k)
-letter_drop begins [] zero = refl
-letter_drop begins [] (suc k) = refl
-letter_drop begins (r ∷ rows) zero = refl
-letter_drop begins (r ∷ rows) (suc k) = letter_drop begins rows k
+instr_drop : (begins : Bool) (rows : List WindowPlace) (k : ℕ) → instr_at begins (drop k rows) ≡ instr_in_row begins (slice_get rows k)
+instr_drop begins [] zero = refl
+instr_drop begins [] (suc k) = refl
+instr_drop begins (r ∷ rows) zero = refl
+instr_drop begins (r ∷ rows) (suc k) = instr_drop begins rows k
 
 past_none : {A : Type 0} (xs : List A) (k : ℕ) → slice_get xs k ≡ None → length xs ≤ k
 past_none [] k e = omega arith
@@ -138,72 +138,72 @@ standing_many [] xs h = sym h
 standing_many (s ∷ ss) [] h = absurd (omega arith)
 standing_many (s ∷ ss) (x ∷ xs) h = ap suc (standing_many ss xs (omega arith))
 
-pub letter_end : (e : Edited) (begins : Bool) (p : ℕ) → IsEdited e → length e.stands ≤ p → is_gone (marks e) p ≡ false → None ≡ letter_at begins (drop (rank (marks e) p) (rows_from false (lines_now e)))
-letter_end e begins p is h k =
+pub instr_end : (e : Edited) (begins : Bool) (p : ℕ) → IsEdited e → length e.stands ≤ p → is_gone (marks e) p ≡ false → None ≡ instr_at begins (drop (rank (marks e) p) (rows_from false (lines_now e)))
+instr_end e begins p is h k =
     let rows : List WindowPlace = rows_from false (lines_now e) in
     let short = standing_many e.stands (places_of e.given) is.as_many in
     let none : slice_get (places_of (lines_now e)) (rank (marks e) p) ≡ None = place_now e p is k ∙ slice_get_past (standing_places e.stands (places_of e.given)) p (omega arith) in
     let past = past_none (places_of (lines_now e)) (rank (marks e) p) none in
     let many = rows_length false (lines_now e) in
-    ap (letter_row begins) (sym (slice_get_past rows (rank (marks e) p) (omega arith))) ∙ sym (letter_drop begins rows (rank (marks e) p))
+    ap (instr_in_row begins) (sym (slice_get_past rows (rank (marks e) p) (omega arith))) ∙ sym (instr_drop begins rows (rank (marks e) p))
 
 -- the row of a kept place
-row_here : (e : Edited) (p : ℕ) → IsEdited e → p < length e.stands → is_gone (marks e) p ≡ false → (r : WindowPlace) × (slice_get (rows_from false (lines_now e)) (rank (marks e) p) ≡ Some r) × (r.letter ≡ letter_in (slice_get (padded e).places p))
+row_here : (e : Edited) (p : ℕ) → IsEdited e → p < length e.stands → is_gone (marks e) p ≡ false → (r : WindowPlace) × (slice_get (rows_from false (lines_now e)) (rank (marks e) p) ≡ Some r) × (r.instr ≡ instr_in (slice_get (padded e).places p))
 row_here e p is h k =
     let many = standing_many e.stands (places_of e.given) is.as_many in
     let x = present_at (standing_places e.stands (places_of e.given)) p (omega arith) in
     let here = place_here (places_of (lines_now e)) (rank (marks e) p) (ap is_some (place_now e p is k ∙ x.1)) in
     let all = rows_length false (lines_now e) in
     let r = present_at (rows_from false (lines_now e)) (rank (marks e) p) (omega arith) in
-    (r.0, r.1, row_letter (lines_now e) r.0 false (rank (marks e) p) r.1 ∙ ap letter_in (place_now e p is k))
+    (r.0, r.1, row_instr (lines_now e) r.0 false (rank (marks e) p) r.1 ∙ ap instr_in (place_now e p is k))
 
-letter_is : (e : Edited) (begins : Bool) (p : ℕ) → IsEdited e → p < length e.stands → is_gone (marks e) p ≡ false →
-    letter_at begins (drop (rank (marks e) p) (rows_from false (lines_now e))) ≡ (if begins || joined_at (rows_from false (lines_now e)) (rank (marks e) p) then letter_in (slice_get (padded e).places p) else None)
-letter_is e begins p is h k =
+instr_is : (e : Edited) (begins : Bool) (p : ℕ) → IsEdited e → p < length e.stands → is_gone (marks e) p ≡ false →
+    instr_at begins (drop (rank (marks e) p) (rows_from false (lines_now e))) ≡ (if begins || joined_at (rows_from false (lines_now e)) (rank (marks e) p) then instr_in (slice_get (padded e).places p) else None)
+instr_is e begins p is h k =
     let rows : List WindowPlace = rows_from false (lines_now e) in
     let r = row_here e p is h k in
-    letter_drop begins rows (rank (marks e) p)
-    ∙ ap (letter_row begins) r.1
+    instr_drop begins rows (rank (marks e) p)
+    ∙ ap (instr_in_row begins) r.1
     ∙ ap (λ o. if begins || r.0.is_joined then o else None) r.2
-    ∙ ap (λ t. if begins || t then letter_in (slice_get (padded e).places p) else None) (ap row_joined (sym r.1))
+    ∙ ap (λ t. if begins || t then instr_in (slice_get (padded e).places p) else None) (ap row_joined (sym r.1))
 
-pub letter_begins : (e : Edited) (begins : Bool) (p : ℕ) → IsEdited e → p < length e.stands → is_gone (marks e) p ≡ false → begins ≡ true →
-    letter_in (slice_get (padded e).places p) ≡ letter_at begins (drop (rank (marks e) p) (rows_from false (lines_now e)))
-letter_begins e begins p is h k b =
-    ap (λ t. if t || joined_at (rows_from false (lines_now e)) (rank (marks e) p) then letter_in (slice_get (padded e).places p) else None) (sym b) ∙ sym (letter_is e begins p is h k)
+pub instr_begins : (e : Edited) (begins : Bool) (p : ℕ) → IsEdited e → p < length e.stands → is_gone (marks e) p ≡ false → begins ≡ true →
+    instr_in (slice_get (padded e).places p) ≡ instr_at begins (drop (rank (marks e) p) (rows_from false (lines_now e)))
+instr_begins e begins p is h k b =
+    ap (λ t. if t || joined_at (rows_from false (lines_now e)) (rank (marks e) p) then instr_in (slice_get (padded e).places p) else None) (sym b) ∙ sym (instr_is e begins p is h k)
 
-pub letter_goes : (e : Edited) (begins : Bool) (p : ℕ) → IsEdited e → p < length e.stands → is_gone (marks e) p ≡ false → joined_at (rows_from false (lines_now e)) (rank (marks e) p) ≡ true →
-    letter_in (slice_get (padded e).places p) ≡ letter_at begins (drop (rank (marks e) p) (rows_from false (lines_now e)))
-letter_goes e begins p is h k j =
-    all begins ∙ ap (λ t. if begins || t then letter_in (slice_get (padded e).places p) else None) (sym j) ∙ sym (letter_is e begins p is h k)
+pub instr_goes : (e : Edited) (begins : Bool) (p : ℕ) → IsEdited e → p < length e.stands → is_gone (marks e) p ≡ false → joined_at (rows_from false (lines_now e)) (rank (marks e) p) ≡ true →
+    instr_in (slice_get (padded e).places p) ≡ instr_at begins (drop (rank (marks e) p) (rows_from false (lines_now e)))
+instr_goes e begins p is h k j =
+    all begins ∙ ap (λ t. if begins || t then instr_in (slice_get (padded e).places p) else None) (sym j) ∙ sym (instr_is e begins p is h k)
   where
-    all : (b : Bool) → letter_in (slice_get (padded e).places p) ≡ (if b || true then letter_in (slice_get (padded e).places p) else None)
+    all : (b : Bool) → instr_in (slice_get (padded e).places p) ≡ (if b || true then instr_in (slice_get (padded e).places p) else None)
     all true = refl
     all false = refl
 
-pub letter_stops : (e : Edited) (begins : Bool) (p : ℕ) → IsEdited e → p < length e.stands → is_gone (marks e) p ≡ false → begins ≡ false → joined_at (rows_from false (lines_now e)) (rank (marks e) p) ≡ false →
-    None ≡ letter_at begins (drop (rank (marks e) p) (rows_from false (lines_now e)))
-letter_stops e begins p is h k b j =
-    ap (λ t. if false || t then letter_in (slice_get (padded e).places p) else None) (sym j)
-    ∙ ap (λ t. if t || joined_at (rows_from false (lines_now e)) (rank (marks e) p) then letter_in (slice_get (padded e).places p) else None) (sym b)
-    ∙ sym (letter_is e begins p is h k)
+pub instr_stops : (e : Edited) (begins : Bool) (p : ℕ) → IsEdited e → p < length e.stands → is_gone (marks e) p ≡ false → begins ≡ false → joined_at (rows_from false (lines_now e)) (rank (marks e) p) ≡ false →
+    None ≡ instr_at begins (drop (rank (marks e) p) (rows_from false (lines_now e)))
+instr_stops e begins p is h k b j =
+    ap (λ t. if false || t then instr_in (slice_get (padded e).places p) else None) (sym j)
+    ∙ ap (λ t. if t || joined_at (rows_from false (lines_now e)) (rank (marks e) p) then instr_in (slice_get (padded e).places p) else None) (sym b)
+    ∙ sym (instr_is e begins p is h k)
 
 -- where a run goes on an instruction stands
-letter_op : (o : Option Place) (i : Instr) → letter_in o ≡ Some i → is_op_place o ≡ true
-letter_op None i e = absurd (cc)
-letter_op (Some (Op j m)) i e = refl
-letter_op (Some (Word v)) i e = absurd (cc)
+instr_op : (o : Option Place) (i : Instr) → instr_in o ≡ Some i → is_op_place o ≡ true
+instr_op None i e = absurd (cc)
+instr_op (Some (Op j m)) i e = refl
+instr_op (Some (Word v)) i e = absurd (cc)
 
-pub letter_found : (begins : Bool) (ls : List ListingLine) (k : ℕ) (i : Instr) → letter_at begins (drop k (rows_from false ls)) ≡ Some i → is_op_place (slice_get (places_of ls) k) ≡ true
-letter_found begins ls k i e = by (slice_get (rows_from false ls) k) refl (sym (letter_drop begins (rows_from false ls) k) ∙ e)
+pub instr_found : (begins : Bool) (ls : List ListingLine) (k : ℕ) (i : Instr) → instr_at begins (drop k (rows_from false ls)) ≡ Some i → is_op_place (slice_get (places_of ls) k) ≡ true
+instr_found begins ls k i e = by (slice_get (rows_from false ls) k) refl (sym (instr_drop begins (rows_from false ls) k) ∙ e)
   where
     if_some : (t : Bool) (o : Option Instr) → (if t then o else None) ≡ Some i → o ≡ Some i
     if_some true o f = f
     if_some false o f = absurd (cc)
 
-    by : (o : Option WindowPlace) → slice_get (rows_from false ls) k ≡ o → letter_row begins o ≡ Some i → is_op_place (slice_get (places_of ls) k) ≡ true
+    by : (o : Option WindowPlace) → slice_get (rows_from false ls) k ≡ o → instr_in_row begins o ≡ Some i → is_op_place (slice_get (places_of ls) k) ≡ true
     by None f g = absurd (cc)
-    by (Some r) f g = letter_op (slice_get (places_of ls) k) i (sym (row_letter ls r false k f) ∙ if_some (begins || r.is_joined) r.letter g)
+    by (Some r) f g = instr_op (slice_get (places_of ls) k) i (sym (row_instr ls r false k f) ∙ if_some (begins || r.is_joined) r.instr g)
 
 -- what a call is told of the kept place before, and what it tells
 pub behind_none : (e now : Edited) (q from : ℕ) → e ≡ now → from ≡ 0 → rank (marks now) q ≡ 0 → IsBehind e from q

@@ -7,44 +7,44 @@ use Rattle.kept_places.proofs.Ranks.{rank_between, rank_kept}
 use Rattle.thumb_model.specs.Listing.{is_op_place, places_of}
 use Rattle.thumb_model.proofs.Lists.{length_map}
 use Rattle.window_runs.specs.Rows.{rows_from}
-use Rattle.window_runs.specs.Runs.{letter_at, run}
+use Rattle.window_runs.specs.Runs.{instr_at, run}
 use Rattle.window_runs.proofs.Joined.{run_ends, run_more}
 use Rattle.padded_code.specs.Windows.{AreRanked}
 use Rattle.edited_listing.specs.Changes.{is_none}
 use Rattle.edited_listing.specs.Edited.{Edited, lines_now, marks}
 use Rattle.edited_listing.specs.Looks.{IsNextKept}
-use Rattle.edited_listing.proofs.Looking.{letter_found}
+use Rattle.edited_listing.proofs.Looking.{instr_found}
 
--- the letters and places so far, the place of the last of them and the one behind it
-pub record IsRun (e : Edited) (r most : ℕ) (start now : List Bool) (letters : List Instr) (places : List ℕ) (before at : ℕ) : Type 0 where
-  pub few : length letters ≤ most
-  pub as_many : length places ≡ length letters
+-- the instructions and places so far, the place of the last of them and the one behind it
+pub record IsRun (e : Edited) (r most : ℕ) (start now : List Bool) (instrs : List Instr) (places : List ℕ) (before at : ℕ) : Type 0 where
+  pub few : length instrs ≤ most
+  pub as_many : length places ≡ length instrs
   pub same : now ≡ start
   pub within : at ≤ length e.stands
   pub kept : is_gone (marks e) at ≡ false
-  pub ranked_at : rank (marks e) at ≡ r + length letters
-  pub follows : nat_eq (length letters) 0 ≡ false → at < length e.stands → IsNextKept e before at
+  pub ranked_at : rank (marks e) at ≡ r + length instrs
+  pub follows : nat_eq (length instrs) 0 ≡ false → at < length e.stands → IsNextKept e before at
   pub ranked : AreRanked (marks e) r places
-  pub run : letters ++ run (nat_eq (length letters) 0) (most - length letters) (drop (r + length letters) (rows_from false (lines_now e))) ≡ run true most (drop r (rows_from false (lines_now e)))
+  pub run : instrs ++ run (nat_eq (length instrs) 0) (most - length instrs) (drop (r + length instrs) (rows_from false (lines_now e))) ≡ run true most (drop r (rows_from false (lines_now e)))
 
--- the next letter by its number
-pub next_is : (e : Edited) (r most : ℕ) (start now : List Bool) (letters : List Instr) (places : List ℕ) (before at : ℕ) (found : Option Instr) → IsRun e r most start now letters places before at →
-    found ≡ letter_at (nat_eq (length letters) 0) (drop (rank (marks e) at) (rows_from false (lines_now e))) → letter_at (nat_eq (length letters) 0) (drop (r + length letters) (rows_from false (lines_now e))) ≡ found
-next_is e r most start now letters places before at found h f = ap (λ n. letter_at (nat_eq (length letters) 0) (drop n (rows_from false (lines_now e)))) (sym h.ranked_at) ∙ sym f
+-- the next instruction by its number
+pub next_is : (e : Edited) (r most : ℕ) (start now : List Bool) (instrs : List Instr) (places : List ℕ) (before at : ℕ) (found : Option Instr) → IsRun e r most start now instrs places before at →
+    found ≡ instr_at (nat_eq (length instrs) 0) (drop (rank (marks e) at) (rows_from false (lines_now e))) → instr_at (nat_eq (length instrs) 0) (drop (r + length instrs) (rows_from false (lines_now e))) ≡ found
+next_is e r most start now instrs places before at found h f = ap (λ n. instr_at (nat_eq (length instrs) 0) (drop n (rows_from false (lines_now e)))) (sym h.ranked_at) ∙ sym f
 
-pub run_ended : (e : Edited) (r most : ℕ) (start now : List Bool) (letters : List Instr) (places : List ℕ) (before at : ℕ) → IsRun e r most start now letters places before at →
-    letter_at (nat_eq (length letters) 0) (drop (r + length letters) (rows_from false (lines_now e))) ≡ None → letters ≡ run true most (drop r (rows_from false (lines_now e)))
-run_ended e r most start now letters places before at h f =
-    run_ends letters (nat_eq (length letters) 0) (most - length letters) (drop (r + length letters) (rows_from false (lines_now e))) (run true most (drop r (rows_from false (lines_now e)))) f h.run
+pub run_ended : (e : Edited) (r most : ℕ) (start now : List Bool) (instrs : List Instr) (places : List ℕ) (before at : ℕ) → IsRun e r most start now instrs places before at →
+    instr_at (nat_eq (length instrs) 0) (drop (r + length instrs) (rows_from false (lines_now e))) ≡ None → instrs ≡ run true most (drop r (rows_from false (lines_now e)))
+run_ended e r most start now instrs places before at h f =
+    run_ends instrs (nat_eq (length instrs) 0) (most - length instrs) (drop (r + length instrs) (rows_from false (lines_now e))) (run true most (drop r (rows_from false (lines_now e)))) f h.run
 
 ranked_more : (gone : List Bool) (r : ℕ) (ps : List ℕ) (p : ℕ) → AreRanked gone r ps → p < length gone → is_gone gone p ≡ false → rank gone p ≡ r + length ps → AreRanked gone r (ps ++ p ∷ [])
 ranked_more gone r [] p a h k e = (h, k, omega arith, tt)
 ranked_more gone r (q ∷ ps) p a h k e = (a.0, a.1, a.2, ranked_more gone (suc r) ps p a.3 h k (omega arith))
 
-pub run_on : (e : Edited) (r most : ℕ) (start now now' : List Bool) (letters letters' : List Instr) (places places' : List ℕ) (before at next : ℕ) (i : Instr) → IsRun e r most start now letters places before at → length letters < most → at < length e.stands →
-    letter_at (nat_eq (length letters) 0) (drop (r + length letters) (rows_from false (lines_now e))) ≡ Some i → letters' ≡ letters ++ i ∷ [] → places' ≡ places ++ at ∷ [] → IsNode (marks e) (at + 1) next → now' ≡ now → IsRun e r most start now' letters' places' at next
-run_on e r most start now now' letters letters' places places' before at next i h few inside f l q node same =
-    let more : length letters' ≡ length letters + 1 = ap (λ (is : List Instr). length is) l ∙ length-append letters (i ∷ []) in
+pub run_on : (e : Edited) (r most : ℕ) (start now now' : List Bool) (instrs instrs' : List Instr) (places places' : List ℕ) (before at next : ℕ) (i : Instr) → IsRun e r most start now instrs places before at → length instrs < most → at < length e.stands →
+    instr_at (nat_eq (length instrs) 0) (drop (r + length instrs) (rows_from false (lines_now e))) ≡ Some i → instrs' ≡ instrs ++ i ∷ [] → places' ≡ places ++ at ∷ [] → IsNode (marks e) (at + 1) next → now' ≡ now → IsRun e r most start now' instrs' places' at next
+run_on e r most start now now' instrs instrs' places places' before at next i h few inside f l q node same =
+    let more : length instrs' ≡ length instrs + 1 = ap (λ (is : List Instr). length is) l ∙ length-append instrs (i ∷ []) in
     let longer : length places' ≡ length places + 1 = ap (λ (ps : List ℕ). length ps) q ∙ length-append places (at ∷ []) in
     let as_many = h.as_many in
     let here = h.ranked_at in
@@ -69,10 +69,10 @@ run_on e r most start now now' letters letters' places places' before at next i 
         q_within = g;
         q_kept = node.kept;
         next = next_rank;
-        op = ap (λ n. is_op_place (slice_get (places_of (lines_now e)) n)) here ∙ letter_found (nat_eq (length letters) 0) (lines_now e) (r + length letters) i f;
+        op = ap (λ n. is_op_place (slice_get (places_of (lines_now e)) n)) here ∙ instr_found (nat_eq (length instrs) 0) (lines_now e) (r + length instrs) i f;
       };
       ranked = subst (AreRanked (marks e) r) (sym q) (ranked_more (marks e) r places at h.ranked (omega arith) h.kept (omega arith));
       run = ap (λ (is : List Instr). is ++ run (nat_eq (length is) 0) (most - length is) (drop (r + length is) (rows_from false (lines_now e)))) l
-          ∙ run_more letters most r (rows_from false (lines_now e)) i few f
+          ∙ run_more instrs most r (rows_from false (lines_now e)) i few f
           ∙ h.run;
     }

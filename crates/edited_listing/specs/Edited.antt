@@ -3,7 +3,7 @@ use Rattle.std.specs.Prelude.{◌≡◌, ℕ, Bool, true, List, [], ◌∷◌, l
 use Rattle.thumb_instr.specs.declared.instr.Instr.{Instr}
 use Rattle.thumb_model.specs.Listing.{Place, Op, Word, plain, ListingLine, Code, places_of, labels_from}
 use Rattle.listing_parser.specs.Parsing.{own_line}
-use Rattle.window_runs.specs.Rows.{letter_of}
+use Rattle.window_runs.specs.Rows.{window_instr}
 use Rattle.padded_code.specs.Padding.{nop}
 use Rattle.edited_listing.specs.declared.standing.Standing.{Standing}
 use Rattle.edited_listing.specs.declared.standing.Standing.TheVariants as standing
@@ -46,10 +46,10 @@ abbrev pub lines_now : Edited → List ListingLine
 lines_now e = lines_from own_line 0 (items_from 0 e.stands) e.given
 
 -- the instruction at a place, where it may stand in a window
-abbrev pub letter_in : Option Place → Option Instr
-letter_in None = None
-letter_in (Some (Op i m)) = letter_of i m
-letter_in (Some (Word v)) = None
+abbrev pub instr_in : Option Place → Option Instr
+instr_in None = None
+instr_in (Some (Op i m)) = window_instr i m
+instr_in (Some (Word v)) = None
 
 -- a standing for each place: the kept ones are in the order of their homes, where instructions were given, and no data word gives way
 pub record IsEdited (e : Edited) : Type 0 where

@@ -52,7 +52,7 @@ impl GivenListing {
     ghost use Rattle.std.specs.Prelude.{◌≡◌, ◌-◌, ◌<◌, ◌≤◌, ◌↔◌, suc, true, false, length, slice_get, IfOk};
     ghost use Rattle.thumb_model.specs.Listing.{labels_from, places_of};
     ghost use Rattle.window_runs.specs.Rows.{rows_from};
-    ghost use Rattle.edited_listing.specs.Edited.{letter_in};
+    ghost use Rattle.edited_listing.specs.Edited.{instr_in};
     ghost use Rattle.edited_listing.specs.Known.{all_from, joined_at, last_labels, HasLabelIn};
 
     /// What is known of a listing. `labels` has of each place one more than the place of the last label up to it.
@@ -89,11 +89,11 @@ impl GivenListing {
     }
 
     /// The instruction at a place, where it may stand in a window.
-    pub(crate) fn letter(&self, place: u32) -> Option<Instr>
+    pub(crate) fn instr(&self, place: u32) -> Option<Instr>
         requires { place < length (places_of self.now) }
-        ensures { result ≡ letter_in (slice_get (places_of self.now) place) }
+        ensures { result ≡ instr_in (slice_get (places_of self.now) place) }
     {
-        self.rows[place as usize].letter
+        self.rows[place as usize].instr
     }
 
     /// Whether neither a label nor an alignment line stands between two places.

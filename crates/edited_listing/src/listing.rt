@@ -4,7 +4,7 @@ ghost use Rattle.std.specs.Option.{option_map};
 ghost use Rattle.listing_parser.specs.Views.{place_view};
 ghost use Rattle.edited_listing.specs.Changes.{is_as_given};
 ghost use Rattle.edited_listing.specs.Counting.{one_if};
-ghost use Rattle.edited_listing.specs.Edited.{letter_in};
+ghost use Rattle.edited_listing.specs.Edited.{instr_in};
 ghost use Rattle.edited_listing.specs.declared.standing.Standing.{Standing as Standings};
 ghost use Rattle.edited_listing.specs.declared.standing.Standing.TheVariants as standing;
 
@@ -12,7 +12,7 @@ use crate::emitting::emit;
 use crate::given::GivenListing;
 use crate::giving::give_way;
 use crate::labels::{Labels, labels_of};
-use crate::looks::{Run, home, next_letter, run_from};
+use crate::looks::{Run, home, next_instr, run_from};
 use crate::passing::is_op_behind;
 use crate::standing::Standing;
 use kept_places::KeptPlaces;
@@ -20,7 +20,7 @@ use listing_parser::{Listing, Memory, Place};
 use std::alloc::{AllocError, Global};
 use std::marker::Model;
 use thumb_instr::Instr;
-use window_runs::rows::letter;
+use window_runs::rows::window_instr;
 
 /// A listing whose instructions give way to others while the numbers of its places stay. Contracts see the lines that were given and what stands at each
 /// of their places now; `lines_now` and `padded` of these are the lines now, and the code of all places with a nop where one is gone.
@@ -61,13 +61,13 @@ fn all_given(alloc: Global, count: u32) -> Result<Vec<Standing>, AllocError>
 }
 
 /// The instruction at a place, where it may stand in a window.
-fn letter_in(place: Option<Place<'_>>) -> Option<Instr>
-    ensures { result ≡ letter_in (option_map place_view place.entry) }
+fn instr_in(place: Option<Place<'_>>) -> Option<Instr>
+    ensures { result ≡ instr_in (option_map place_view place.entry) }
 {
     match place {
         None => None,
         Some(Place::Word(_)) => None,
-        Some(Place::Op { instr, mention }) => letter(&instr, mention),
+        Some(Place::Op { instr, mention }) => window_instr(&instr, mention),
     }
 }
 
@@ -103,9 +103,9 @@ impl EditedListing {
     ghost use Rattle.padded_code.specs.Padding.{kept};
     ghost use Rattle.padded_code.specs.Windows.{AreRanked};
     ghost use Rattle.window_runs.specs.Rows.{rows_from};
-    ghost use Rattle.window_runs.specs.Runs.{letter_at, run};
+    ghost use Rattle.window_runs.specs.Runs.{instr_at, run};
     ghost use Rattle.edited_listing.specs.Changes.{marks_of};
-    ghost use Rattle.edited_listing.specs.Edited.{letter_in, lines_now, marks, padded, unchanged};
+    ghost use Rattle.edited_listing.specs.Edited.{instr_in, lines_now, marks, padded, unchanged};
     ghost use Rattle.edited_listing.specs.Known.{HasLabelAt};
 
     /// A listing of which nothing is changed.
@@ -133,22 +133,22 @@ impl EditedListing {
     /// The instruction that stands at a place now, where it may stand in a window.
     pub fn instr(&self, place: u32) -> Option<Instr>
         requires { place < length self.now.stands }
-        ensures { result ≡ letter_in (slice_get (padded self.now).places place) }
+        ensures { result ≡ instr_in (slice_get (padded self.now).places place) }
     {
         match self.stands[place as usize] {
-            Standing::Given => letter_in(self.listing.listing().place(place)),
+            Standing::Given => instr_in(self.listing.listing().place(place)),
             Standing::Gone => None,
-            Standing::New { instr, home: _ } => letter(&instr, None),
+            Standing::New { instr, home: _ } => window_instr(&instr, None),
         }
     }
 
     /// The instruction with which a run begins at a kept place, if one does.
-    pub fn first_letter(&self, place: u32) -> Option<Instr>
+    pub fn first_instr(&self, place: u32) -> Option<Instr>
         requires within { place < length self.now.stands }
         requires kept { is_gone (marks self.now) place ≡ false }
-        ensures { result ≡ letter_at true (drop (rank (marks self.now) place) (rows_from false (lines_now self.now))) }
+        ensures { result ≡ instr_at true (drop (rank (marks self.now) place) (rows_from false (lines_now self.now))) }
     {
-        next_letter(&self.listing, &self.stands, true, place, place)
+        next_instr(&self.listing, &self.stands, true, place, place)
     }
 
     /// How many places there are, with those that are gone.
@@ -203,9 +203,9 @@ impl EditedListing {
         requires within { place < length self.old.stands }
         requires kept { is_gone (marks self.old) place ≡ false }
         requires most { most ≤ 5 }
-        ensures letters { result.letters ≡ run true most (drop (rank (marks self.old) place) (rows_from false (lines_now self.old))) }
+        ensures instrs { result.instrs ≡ run true most (drop (rank (marks self.old) place) (rows_from false (lines_now self.old))) }
         ensures places { AreRanked (marks self.old) (rank (marks self.old) place) result.places.items }
-        ensures as_many { length result.places.items ≡ length result.letters }
+        ensures as_many { length result.places.items ≡ length result.instrs }
         ensures same { self.new ≡ self.old }
     {
         run_from(&self.listing, &self.stands, &mut self.kept, place, most)

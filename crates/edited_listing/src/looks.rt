@@ -2,11 +2,11 @@
 ghost use Rattle.std.specs.Prelude.{◌≡◌, ◌<◌, ◌≤◌, ◌^◌, true, false, drop, length, slice_get, IfSome, None};
 ghost use Rattle.kept_places.specs.Marks.{is_gone, rank};
 ghost use Rattle.thumb_model.specs.Listing.{places_of};
-ghost use Rattle.window_runs.specs.Rows.{letter_of, rows_from};
-ghost use Rattle.window_runs.specs.Runs.{letter_at, run};
+ghost use Rattle.window_runs.specs.Rows.{rows_from, window_instr};
+ghost use Rattle.window_runs.specs.Runs.{instr_at, run};
 ghost use Rattle.padded_code.specs.Windows.{AreRanked};
 ghost use Rattle.edited_listing.specs.Changes.{marks_of};
-ghost use Rattle.edited_listing.specs.Edited.{letter_in, lines_now, padded, IsEdited};
+ghost use Rattle.edited_listing.specs.Edited.{instr_in, lines_now, padded, IsEdited};
 ghost use Rattle.edited_listing.specs.Known.{joined_at};
 ghost use Rattle.edited_listing.specs.Looks.{home_of_place, IsNextKept};
 
@@ -19,27 +19,27 @@ use thumb_instr::{Instr, Seq, in_window};
 /// Instructions that may stand in a window, one behind the other with no label and no alignment line between them, and their places.
 #[derive(Drop)]
 pub struct Run {
-    pub letters: Seq,
+    pub instrs: Seq,
     pub places: ArrayVec<u32, 5>,
 }
 
 /// A new instruction, where it may stand in a window.
-fn new_letter(instr: Instr) -> Option<Instr>
-    ensures { result ≡ letter_of instr None }
+fn new_instr(instr: Instr) -> Option<Instr>
+    ensures { result ≡ window_instr instr None }
 {
     if in_window(&instr) { Some(instr) } else { None }
 }
 
 /// The instruction at a place, where it may stand in a window.
-fn letter(given: &GivenListing, stands: &[Standing], place: u32) -> Option<Instr>
+fn standing_instr(given: &GivenListing, stands: &[Standing], place: u32) -> Option<Instr>
     requires places { length stands.now ≡ length (places_of given.now) }
     requires within { place < length stands.now }
-    ensures { result ≡ letter_in (slice_get (padded (record { given = given.now; stands = stands.now })).places place) }
+    ensures { result ≡ instr_in (slice_get (padded (record { given = given.now; stands = stands.now })).places place) }
 {
     match stands[place as usize] {
-        Standing::Given => given.letter(place),
+        Standing::Given => given.instr(place),
         Standing::Gone => None,
-        Standing::New { instr, home: _ } => new_letter(instr),
+        Standing::New { instr, home: _ } => new_instr(instr),
     }
 }
 
@@ -63,7 +63,7 @@ fn is_joined(given: &GivenListing, stands: &[Standing], before: u32, place: u32)
 }
 
 /// The instruction of a place that a run goes on with behind another place, or begins with.
-pub(crate) fn next_letter(
+pub(crate) fn next_instr(
     given: &GivenListing,
     stands: &[Standing],
     begins: bool,
@@ -73,14 +73,14 @@ pub(crate) fn next_letter(
     requires edited { IsEdited (record { given = given.now; stands = stands.now }) }
     requires kept { is_gone (marks_of stands.now) place ≡ false }
     requires follows { begins ≡ false → place < length stands.now → IsNextKept (record { given = given.now; stands = stands.now }) before place }
-    ensures letter { result ≡ letter_at begins (drop (rank (marks_of stands.now) place) (rows_from false (lines_now (record { given = given.now; stands = stands.now })))) }
+    ensures instr { result ≡ instr_at begins (drop (rank (marks_of stands.now) place) (rows_from false (lines_now (record { given = given.now; stands = stands.now })))) }
     ensures within { IfSome result (λ i. place < length stands.now) }
 {
     if place as usize >= stands.len() {
         return None;
     }
     if begins || is_joined(given, stands, before, place) {
-        letter(given, stands, place)
+        standing_instr(given, stands, place)
     } else {
         None
     }
@@ -100,26 +100,26 @@ pub(crate) fn run_from(
     requires within { place < length stands.now }
     requires kept { is_gone (marks_of stands.now) place ≡ false }
     requires most { most ≤ 5 }
-    ensures letters { result.letters ≡ run true most (drop (rank (marks_of stands.now) place) (rows_from false (lines_now (record { given = given.now; stands = stands.now })))) }
+    ensures instrs { result.instrs ≡ run true most (drop (rank (marks_of stands.now) place) (rows_from false (lines_now (record { given = given.now; stands = stands.now })))) }
     ensures places { AreRanked (marks_of stands.now) (rank (marks_of stands.now) place) result.places.items }
-    ensures as_many { length result.places.items ≡ length result.letters }
+    ensures as_many { length result.places.items ≡ length result.instrs }
     ensures same { kept.new ≡ kept.old }
 {
-    let mut letters = Seq::new();
+    let mut instrs = Seq::new();
     let mut places = ArrayVec::new();
     let mut before = place;
     let mut at = place;
-    while letters.len() < most {
-        let count = letters.len();
-        match next_letter(given, stands, count == 0, before, at) {
-            None => return Run { letters, places },
+    while instrs.len() < most {
+        let count = instrs.len();
+        match next_instr(given, stands, count == 0, before, at) {
+            None => return Run { instrs, places },
             Some(instr) => {
-                letters.push(instr);
+                instrs.push(instr);
                 places.push(at);
             }
         }
         before = at;
         at = kept.node(at + 1);
     }
-    Run { letters, places }
+    Run { instrs, places }
 }

@@ -42,13 +42,13 @@ all_are seqs [] mask count numbers none e n = subst (AreCandidates seqs [] mask)
   );
 })
 
-agreeing_candidates : (e : Extent) (t : Trial) (ts : List Trial) (longest mask count : ℕ) (numbers : List ℕ) → e.start ≡ t.start → count ≡ length (sequences_below e.letters (longest + 1))
-    → AreAgreeing (grown_to longest e) (values_of t.end) mask count numbers → AreCandidates (sequences_below e.letters (longest + 1)) (t ∷ ts) mask numbers
+agreeing_candidates : (e : Extent) (t : Trial) (ts : List Trial) (longest mask count : ℕ) (numbers : List ℕ) → e.start ≡ t.start → count ≡ length (sequences_below e.alphabet (longest + 1))
+    → AreAgreeing (grown_to longest e) (values_of t.end) mask count numbers → AreCandidates (sequences_below e.alphabet (longest + 1)) (t ∷ ts) mask numbers
 agreeing_candidates e t ts longest mask count numbers begins c agree = record {
   ascending = agree.ascending;
   within = λ q there. let h = (agree.agreeing q).0 there in omega (arith, h.0, c);
   each = λ q seq at.
-      let long : slice_get (sequences_below e.letters (max e.longest longest + 1)) q ≡ Some seq = below_longest e.letters (longest + 1) (max e.longest longest + 1) q seq (omega arith) at in
+      let long : slice_get (sequences_below e.alphabet (max e.longest longest + 1)) q ≡ Some seq = below_longest e.alphabet (longest + 1) (max e.longest longest + 1) q seq (omega arith) at in
       let start : values_of e.start ≡ values_of t.start = ap (λ (s : WState). values_of s) begins in (
         λ there tells.
             let h = ((agree.agreeing q).0 there).1 in
@@ -56,7 +56,7 @@ agreeing_candidates e t ts longest mask count numbers begins c agree = record {
             let differ : Differ (after_all seq (values_of t.start)) (values_of t.end) mask = flipped (values_of t.end) (after_all seq (values_of t.start)) mask tells in
             h.same (subst (λ v. Differ v (values_of t.end) mask) (ap (λ v. after_all seq v) (sym start) ∙ ap (λ w. after_all w (values_of e.start)) (sym same)) differ),
         λ never.
-            let low : q < count = (let l = slice_get_within (sequences_below e.letters (longest + 1)) q seq at in omega (arith, l, c)) in
+            let low : q < count = (let l = slice_get_within (sequences_below e.alphabet (longest + 1)) q seq at in omega (arith, l, c)) in
             (agree.agreeing q).1 (
               low,
               record {
@@ -68,8 +68,8 @@ agreeing_candidates e t ts longest mask count numbers begins c agree = record {
       );
 }
 
-pub candidates_are : (e later : Extent) (trials : List Trial) (d : Trial) (longest mask count : ℕ) (numbers : List ℕ) → 0 < length trials → BeginsAt e.start trials → count ≡ length (sequences_below e.letters (longest + 1)) → later ≡ grown_to longest e
-    → AreAgreeing later (values_of (get_or trials 0 d).end) mask count numbers → AreCandidates (sequences_below e.letters (longest + 1)) trials mask numbers
+pub candidates_are : (e later : Extent) (trials : List Trial) (d : Trial) (longest mask count : ℕ) (numbers : List ℕ) → 0 < length trials → BeginsAt e.start trials → count ≡ length (sequences_below e.alphabet (longest + 1)) → later ≡ grown_to longest e
+    → AreAgreeing later (values_of (get_or trials 0 d).end) mask count numbers → AreCandidates (sequences_below e.alphabet (longest + 1)) trials mask numbers
 candidates_are e later [] d longest mask count numbers some begins c grown agree = absurd (omega (arith, some))
 candidates_are e later (t ∷ ts) d longest mask count numbers some begins c grown agree =
     agreeing_candidates e t ts longest mask count numbers begins c (subst (λ (x : Extent). AreAgreeing x (values_of t.end) mask count numbers) grown agree)
@@ -85,16 +85,16 @@ grown_some [] longest e h = absurd (omega (arith, h))
 grown_some (t ∷ ts) longest e h = (refl, refl)
 
 -- the table gets no more sequences than there are shorter ones
-pub few_added : (e : Extent) (longest : ℕ) → added longest e ≤ length (sequences_below e.letters (longest + 1))
+pub few_added : (e : Extent) (longest : ℕ) → added longest e ≤ length (sequences_below e.alphabet (longest + 1))
 few_added e longest = elim (cases_lt e.longest longest) [
   | inl more ↦ (
       let most : max e.longest longest + 1 ≡ longest + 1 = omega arith in
-      let size : length (sequences_below e.letters (max e.longest longest + 1)) ≡ length (sequences_below e.letters (longest + 1)) = ap (λ n. length (sequences_below e.letters n)) most in
+      let size : length (sequences_below e.alphabet (max e.longest longest + 1)) ≡ length (sequences_below e.alphabet (longest + 1)) = ap (λ n. length (sequences_below e.alphabet n)) most in
       omega (arith, size)
       )
   | inr enough ↦ (
       let most : max e.longest longest + 1 ≡ e.longest + 1 = omega arith in
-      let size : length (sequences_below e.letters (max e.longest longest + 1)) ≡ length (sequences_below e.letters (e.longest + 1)) = ap (λ n. length (sequences_below e.letters n)) most in
+      let size : length (sequences_below e.alphabet (max e.longest longest + 1)) ≡ length (sequences_below e.alphabet (e.longest + 1)) = ap (λ n. length (sequences_below e.alphabet n)) most in
       omega (arith, size)
       )
 ]
@@ -104,8 +104,8 @@ pub grown_for_same : (k : ℕ) (pool : List ℕ) (start : WState) (trials : List
 grown_for_same k pool start trials longest old new is e = subst (λ (x : Extent). IsFor x.registers pool start x) (sym e) (grown trials)
   where
     grown : (trials : List Trial) → IsFor (grown_for trials longest old).registers pool start (grown_for trials longest old)
-    grown [] = record { registers = refl; letters = is.letters ∙ ap (λ j. alphabet j pool) (sym is.registers); state = is.state }
-    grown (t ∷ ts) = record { registers = refl; letters = is.letters ∙ ap (λ j. alphabet j pool) (sym is.registers); state = is.state }
+    grown [] = record { registers = refl; alphabet = is.alphabet ∙ ap (λ j. alphabet j pool) (sym is.registers); state = is.state }
+    grown (t ∷ ts) = record { registers = refl; alphabet = is.alphabet ∙ ap (λ j. alphabet j pool) (sym is.registers); state = is.state }
 
 -- ---- each other sequence is told ----
 

@@ -35,15 +35,15 @@ pub column_after : (f : Values → Values) (l k : Lanes) (count : ℕ) → ((i :
 column_after f l k count each most = lanes_after f l k each count 0 (omega arith)
 
 -- ---- a sequence, instruction by instruction
-pub rest_is : (letters : List Instr) (i : ℕ) (x : Instr) → i < length letters → x ≡ slice_index_or letters i x → drop i letters ≡ x ∷ drop (i + 1) letters
-rest_is letters i x h item =
+pub rest_is : (instrs : List Instr) (i : ℕ) (x : Instr) → i < length instrs → x ≡ slice_index_or instrs i x → drop i instrs ≡ x ∷ drop (i + 1) instrs
+rest_is instrs i x h item =
     let one : suc i ≡ i + 1 = omega arith in
-    drop-cons letters i x h ∙ ap (λ m. slice_index_or letters i x ∷ drop m letters) one ∙ ap (λ y. y ∷ drop (i + 1) letters) (sym item)
+    drop-cons instrs i x h ∙ ap (λ m. slice_index_or instrs i x ∷ drop m instrs) one ∙ ap (λ y. y ∷ drop (i + 1) instrs) (sym item)
 
-pub over_more : (letters : List Instr) (i : ℕ) (x : Instr) → i < length letters → AreOver 4 (drop i letters) → AreOver 4 (drop (i + 1) letters)
-over_more letters i x h over =
+pub over_more : (instrs : List Instr) (i : ℕ) (x : Instr) → i < length instrs → AreOver 4 (drop i instrs) → AreOver 4 (drop (i + 1) instrs)
+over_more instrs i x h over =
     let one : suc i ≡ i + 1 = omega arith in
-    let here : drop i letters ≡ slice_index_or letters i x ∷ drop (i + 1) letters = drop-cons letters i x h ∙ ap (λ n. slice_index_or letters i x ∷ drop n letters) one in
+    let here : drop i instrs ≡ slice_index_or instrs i x ∷ drop (i + 1) instrs = drop-cons instrs i x h ∙ ap (λ n. slice_index_or instrs i x ∷ drop n instrs) one in
     (rw here at over).2
 
 pub run_on : (instrs : List Instr) (i : ℕ) (x : Instr) (states later whole : List Values) → i < length instrs → x ≡ slice_index_or instrs i x → later ≡ map (after x) states

@@ -11,7 +11,7 @@ use Rattle.window_exec.specs.State.{values_of, Differ}
 use Rattle.seq_enum.specs.Alphabet.{numbers_from, alphabet, words}
 use Rattle.seq_enum.specs.Places.{sum_below}
 use Rattle.seq_enum.proofs.Words.{length-words}
-use Rattle.fingerprints.proofs.Letters.{letter}
+use Rattle.fingerprints.proofs.Members.{member}
 use Rattle.fingerprints.specs.declared.outcome_columns.Columns.{Columns}
 use Rattle.fingerprints.specs.OutcomeColumns.{extended, IsAfter, Holds}
 use Rattle.fingerprints.specs.Looks.{IsLike, AreThose}
@@ -22,55 +22,55 @@ use Rattle.seq_enum.proofs.Weighing.{numbers_split}
 
 -- ---- sequences by their lengths ----
 
-pub below_none : (letters : List Instr) → sequences_below letters 0 ≡ []
+pub below_none : (instrs : List Instr) → sequences_below instrs 0 ≡ []
 unfolding sequences_below numbers_from
-below_none letters = refl
+below_none instrs = refl
 
-pub below_more : (letters : List Instr) (n : ℕ) → sequences_below letters (n + 1) ≡ sequences_below letters n ++ words letters n
+pub below_more : (instrs : List Instr) (n : ℕ) → sequences_below instrs (n + 1) ≡ sequences_below instrs n ++ words instrs n
 unfolding sequences_below numbers_from
-below_more letters n =
+below_more instrs n =
     let none : 0 + n ≡ n = omega arith in
-    ap (flat_map (words letters)) (numbers_split 0 n 1 ∙ ap (λ m. numbers_from 0 n ++ m ∷ []) none) ∙ flat_map-append (words letters) (numbers_from 0 n) (n ∷ []) ∙ ap (λ ws. sequences_below letters n ++ ws) (append-nil (words letters n))
+    ap (flat_map (words instrs)) (numbers_split 0 n 1 ∙ ap (λ m. numbers_from 0 n ++ m ∷ []) none) ∙ flat_map-append (words instrs) (numbers_from 0 n) (n ∷ []) ∙ ap (λ ws. sequences_below instrs n ++ ws) (append-nil (words instrs n))
 
-words_more : (letters : List Instr) (n : ℕ) → words letters (n + 1) ≡ flat_map (extended letters) (words letters n)
+words_more : (instrs : List Instr) (n : ℕ) → words instrs (n + 1) ≡ flat_map (extended instrs) (words instrs n)
 unfolding words
-words_more letters n = ap (words letters) (add-one n)
+words_more instrs n = ap (words instrs) (add-one n)
 
-words_none : (letters : List Instr) → words letters 0 ≡ [] ∷ []
+words_none : (instrs : List Instr) → words instrs 0 ≡ [] ∷ []
 unfolding words
-words_none letters = refl
+words_none instrs = refl
 
-below_one : (letters : List Instr) → sequences_below letters 1 ≡ [] ∷ []
-below_one letters = below_more letters 0 ∙ ap (λ ws. ws ++ words letters 0) (below_none letters) ∙ words_none letters
+below_one : (instrs : List Instr) → sequences_below instrs 1 ≡ [] ∷ []
+below_one instrs = below_more instrs 0 ∙ ap (λ ws. ws ++ words instrs 0) (below_none instrs) ∙ words_none instrs
 
 -- the shorter ones come first
-below_front : (letters : List Instr) (m d q : ℕ) (seq : List Instr) → slice_get (sequences_below letters m) q ≡ Some seq → slice_get (sequences_below letters (m + d)) q ≡ Some seq
-below_front letters m zero q seq at = let e : m + 0 ≡ m = omega arith in rw e at
-below_front letters m (suc d) q seq at =
+below_front : (instrs : List Instr) (m d q : ℕ) (seq : List Instr) → slice_get (sequences_below instrs m) q ≡ Some seq → slice_get (sequences_below instrs (m + d)) q ≡ Some seq
+below_front instrs m zero q seq at = let e : m + 0 ≡ m = omega arith in rw e at
+below_front instrs m (suc d) q seq at =
     let e : m + suc d ≡ m + d + 1 = omega arith in
-    let before = below_front letters m d q seq at in
-    let low = slice_get_within (sequences_below letters (m + d)) q seq before in
-    rw e (ap (λ ws. slice_get ws q) (below_more letters (m + d)) ∙ get_front (sequences_below letters (m + d)) (words letters (m + d)) q low ∙ before)
+    let before = below_front instrs m d q seq at in
+    let low = slice_get_within (sequences_below instrs (m + d)) q seq before in
+    rw e (ap (λ ws. slice_get ws q) (below_more instrs (m + d)) ∙ get_front (sequences_below instrs (m + d)) (words instrs (m + d)) q low ∙ before)
 
-pub below_longest : (letters : List Instr) (m n q : ℕ) (seq : List Instr) → m ≤ n → slice_get (sequences_below letters m) q ≡ Some seq → slice_get (sequences_below letters n) q ≡ Some seq
-below_longest letters m n q seq h at = let e : m + (n - m) ≡ n = omega arith in subst (λ j. slice_get (sequences_below letters j) q ≡ Some seq) e (below_front letters m (n - m) q seq at)
+pub below_longest : (instrs : List Instr) (m n q : ℕ) (seq : List Instr) → m ≤ n → slice_get (sequences_below instrs m) q ≡ Some seq → slice_get (sequences_below instrs n) q ≡ Some seq
+below_longest instrs m n q seq h at = let e : m + (n - m) ≡ n = omega arith in subst (λ j. slice_get (sequences_below instrs j) q ≡ Some seq) e (below_front instrs m (n - m) q seq at)
 
 -- a sequence as a value of its own
 pub some_short : (o : Option (List Instr)) (xs : List Instr) → IsSome o ↔ (length xs ≤ 5) → IfSome o (λ s. s ≡ xs) → length xs ≤ 5 → o ≡ Some xs
 some_short None xs valid value short = absurd (let h = valid.1 short in cc)
 some_short (Some s) xs valid value short = ap (λ z. Some z) value
 
--- ---- the letters ----
+-- ---- the alphabet ----
 
 over_from : (k : ℕ) (pool : List ℕ) (xs : List Instr) → k ≤ 8 → ((i : ℕ) (x : Instr) → slice_get xs i ≡ Some x → (j : ℕ) × (slice_get (alphabet k pool) j ≡ Some x)) → AreOver k xs
 over_from k pool [] few each = tt
 over_from k pool (x ∷ xs) few each =
     let at = each 0 x refl in
-    let l = letter k pool at.0 x few at.1 in
+    let l = member k pool at.0 x few at.1 in
     (l.window, l.below, over_from k pool xs few (λ i. each (suc i)))
 
-pub letters_over : (k : ℕ) (pool : List ℕ) → k ≤ 4 → AreOver k (alphabet k pool)
-letters_over k pool few = over_from k pool (alphabet k pool) (omega arith) (λ i x at. (i, at))
+pub instrs_over : (k : ℕ) (pool : List ℕ) → k ≤ 4 → AreOver k (alphabet k pool)
+instrs_over k pool few = over_from k pool (alphabet k pool) (omega arith) (λ i x at. (i, at))
 
 -- ---- the table of the empty sequence ----
 
@@ -78,9 +78,9 @@ either : (b : Bool) (n : ℕ) → n ≡ cond b n n
 either true n = refl
 either false n = refl
 
-pub begun : (k : ℕ) (pool : List ℕ) (letters : List Instr) (start : WState) (none one : Columns) → 0 < k → k ≤ 4 → letters ≡ alphabet k pool → 0 < length letters → length letters ≤ 1952 → length start.r ≡ 4
-    → none.r0.items ≡ [] → none.r1.items ≡ [] → none.r2.items ≡ [] → none.r3.items ≡ [] → none.flags.items ≡ [] → IsAfter k start none one → IsTable k letters start 0 0 one
-begun k pool letters start none one some few is letters_some letters_few four r0 r1 r2 r3 flags after =
+pub begun : (k : ℕ) (pool : List ℕ) (instrs : List Instr) (start : WState) (none one : Columns) → 0 < k → k ≤ 4 → instrs ≡ alphabet k pool → 0 < length instrs → length instrs ≤ 1952 → length start.r ≡ 4
+    → none.r0.items ≡ [] → none.r1.items ≡ [] → none.r2.items ≡ [] → none.r3.items ≡ [] → none.flags.items ≡ [] → IsAfter k start none one → IsTable k instrs start 0 0 one
+begun k pool instrs start none one some few is instrs_some instrs_few four r0 r1 r2 r3 flags after =
     let empty : Holds k start [] none = record {
       r0 = ap length r0 ∙ either (nat_lt 0 k) 0;
       r1 = ap length r1 ∙ either (nat_lt 1 k) 0;
@@ -92,70 +92,70 @@ begun k pool letters start none one some few is letters_some letters_few four r0
     record {
       some = some;
       few = few;
-      some_letters = letters_some;
-      few_letters = letters_few;
-      over = subst (AreOver k) (sym is) (letters_over k pool few);
+      some_instrs = instrs_some;
+      few_instrs = instrs_few;
+      over = subst (AreOver k) (sym is) (instrs_over k pool few);
       short = omega arith;
-      before = sym (ap length (below_none letters));
-      holds = subst (λ ws. Holds k start ws one) (sym (below_one letters)) (holds_more k start [] [] none one start empty after (λ x past low. refl) four refl);
+      before = sym (ap length (below_none instrs));
+      holds = subst (λ ws. Holds k start ws one) (sym (below_one instrs)) (holds_more k start [] [] none one start empty after (λ x past low. refl) four refl);
     }
 
 -- ---- longer ones ----
 
--- how many there are of the sequences of one letter more
-pub record IsGrown (k : ℕ) (letters : List Instr) (start : WState) (longest first : ℕ) (columns : Columns) : Type 0 where
-  pub before : first ≡ length (sequences_below letters longest)
-  pub holds : Holds k start (sequences_below letters (longest + 1)) columns
+-- how many there are of the sequences of one instruction more
+pub record IsGrown (k : ℕ) (instrs : List Instr) (start : WState) (longest first : ℕ) (columns : Columns) : Type 0 where
+  pub before : first ≡ length (sequences_below instrs longest)
+  pub holds : Holds k start (sequences_below instrs (longest + 1)) columns
 
-pub grown_first : (k : ℕ) (letters : List Instr) (start : WState) (longest first : ℕ) (c : Columns) → IsGrown k letters start longest first c → first ≤ length c.flags.items
-grown_first k letters start longest first c h =
-    let more = ap length (below_more letters longest) in
-    omega (arith, h.before, h.holds.flags, more, length-append (sequences_below letters longest) (words letters longest))
+pub grown_first : (k : ℕ) (instrs : List Instr) (start : WState) (longest first : ℕ) (c : Columns) → IsGrown k instrs start longest first c → first ≤ length c.flags.items
+grown_first k instrs start longest first c h =
+    let more = ap length (below_more instrs longest) in
+    omega (arith, h.before, h.holds.flags, more, length-append (sequences_below instrs longest) (words instrs longest))
 
-pub grown_count : (k : ℕ) (letters : List Instr) (start : WState) (longest first : ℕ) (c : Columns) → IsGrown k letters start longest first c
-    → (length c.flags.items - first) * length letters + length (sequences_below letters (longest + 1)) ≡ length (sequences_below letters (longest + 1 + 1))
-grown_count k letters start longest first c h =
-    let one = ap length (below_more letters longest) ∙ length-append (sequences_below letters longest) (words letters longest) in
-    let two = ap length (below_more letters (longest + 1)) ∙ length-append (sequences_below letters (longest + 1)) (words letters (longest + 1)) in
-    let block : length c.flags.items - first ≡ length (words letters longest) = omega (arith, h.before, h.holds.flags, one) in
-    let pieces : length (words letters (longest + 1)) ≡ length (words letters longest) * length letters =
-    ap length (words_more letters longest) ∙ all_extended letters (words letters longest) in
-    ap (λ n. n * length letters + length (sequences_below letters (longest + 1))) block ∙ omega (arith, two, pieces)
+pub grown_count : (k : ℕ) (instrs : List Instr) (start : WState) (longest first : ℕ) (c : Columns) → IsGrown k instrs start longest first c
+    → (length c.flags.items - first) * length instrs + length (sequences_below instrs (longest + 1)) ≡ length (sequences_below instrs (longest + 1 + 1))
+grown_count k instrs start longest first c h =
+    let one = ap length (below_more instrs longest) ∙ length-append (sequences_below instrs longest) (words instrs longest) in
+    let two = ap length (below_more instrs (longest + 1)) ∙ length-append (sequences_below instrs (longest + 1)) (words instrs (longest + 1)) in
+    let block : length c.flags.items - first ≡ length (words instrs longest) = omega (arith, h.before, h.holds.flags, one) in
+    let pieces : length (words instrs (longest + 1)) ≡ length (words instrs longest) * length instrs =
+    ap length (words_more instrs longest) ∙ all_extended instrs (words instrs longest) in
+    ap (λ n. n * length instrs + length (sequences_below instrs (longest + 1))) block ∙ omega (arith, two, pieces)
   where
-    all_extended : (letters : List Instr) (ws : List (List Instr)) → length (flat_map (extended letters) ws) ≡ length ws * length letters
-    all_extended letters [] = omega arith
-    all_extended letters (w ∷ ws) =
-        length-append (extended letters w) (flat_map (extended letters) ws) ∙ omega (arith, length-map letters (λ x. w ++ x ∷ []), all_extended letters ws)
+    all_extended : (instrs : List Instr) (ws : List (List Instr)) → length (flat_map (extended instrs) ws) ≡ length ws * length instrs
+    all_extended instrs [] = omega arith
+    all_extended instrs (w ∷ ws) =
+        length-append (extended instrs w) (flat_map (extended instrs) ws) ∙ omega (arith, length-map instrs (λ x. w ++ x ∷ []), all_extended instrs ws)
 
-pub grown_once : (k : ℕ) (letters : List Instr) (start : WState) (longest first next : ℕ) (old new : Columns) → IsGrown k letters start longest first old → next ≡ length old.flags.items
-    → ((shorter longest : List (List Instr)) → length shorter ≡ first → Holds k start (shorter ++ longest) old → Holds k start (shorter ++ longest ++ flat_map (extended letters) longest) new)
-    → IsGrown k letters start (longest + 1) next new
-grown_once k letters start longest first next old new h e push =
-    let whole : Holds k start (sequences_below letters longest ++ words letters longest) old = subst (λ ws. Holds k start ws old) (below_more letters longest) h.holds in
-    let then = push (sequences_below letters longest) (words letters longest) (sym h.before) whole in
-    let lists : sequences_below letters longest ++ words letters longest ++ flat_map (extended letters) (words letters longest) ≡ sequences_below letters (longest + 1 + 1) =
-    ap (λ ws. ws ++ flat_map (extended letters) (words letters longest)) (sym (below_more letters longest)) ∙ ap (λ ws. sequences_below letters (longest + 1) ++ ws) (sym (words_more letters longest)) ∙ sym (below_more letters (longest + 1)) in
+pub grown_once : (k : ℕ) (instrs : List Instr) (start : WState) (longest first next : ℕ) (old new : Columns) → IsGrown k instrs start longest first old → next ≡ length old.flags.items
+    → ((shorter longest : List (List Instr)) → length shorter ≡ first → Holds k start (shorter ++ longest) old → Holds k start (shorter ++ longest ++ flat_map (extended instrs) longest) new)
+    → IsGrown k instrs start (longest + 1) next new
+grown_once k instrs start longest first next old new h e push =
+    let whole : Holds k start (sequences_below instrs longest ++ words instrs longest) old = subst (λ ws. Holds k start ws old) (below_more instrs longest) h.holds in
+    let then = push (sequences_below instrs longest) (words instrs longest) (sym h.before) whole in
+    let lists : sequences_below instrs longest ++ words instrs longest ++ flat_map (extended instrs) (words instrs longest) ≡ sequences_below instrs (longest + 1 + 1) =
+    ap (λ ws. ws ++ flat_map (extended instrs) (words instrs longest)) (sym (below_more instrs longest)) ∙ ap (λ ws. sequences_below instrs (longest + 1) ++ ws) (sym (words_more instrs longest)) ∙ sym (below_more instrs (longest + 1)) in
     record { before = e ∙ h.holds.flags; holds = subst (λ ws. Holds k start ws new) lists then }
 
-below_grows : (letters : List Instr) (m d : ℕ) → length (sequences_below letters m) ≤ length (sequences_below letters (m + d))
-below_grows letters m zero = let e : m + 0 ≡ m = omega arith in rw e (omega arith)
-below_grows letters m (suc d) =
+below_grows : (instrs : List Instr) (m d : ℕ) → length (sequences_below instrs m) ≤ length (sequences_below instrs (m + d))
+below_grows instrs m zero = let e : m + 0 ≡ m = omega arith in rw e (omega arith)
+below_grows instrs m (suc d) =
     let e : m + suc d ≡ m + d + 1 = omega arith in
-    let one = ap length (below_more letters (m + d)) ∙ length-append (sequences_below letters (m + d)) (words letters (m + d)) in
-    rw e (omega (arith, one, below_grows letters m d))
+    let one = ap length (below_more instrs (m + d)) ∙ length-append (sequences_below instrs (m + d)) (words instrs (m + d)) in
+    rw e (omega (arith, one, below_grows instrs m d))
 
-pub below_longer : (letters : List Instr) (m n : ℕ) → m ≤ n → length (sequences_below letters m) ≤ length (sequences_below letters n)
-below_longer letters m n h = let e : m + (n - m) ≡ n = omega arith in subst (λ j. length (sequences_below letters m) ≤ length (sequences_below letters j)) e (below_grows letters m (n - m))
+pub below_longer : (instrs : List Instr) (m n : ℕ) → m ≤ n → length (sequences_below instrs m) ≤ length (sequences_below instrs n)
+below_longer instrs m n h = let e : m + (n - m) ≡ n = omega arith in subst (λ j. length (sequences_below instrs m) ≤ length (sequences_below instrs j)) e (below_grows instrs m (n - m))
 
-length-below : (letters : List Instr) (n : ℕ) → length (sequences_below letters n) ≡ sum_below (λ m. length letters ^ m) n
+length-below : (instrs : List Instr) (n : ℕ) → length (sequences_below instrs n) ≡ sum_below (λ m. length instrs ^ m) n
 unfolding sum_below
-length-below letters zero = ap length (below_none letters)
-length-below letters (suc n) =
-    let one = ap length (below_more letters n) ∙ length-append (sequences_below letters n) (words letters n) in
-    ap (λ m. length (sequences_below letters m)) (sym (add-one n)) ∙ one ∙ omega (arith, length-below letters n, length-words letters n)
+length-below instrs zero = ap length (below_none instrs)
+length-below instrs (suc n) =
+    let one = ap length (below_more instrs n) ∙ length-append (sequences_below instrs n) (words instrs n) in
+    ap (λ m. length (sequences_below instrs m)) (sym (add-one n)) ∙ one ∙ omega (arith, length-below instrs n, length-words instrs n)
 
-pub count_is : (letters : List Instr) (n m size count : ℕ) → size ≡ length letters → m ≡ n → count ≡ sum_below (λ i. size ^ i) m → count ≡ length (sequences_below letters n)
-count_is letters n m size count e f h = h ∙ ap (λ s. sum_below (λ i. s ^ i) m) e ∙ ap (λ j. sum_below (λ i. length letters ^ i) j) f ∙ sym (length-below letters n)
+pub count_is : (instrs : List Instr) (n m size count : ℕ) → size ≡ length instrs → m ≡ n → count ≡ sum_below (λ i. size ^ i) m → count ≡ length (sequences_below instrs n)
+count_is instrs n m size count e f h = h ∙ ap (λ s. sum_below (λ i. s ^ i) m) e ∙ ap (λ j. sum_below (λ i. length instrs ^ i) j) f ∙ sym (length-below instrs n)
 
 -- ---- what agrees ----
 

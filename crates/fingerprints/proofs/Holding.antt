@@ -15,7 +15,7 @@ use Rattle.window_exec.specs.declared.state.WState.{WState}
 use Rattle.window_exec.specs.State.{values_of}
 use Rattle.seq_enum.proofs.Numbered.{get_back}
 use Rattle.fingerprints.specs.declared.outcome_columns.Columns.{Columns}
-use Rattle.fingerprints.proofs.KeptRegisters.{letter_keeps}
+use Rattle.fingerprints.proofs.KeptRegisters.{instr_keeps}
 use Rattle.fingerprints.specs.OutcomeColumns.{outcome_at, extended, IsAfter, count_for, Holds, KeepsFrom, HaveRoom}
 use Rattle.fingerprints.specs.Print.{one_if}
 use Rattle.common_lemmas.proofs.Lists.{get_front}
@@ -113,30 +113,30 @@ module _ (k : ℕ) (start : WState) (seqs : List (List Instr)) (seq : List Instr
         ];
       }
 
--- ---- a letter more behind a sequence ----
+-- ---- an instruction more behind a sequence ----
 
 after_more : (seq : List Instr) (x : Instr) (v : Values) → after_all (seq ++ x ∷ []) v ≡ after x (after_all seq v)
 after_more [] x v = refl
 after_more (i ∷ is) x v = after_more is x (after i v)
 
-extended_more : (letters : List Instr) (seq : List Instr) (i : ℕ) (x : Instr) → i < length letters → x ≡ get_or letters i x → extended (take (i + 1) letters) seq ≡ extended (take i letters) seq ++ (seq ++ x ∷ []) ∷ []
-extended_more letters seq i x low item =
-    ap (λ ls. extended ls seq) (take_more letters i x low ∙ ap (λ y. take i letters ++ y ∷ []) (sym item)) ∙ map-append (λ y. seq ++ y ∷ []) (take i letters) (x ∷ [])
+extended_more : (alphabet : List Instr) (seq : List Instr) (i : ℕ) (x : Instr) → i < length alphabet → x ≡ get_or alphabet i x → extended (take (i + 1) alphabet) seq ≡ extended (take i alphabet) seq ++ (seq ++ x ∷ []) ∷ []
+extended_more alphabet seq i x low item =
+    ap (λ ls. extended ls seq) (take_more alphabet i x low ∙ ap (λ y. take i alphabet ++ y ∷ []) (sym item)) ∙ map-append (λ y. seq ++ y ∷ []) (take i alphabet) (x ∷ [])
 
-pub letter_next : (k : ℕ) (start : WState) (seqs : List (List Instr)) (seq letters : List Instr) (i : ℕ) (x : Instr) (old new : Columns) (from s : WState) → i < length letters → x ≡ get_or letters i x
-    → is_in_window x ≡ true → AreBelow k (named x) → Holds k start (seqs ++ extended (take i letters) seq) old → IsAfter k s old new → KeepsFrom k start from → length s.r ≡ 4
-    → values_of s ≡ after x (values_of from) → values_of from ≡ after_all seq (values_of start) → Holds k start (seqs ++ extended (take (i + 1) letters) seq) new
-letter_next k start seqs seq letters i x old new from s low item window below h is keeps four step end =
-    let later : KeepsFrom k start s = λ y past few. ap (λ v. v y) step ∙ letter_keeps k y x (values_of from) window below past (omega arith) ∙ keeps y past few in
+pub instr_next : (k : ℕ) (start : WState) (seqs : List (List Instr)) (seq alphabet : List Instr) (i : ℕ) (x : Instr) (old new : Columns) (from s : WState) → i < length alphabet → x ≡ get_or alphabet i x
+    → is_in_window x ≡ true → AreBelow k (named x) → Holds k start (seqs ++ extended (take i alphabet) seq) old → IsAfter k s old new → KeepsFrom k start from → length s.r ≡ 4
+    → values_of s ≡ after x (values_of from) → values_of from ≡ after_all seq (values_of start) → Holds k start (seqs ++ extended (take (i + 1) alphabet) seq) new
+instr_next k start seqs seq alphabet i x old new from s low item window below h is keeps four step end =
+    let later : KeepsFrom k start s = λ y past few. ap (λ v. v y) step ∙ instr_keeps k y x (values_of from) window below past (omega arith) ∙ keeps y past few in
     let there : values_of s ≡ after_all (seq ++ x ∷ []) (values_of start) = step ∙ ap (after x) end ∙ sym (after_more seq x (values_of start)) in
-    let more : seqs ++ extended (take (i + 1) letters) seq ≡ seqs ++ extended (take i letters) seq ++ (seq ++ x ∷ []) ∷ [] =
-    ap (λ ws. seqs ++ ws) (extended_more letters seq i x low item) ∙ sym (append_assoc seqs (extended (take i letters) seq) ((seq ++ x ∷ []) ∷ [])) in
-    subst (λ ws. Holds k start ws new) (sym more) (holds_more k start (seqs ++ extended (take i letters) seq) (seq ++ x ∷ []) old new s h is later four there)
+    let more : seqs ++ extended (take (i + 1) alphabet) seq ≡ seqs ++ extended (take i alphabet) seq ++ (seq ++ x ∷ []) ∷ [] =
+    ap (λ ws. seqs ++ ws) (extended_more alphabet seq i x low item) ∙ sym (append_assoc seqs (extended (take i alphabet) seq) ((seq ++ x ∷ []) ∷ [])) in
+    subst (λ ws. Holds k start ws new) (sym more) (holds_more k start (seqs ++ extended (take i alphabet) seq) (seq ++ x ∷ []) old new s h is later four there)
 
-pub letters_done : (k : ℕ) (start : WState) (seqs : List (List Instr)) (seq letters : List Instr) (i : ℕ) (c : Columns) → length letters ≤ i → Holds k start (seqs ++ extended (take i letters) seq) c → Holds k start (seqs ++ extended letters seq) c
-letters_done k start seqs seq letters i c past h = subst (λ ls. Holds k start (seqs ++ extended ls seq) c) (take_all i letters past) h
+pub instrs_done : (k : ℕ) (start : WState) (seqs : List (List Instr)) (seq alphabet : List Instr) (i : ℕ) (c : Columns) → length alphabet ≤ i → Holds k start (seqs ++ extended (take i alphabet) seq) c → Holds k start (seqs ++ extended alphabet seq) c
+instrs_done k start seqs seq alphabet i c past h = subst (λ ls. Holds k start (seqs ++ extended ls seq) c) (take_all i alphabet past) h
 
--- ---- a sequence more, with each letter behind it ----
+-- ---- a sequence more, with each instruction behind it ----
 
 empty_column : (register k count i d : ℕ) (xs : List ℕ) → length xs ≡ count_for register k count → k ≤ register → get_or xs i d ≡ d
 empty_column register k count i d [] e past = refl
@@ -163,34 +163,34 @@ next_at shorter longest more first place size past low =
       within,
     )
 
-pub sequence_next : (letters : List Instr) (longest : List (List Instr)) (first place : ℕ) (seq : List Instr) → first ≤ place → place - first < length longest → seq ≡ get_or longest (place - first) seq
-    → flat_map (extended letters) (take (place + 1 - first) longest) ≡ flat_map (extended letters) (take (place - first) longest) ++ extended letters seq
-sequence_next letters longest first place seq past low item =
+pub sequence_next : (alphabet : List Instr) (longest : List (List Instr)) (first place : ℕ) (seq : List Instr) → first ≤ place → place - first < length longest → seq ≡ get_or longest (place - first) seq
+    → flat_map (extended alphabet) (take (place + 1 - first) longest) ≡ flat_map (extended alphabet) (take (place - first) longest) ++ extended alphabet seq
+sequence_next alphabet longest first place seq past low item =
     let one : place + 1 - first ≡ place - first + 1 = omega arith in
-    ap (λ n. flat_map (extended letters) (take n longest)) one
-    ∙ ap (flat_map (extended letters)) (take_more longest (place - first) seq low ∙ ap (λ w. take (place - first) longest ++ w ∷ []) (sym item))
-    ∙ flat_map-append (extended letters) (take (place - first) longest) (seq ∷ [])
-    ∙ ap (λ ws. flat_map (extended letters) (take (place - first) longest) ++ ws) (append-nil (extended letters seq))
+    ap (λ n. flat_map (extended alphabet) (take n longest)) one
+    ∙ ap (flat_map (extended alphabet)) (take_more longest (place - first) seq low ∙ ap (λ w. take (place - first) longest ++ w ∷ []) (sym item))
+    ∙ flat_map-append (extended alphabet) (take (place - first) longest) (seq ∷ [])
+    ∙ ap (λ ws. flat_map (extended alphabet) (take (place - first) longest) ++ ws) (append-nil (extended alphabet seq))
 
-pub holds_next : (k : ℕ) (start : WState) (letters : List Instr) (shorter longest : List (List Instr)) (first place : ℕ) (old new : Columns) (from : WState) → length shorter ≡ first → first ≤ place → place < length (shorter ++ longest)
-    → Holds k start (shorter ++ longest ++ flat_map (extended letters) (take (place - first) longest)) old → from ≡ outcome_at old start place
-    → ((seqs : List (List Instr)) (seq : List Instr) → Holds k start seqs old → KeepsFrom k start from → values_of from ≡ after_all seq (values_of start) → Holds k start (seqs ++ extended letters seq) new)
-    → Holds k start (shorter ++ longest ++ flat_map (extended letters) (take (place + 1 - first) longest)) new
-holds_next k start letters shorter longest first place old new from size past low h is next =
-    let more = flat_map (extended letters) (take (place - first) longest) in
+pub holds_next : (k : ℕ) (start : WState) (alphabet : List Instr) (shorter longest : List (List Instr)) (first place : ℕ) (old new : Columns) (from : WState) → length shorter ≡ first → first ≤ place → place < length (shorter ++ longest)
+    → Holds k start (shorter ++ longest ++ flat_map (extended alphabet) (take (place - first) longest)) old → from ≡ outcome_at old start place
+    → ((seqs : List (List Instr)) (seq : List Instr) → Holds k start seqs old → KeepsFrom k start from → values_of from ≡ after_all seq (values_of start) → Holds k start (seqs ++ extended alphabet seq) new)
+    → Holds k start (shorter ++ longest ++ flat_map (extended alphabet) (take (place + 1 - first) longest)) new
+holds_next k start alphabet shorter longest first place old new from size past low h is next =
+    let more = flat_map (extended alphabet) (take (place - first) longest) in
     let here = next_at shorter longest more first place size past low in
     let keeps : KeepsFrom k start from = subst (KeepsFrom k start) (sym is) (keeps_at k start (shorter ++ longest ++ more) old place h) in
     let end : values_of from ≡ after_all here.0 (values_of start) = ap (λ s. values_of s) is ∙ h.outcomes place here.0 here.1 in
     let grown = next (shorter ++ longest ++ more) here.0 h keeps end in
-    let lists : shorter ++ longest ++ flat_map (extended letters) (take (place + 1 - first) longest) ≡ shorter ++ longest ++ more ++ extended letters here.0 =
-    ap (λ ws. shorter ++ longest ++ ws) (sequence_next letters longest first place here.0 past here.3 here.2) ∙ sym (append_assoc (shorter ++ longest) more (extended letters here.0)) in
+    let lists : shorter ++ longest ++ flat_map (extended alphabet) (take (place + 1 - first) longest) ≡ shorter ++ longest ++ more ++ extended alphabet here.0 =
+    ap (λ ws. shorter ++ longest ++ ws) (sequence_next alphabet longest first place here.0 past here.3 here.2) ∙ sym (append_assoc (shorter ++ longest) more (extended alphabet here.0)) in
     subst (λ ws. Holds k start ws new) (sym lists) grown
 
-pub lengths_done : (k : ℕ) (start : WState) (letters : List Instr) (shorter longest : List (List Instr)) (first place count : ℕ) (old c : Columns) → length shorter ≡ first → Holds k start (shorter ++ longest) old → count ≡ length old.flags.items → count ≤ place
-    → Holds k start (shorter ++ longest ++ flat_map (extended letters) (take (place - first) longest)) c → Holds k start (shorter ++ longest ++ flat_map (extended letters) longest) c
-lengths_done k start letters shorter longest first place count old c size h e past g =
+pub lengths_done : (k : ℕ) (start : WState) (alphabet : List Instr) (shorter longest : List (List Instr)) (first place count : ℕ) (old c : Columns) → length shorter ≡ first → Holds k start (shorter ++ longest) old → count ≡ length old.flags.items → count ≤ place
+    → Holds k start (shorter ++ longest ++ flat_map (extended alphabet) (take (place - first) longest)) c → Holds k start (shorter ++ longest ++ flat_map (extended alphabet) longest) c
+lengths_done k start alphabet shorter longest first place count old c size h e past g =
     let all : length longest ≤ place - first = omega (arith, length-append shorter longest, h.flags) in
-    subst (λ ws. Holds k start (shorter ++ longest ++ flat_map (extended letters) ws) c) (take_all (place - first) longest all) g
+    subst (λ ws. Holds k start (shorter ++ longest ++ flat_map (extended alphabet) ws) c) (take_all (place - first) longest all) g
 
 -- ---- room ----
 

@@ -58,14 +58,14 @@ others k x (y ∷ ys) h l a =
     let other : (x == y) ≡ false = ne_eqb x y (λ e. elim a.0 [ inl low ↦ omega arith | inr high ↦ omega arith ]) in
     rw other (others k x ys h l a.1)
 
-pub letter_keeps : (k x : ℕ) (i : Instr) (v : Values) → is_in_window i ≡ true → AreBelow k (named i) → k ≤ x → x < 15 → after i v x ≡ v x
-letter_keeps k x i v t b h l = assigned_other (outputs i v) v x (others k x (keys (outputs i v)) h l (outputs_written k i v t b))
+pub instr_keeps : (k x : ℕ) (i : Instr) (v : Values) → is_in_window i ≡ true → AreBelow k (named i) → k ≤ x → x < 15 → after i v x ≡ v x
+instr_keeps k x i v t b h l = assigned_other (outputs i v) v x (others k x (keys (outputs i v)) h l (outputs_written k i v t b))
 
--- ---- letters, one after the other ----
+-- ---- instructions, one after the other ----
 
-pub over_at : (k : ℕ) (letters : List Instr) (i : ℕ) (x : Instr) → i < length letters → x ≡ get_or letters i x → AreOver k (drop i letters)
-    → (is_in_window x ≡ true) × AreBelow k (named x) × AreOver k (drop (i + 1) letters)
-over_at k letters i x h item over =
+pub over_at : (k : ℕ) (instrs : List Instr) (i : ℕ) (x : Instr) → i < length instrs → x ≡ get_or instrs i x → AreOver k (drop i instrs)
+    → (is_in_window x ≡ true) × AreBelow k (named x) × AreOver k (drop (i + 1) instrs)
+over_at k instrs i x h item over =
     let one : suc i ≡ i + 1 = omega arith in
-    let here : drop i letters ≡ x ∷ drop (i + 1) letters = drop-cons letters i x h ∙ ap (λ n. get_or letters i x ∷ drop n letters) one ∙ ap (λ y. y ∷ drop (i + 1) letters) (sym item) in
+    let here : drop i instrs ≡ x ∷ drop (i + 1) instrs = drop-cons instrs i x h ∙ ap (λ n. get_or instrs i x ∷ drop n instrs) one ∙ ap (λ y. y ∷ drop (i + 1) instrs) (sym item) in
     subst (AreOver k) here over

@@ -6,7 +6,7 @@ pub mod FlagLemmas
 pub mod Seeds
 pub mod ColumnLemmas
 pub mod KeptLemmas
-pub mod Letters
+pub mod Members
 pub mod PrintLemmas
 pub mod SequenceLemmas
 pub mod StateLemmas

@@ -64,66 +64,66 @@ place_found print n (p ∷ ps) (suc i) e =
 
 -- the sequences of more instructions
 longer : ℕ → List Instr → List (List Instr)
-longer longest letters = flat_map (words letters) (numbers_from (longest + 1) (5 - longest))
+longer longest alphabet = flat_map (words alphabet) (numbers_from (longest + 1) (5 - longest))
 
-sequences_split : (longest : ℕ) (letters : List Instr) → longest ≤ 5 → sequences_of letters ≡ sequences_within longest letters ++ longer longest letters
+sequences_split : (longest : ℕ) (alphabet : List Instr) → longest ≤ 5 → sequences_of alphabet ≡ sequences_within longest alphabet ++ longer longest alphabet
 unfolding sequences_of sequences_within longer
-sequences_split longest letters h =
+sequences_split longest alphabet h =
     let six : 6 ≡ longest + 1 + (5 - longest) = omega arith in
     let base : 0 + (longest + 1) ≡ longest + 1 = omega arith in
-    ap (λ n. flat_map (words letters) (numbers_from 0 n)) six
-    ∙ ap (flat_map (words letters)) (numbers_split 0 (longest + 1) (5 - longest) ∙ ap (λ b. numbers_from 0 (longest + 1) ++ numbers_from b (5 - longest)) base)
-    ∙ flat_map-append (words letters) (numbers_from 0 (longest + 1)) (numbers_from (longest + 1) (5 - longest))
+    ap (λ n. flat_map (words alphabet) (numbers_from 0 n)) six
+    ∙ ap (flat_map (words alphabet)) (numbers_split 0 (longest + 1) (5 - longest) ∙ ap (λ b. numbers_from 0 (longest + 1) ++ numbers_from b (5 - longest)) base)
+    ∙ flat_map-append (words alphabet) (numbers_from 0 (longest + 1)) (numbers_from (longest + 1) (5 - longest))
 
 -- each word of some lengths has one of them
-pub length_within : (letters : List Instr) (first count i : ℕ) (seq : List Instr) → slice_get (flat_map (words letters) (numbers_from first count)) i ≡ Some seq → (first ≤ length seq) × (length seq < first + count)
-length_within letters first count i seq e =
-    flat_map_at (words letters) (numbers_from first count) i seq e (λ h n j at there.
+pub length_within : (alphabet : List Instr) (first count i : ℕ) (seq : List Instr) → slice_get (flat_map (words alphabet) (numbers_from first count)) i ≡ Some seq → (first ≤ length seq) × (length seq < first + count)
+length_within alphabet first count i seq e =
+    flat_map_at (words alphabet) (numbers_from first count) i seq e (λ h n j at there.
     let low : h < count = omega (arith, slice_get_within (numbers_from first count) h n at, length-from first count) in
     let is : first + h ≡ n = same_Some (first + h) n (sym (numbers_at first count h low) ∙ at) in
-    let size : length seq ≡ n = word_length letters n j seq there in
+    let size : length seq ≡ n = word_length alphabet n j seq there in
     (omega (arith, is, size), omega (arith, low, is, size)))
 
-pub within_is_sequence : (longest : ℕ) (letters : List Instr) (q : ℕ) (seq : List Instr) → longest ≤ 5 → slice_get (sequences_within longest letters) q ≡ Some seq → (slice_get (sequences_of letters) q ≡ Some seq) × (length seq ≤ longest)
+pub within_is_sequence : (longest : ℕ) (alphabet : List Instr) (q : ℕ) (seq : List Instr) → longest ≤ 5 → slice_get (sequences_within longest alphabet) q ≡ Some seq → (slice_get (sequences_of alphabet) q ≡ Some seq) × (length seq ≤ longest)
 unfolding sequences_within
-within_is_sequence longest letters q seq h e = (
-  ap (λ xs. slice_get xs q) (sequences_split longest letters h) ∙ get_front (flat_map (words letters) (numbers_from 0 (longest + 1))) (longer longest letters) q (slice_get_within (flat_map (words letters) (numbers_from 0 (longest + 1))) q seq e) ∙ e,
-  omega (arith, (length_within letters 0 (longest + 1) q seq e).1),
+within_is_sequence longest alphabet q seq h e = (
+  ap (λ xs. slice_get xs q) (sequences_split longest alphabet h) ∙ get_front (flat_map (words alphabet) (numbers_from 0 (longest + 1))) (longer longest alphabet) q (slice_get_within (flat_map (words alphabet) (numbers_from 0 (longest + 1))) q seq e) ∙ e,
+  omega (arith, (length_within alphabet 0 (longest + 1) q seq e).1),
 )
 
-pub sequence_is_within : (longest : ℕ) (letters : List Instr) (q : ℕ) (seq : List Instr) → longest ≤ 5 → slice_get (sequences_of letters) q ≡ Some seq → length seq ≤ longest → slice_get (sequences_within longest letters) q ≡ Some seq
+pub sequence_is_within : (longest : ℕ) (alphabet : List Instr) (q : ℕ) (seq : List Instr) → longest ≤ 5 → slice_get (sequences_of alphabet) q ≡ Some seq → length seq ≤ longest → slice_get (sequences_within longest alphabet) q ≡ Some seq
 unfolding longer
-sequence_is_within longest letters q seq h e l =
-    let split : slice_get (sequences_within longest letters ++ longer longest letters) q ≡ Some seq = ap (λ xs. slice_get xs q) (sym (sequences_split longest letters h)) ∙ e in
-    elim (cases_lt q (length (sequences_within longest letters))) [
-      | inl low ↦ sym (get_front (sequences_within longest letters) (longer longest letters) q low) ∙ split
+sequence_is_within longest alphabet q seq h e l =
+    let split : slice_get (sequences_within longest alphabet ++ longer longest alphabet) q ≡ Some seq = ap (λ xs. slice_get xs q) (sym (sequences_split longest alphabet h)) ∙ e in
+    elim (cases_lt q (length (sequences_within longest alphabet))) [
+      | inl low ↦ sym (get_front (sequences_within longest alphabet) (longer longest alphabet) q low) ∙ split
       | inr past ↦
-          let behind = length_within letters (longest + 1) (5 - longest) (q - length (sequences_within longest letters)) seq (sym (get_back (sequences_within longest letters) (longer longest letters) q past) ∙ split) in
+          let behind = length_within alphabet (longest + 1) (5 - longest) (q - length (sequences_within longest alphabet)) seq (sym (get_back (sequences_within longest alphabet) (longer longest alphabet) q past) ∙ split) in
           absurd (omega (arith, behind.0, l))
     ]
 
 -- ---- candidates
 
-module _ (mask longest print number : ℕ) (states : List Values) (letters : List Instr) (h : longest ≤ 5) where
-  printed : (seq : Option (List Instr)) → slice_get (sequences_within longest letters) number ≡ seq → option_map (print_after mask states) seq ≡ Some print
-      → (seq : List Instr) × (slice_get (sequences_of letters) number ≡ Some seq) × (length seq ≤ longest) × (print_after mask states seq ≡ print)
+module _ (mask longest print number : ℕ) (states : List Values) (alphabet : List Instr) (h : longest ≤ 5) where
+  printed : (seq : Option (List Instr)) → slice_get (sequences_within longest alphabet) number ≡ seq → option_map (print_after mask states) seq ≡ Some print
+      → (seq : List Instr) × (slice_get (sequences_of alphabet) number ≡ Some seq) × (length seq ≤ longest) × (print_after mask states seq ≡ print)
   printed None at e = absurd cc
-  printed (Some seq) at e = let w = within_is_sequence longest letters number seq h at in (seq, w.0, w.1, same_Some _ _ e)
+  printed (Some seq) at e = let w = within_is_sequence longest alphabet number seq h at in (seq, w.0, w.1, same_Some _ _ e)
 
-  pub candidate_is_sequence : Contains (scanned print 0 (prints_within mask states letters longest)) number
-      → (seq : List Instr) × (slice_get (sequences_of letters) number ≡ Some seq) × (length seq ≤ longest) × (print_after mask states seq ≡ print)
+  pub candidate_is_sequence : Contains (scanned print 0 (prints_within mask states alphabet longest)) number
+      → (seq : List Instr) × (slice_get (sequences_of alphabet) number ≡ Some seq) × (length seq ≤ longest) × (print_after mask states seq ≡ print)
   candidate_is_sequence c =
       let k = some_place _ number c in
-      let f = found_place print 0 (prints_within mask states letters longest) k.0 number k.1 in
+      let f = found_place print 0 (prints_within mask states alphabet longest) k.0 number k.1 in
       let same : f.0 ≡ number = omega (arith, f.1) in
-      printed (slice_get (sequences_within longest letters) number) refl
-      (sym (slice_get-map (print_after mask states) (sequences_within longest letters) number) ∙ subst (λ i. slice_get (prints_within mask states letters longest) i ≡ Some print) same f.2)
+      printed (slice_get (sequences_within longest alphabet) number) refl
+      (sym (slice_get-map (print_after mask states) (sequences_within longest alphabet) number) ∙ subst (λ i. slice_get (prints_within mask states alphabet longest) i ≡ Some print) same f.2)
 
-  pub sequence_is_candidate : ((seq : List Instr) × (slice_get (sequences_of letters) number ≡ Some seq) × (length seq ≤ longest) × (print_after mask states seq ≡ print))
-      → Contains (scanned print 0 (prints_within mask states letters longest)) number
+  pub sequence_is_candidate : ((seq : List Instr) × (slice_get (sequences_of alphabet) number ≡ Some seq) × (length seq ≤ longest) × (print_after mask states seq ≡ print))
+      → Contains (scanned print 0 (prints_within mask states alphabet longest)) number
   sequence_is_candidate s =
-      let at : slice_get (prints_within mask states letters longest) number ≡ Some print =
-      slice_get-map (print_after mask states) (sequences_within longest letters) number ∙ ap (option_map (print_after mask states)) (sequence_is_within longest letters number s.0 h s.1 s.2) ∙ ap (λ x. Some x) s.3 in
-      let k = place_found print 0 (prints_within mask states letters longest) number at in
+      let at : slice_get (prints_within mask states alphabet longest) number ≡ Some print =
+      slice_get-map (print_after mask states) (sequences_within longest alphabet) number ∙ ap (option_map (print_after mask states)) (sequence_is_within longest alphabet number s.0 h s.1 s.2) ∙ ap (λ x. Some x) s.3 in
+      let k = place_found print 0 (prints_within mask states alphabet longest) number at in
       let same : 0 + number ≡ number = omega arith in
       contains_at _ number k.0 (k.1 ∙ ap (λ x. Some x) same)

@@ -19,113 +19,113 @@ use Rattle.fingerprints.specs.Columns.{lanes_from, states_of, states_in}
 use Rattle.fingerprints.specs.Sequences.{sequences_within, prints_of, prints_within}
 use Rattle.fingerprints.proofs.ColumnLemmas.{rest_is, unchanged, column_after}
 
--- ---- words with a letter more in front are words with a letter more behind
+-- ---- words with an instruction more in front are words with an instruction more behind
 
--- each letter in front of each word
+-- each instruction in front of each word
 abbrev pub fronted : {A : Type 0} → List (List A) → List A → List (List A)
-fronted ws letters = flat_map (λ x. map (λ w. x ∷ w) ws) letters
+fronted ws alphabet = flat_map (λ x. map (λ w. x ∷ w) ws) alphabet
 
--- each letter behind a word
+-- each instruction behind a word
 abbrev backed : {A : Type 0} → List A → List A → List (List A)
-backed letters w = map (λ x. w ++ x ∷ []) letters
+backed alphabet w = map (λ x. w ++ x ∷ []) alphabet
 
 flat_map-flat_map : {A B C : Type 0} (f : B → List C) (g : A → List B) (xs : List A) → flat_map f (flat_map g xs) ≡ flat_map (λ x. flat_map f (g x)) xs
 flat_map-flat_map f g [] = refl
 flat_map-flat_map f g (x ∷ xs) = flat_map-append f (g x) (flat_map g xs) ∙ ap (λ ys. flat_map f (g x) ++ ys) (flat_map-flat_map f g xs)
 
--- a letter in front stays there when letters come behind
-front_stays : {A : Type 0} (letters : List A) (x : A) (ws : List (List A)) → flat_map (backed letters) (map (λ w. x ∷ w) ws) ≡ map (λ w. x ∷ w) (flat_map (backed letters) ws)
-front_stays letters x [] = refl
-front_stays letters x (w ∷ ws) =
-    ap (λ ys. ys ++ flat_map (backed letters) (map (λ u. x ∷ u) ws)) (sym (map-map (λ u. x ∷ u) (λ y. w ++ y ∷ []) letters))
-    ∙ ap (λ ys. map (λ u. x ∷ u) (backed letters w) ++ ys) (front_stays letters x ws)
-    ∙ sym (map-append (λ u. x ∷ u) (backed letters w) (flat_map (backed letters) ws))
+-- an instruction in front stays there when instructions come behind
+front_stays : {A : Type 0} (alphabet : List A) (x : A) (ws : List (List A)) → flat_map (backed alphabet) (map (λ w. x ∷ w) ws) ≡ map (λ w. x ∷ w) (flat_map (backed alphabet) ws)
+front_stays alphabet x [] = refl
+front_stays alphabet x (w ∷ ws) =
+    ap (λ ys. ys ++ flat_map (backed alphabet) (map (λ u. x ∷ u) ws)) (sym (map-map (λ u. x ∷ u) (λ y. w ++ y ∷ []) alphabet))
+    ∙ ap (λ ys. map (λ u. x ∷ u) (backed alphabet w) ++ ys) (front_stays alphabet x ws)
+    ∙ sym (map-append (λ u. x ∷ u) (backed alphabet w) (flat_map (backed alphabet) ws))
 
-fronts_stay : {A : Type 0} (letters : List A) (ws : List (List A)) (xs : List A) → flat_map (λ x. flat_map (backed letters) (map (λ w. x ∷ w) ws)) xs ≡ fronted (flat_map (backed letters) ws) xs
-fronts_stay letters ws [] = refl
-fronts_stay letters ws (x ∷ xs) = ap (λ ys. ys ++ flat_map (λ y. flat_map (backed letters) (map (λ w. y ∷ w) ws)) xs) (front_stays letters x ws) ∙ ap (λ ys. map (λ w. x ∷ w) (flat_map (backed letters) ws) ++ ys) (fronts_stay letters ws xs)
+fronts_stay : {A : Type 0} (alphabet : List A) (ws : List (List A)) (xs : List A) → flat_map (λ x. flat_map (backed alphabet) (map (λ w. x ∷ w) ws)) xs ≡ fronted (flat_map (backed alphabet) ws) xs
+fronts_stay alphabet ws [] = refl
+fronts_stay alphabet ws (x ∷ xs) = ap (λ ys. ys ++ flat_map (λ y. flat_map (backed alphabet) (map (λ w. y ∷ w) ws)) xs) (front_stays alphabet x ws) ∙ ap (λ ys. map (λ w. x ∷ w) (flat_map (backed alphabet) ws) ++ ys) (fronts_stay alphabet ws xs)
 
 singles : {A : Type 0} (xs : List A) → map (λ x. x ∷ []) xs ++ [] ≡ fronted ([] ∷ []) xs
 singles [] = refl
 singles (x ∷ xs) = ap (λ ys. (x ∷ []) ∷ ys) (singles xs)
 
--- the words of one letter more are each letter in front of the words
-pub words_fronted : {A : Type 0} (letters : List A) (n : ℕ) → words letters (suc n) ≡ fronted (words letters n) letters
+-- the words of one instruction more are each instruction in front of the words
+pub words_fronted : {A : Type 0} (alphabet : List A) (n : ℕ) → words alphabet (suc n) ≡ fronted (words alphabet n) alphabet
 unfolding words
-words_fronted letters zero = singles letters
-words_fronted letters (suc n) =
-    ap (flat_map (backed letters)) (words_fronted letters n)
-    ∙ flat_map-flat_map (backed letters) (λ x. map (λ w. x ∷ w) (words letters n)) letters
-    ∙ fronts_stay letters (words letters n) letters
+words_fronted alphabet zero = singles alphabet
+words_fronted alphabet (suc n) =
+    ap (flat_map (backed alphabet)) (words_fronted alphabet n)
+    ∙ flat_map-flat_map (backed alphabet) (λ x. map (λ w. x ∷ w) (words alphabet n)) alphabet
+    ∙ fronts_stay alphabet (words alphabet n) alphabet
 
--- ---- prints of words by their first letters
+-- ---- prints of words by their first instructions
 
--- the prints of the sequences that begin with one of some letters and go on with n instructions
+-- the prints of the sequences that begin with one of some instructions and go on with n instructions
 unfoldable pub prints_behind : ℕ → List Values → List Instr → ℕ → List Instr → List ℕ
-prints_behind mask states letters n [] = []
-prints_behind mask states letters n (x ∷ xs) = prints_of mask (map (after x) states) letters n ++ prints_behind mask states letters n xs
+prints_behind mask states alphabet n [] = []
+prints_behind mask states alphabet n (x ∷ xs) = prints_of mask (map (after x) states) alphabet n ++ prints_behind mask states alphabet n xs
 
 -- one instruction more in front is one step more of the states
-one_letter : (mask : ℕ) (states : List Values) (x : Instr) (ws : List (List Instr))
+one_instr : (mask : ℕ) (states : List Values) (x : Instr) (ws : List (List Instr))
     → map (print_after mask states) (map (λ w. x ∷ w) ws) ≡ map (print_after mask (map (after x) states)) ws
-one_letter mask states x [] = refl
-one_letter mask states x (w ∷ ws) =
+one_instr mask states x [] = refl
+one_instr mask states x (w ∷ ws) =
     ap (λ vs. print_from mask 0 vs ∷ map (print_after mask states) (map (λ u. x ∷ u) ws)) (sym (map-map (after_all w) (after x) states))
-    ∙ ap (λ ns. print_after mask (map (after x) states) w ∷ ns) (one_letter mask states x ws)
+    ∙ ap (λ ns. print_after mask (map (after x) states) w ∷ ns) (one_instr mask states x ws)
 
-among : (mask : ℕ) (states : List Values) (letters : List Instr) (n : ℕ) (xs : List Instr)
-    → map (print_after mask states) (fronted (words letters n) xs) ≡ prints_behind mask states letters n xs
+among : (mask : ℕ) (states : List Values) (alphabet : List Instr) (n : ℕ) (xs : List Instr)
+    → map (print_after mask states) (fronted (words alphabet n) xs) ≡ prints_behind mask states alphabet n xs
 unfolding prints_behind
-among mask states letters n [] = refl
-among mask states letters n (x ∷ xs) =
-    map-append (print_after mask states) (map (λ w. x ∷ w) (words letters n)) (fronted (words letters n) xs)
-    ∙ ap (λ ns. ns ++ map (print_after mask states) (fronted (words letters n) xs)) (one_letter mask states x (words letters n))
-    ∙ ap (λ ns. prints_of mask (map (after x) states) letters n ++ ns) (among mask states letters n xs)
+among mask states alphabet n [] = refl
+among mask states alphabet n (x ∷ xs) =
+    map-append (print_after mask states) (map (λ w. x ∷ w) (words alphabet n)) (fronted (words alphabet n) xs)
+    ∙ ap (λ ns. ns ++ map (print_after mask states) (fronted (words alphabet n) xs)) (one_instr mask states x (words alphabet n))
+    ∙ ap (λ ns. prints_of mask (map (after x) states) alphabet n ++ ns) (among mask states alphabet n xs)
 
-pub prints_are : (mask : ℕ) (states : List Values) (letters : List Instr) (n length : ℕ) → length ≡ suc n → prints_of mask states letters length ≡ prints_behind mask states letters n letters
-prints_are mask states letters n length e = ap (prints_of mask states letters) e ∙ ap (map (print_after mask states)) (words_fronted letters n) ∙ among mask states letters n letters
+pub prints_are : (mask : ℕ) (states : List Values) (alphabet : List Instr) (n length : ℕ) → length ≡ suc n → prints_of mask states alphabet length ≡ prints_behind mask states alphabet n alphabet
+prints_are mask states alphabet n length e = ap (prints_of mask states alphabet) e ∙ ap (map (print_after mask states)) (words_fronted alphabet n) ∙ among mask states alphabet n alphabet
 
-pub prints_none : (mask : ℕ) (states : List Values) (letters : List Instr) (length : ℕ) → length ≡ 0 → prints_of mask states letters length ≡ print_from mask 0 states ∷ []
+pub prints_none : (mask : ℕ) (states : List Values) (alphabet : List Instr) (length : ℕ) → length ≡ 0 → prints_of mask states alphabet length ≡ print_from mask 0 states ∷ []
 unfolding words
-prints_none mask states letters length e = ap (prints_of mask states letters) e ∙ ap (λ vs. print_from mask 0 vs ∷ []) (unchanged states)
+prints_none mask states alphabet length e = ap (prints_of mask states alphabet) e ∙ ap (λ vs. print_from mask 0 vs ∷ []) (unchanged states)
 
--- ---- loops over the letters, and one over the lengths
-pub letter_done : (mask : ℕ) (states after_x : List Values) (letters : List Instr) (n i : ℕ) (x : Instr) (old new : List ℕ) → i < length letters → x ≡ slice_index_or letters i x
-    → after_x ≡ map (after x) states → new ≡ old ++ prints_of mask after_x letters n
-    → new ++ prints_behind mask states letters n (drop (i + 1) letters) ≡ old ++ prints_behind mask states letters n (drop i letters)
+-- ---- loops over the instructions, and one over the lengths
+pub instr_done : (mask : ℕ) (states after_x : List Values) (alphabet : List Instr) (n i : ℕ) (x : Instr) (old new : List ℕ) → i < length alphabet → x ≡ slice_index_or alphabet i x
+    → after_x ≡ map (after x) states → new ≡ old ++ prints_of mask after_x alphabet n
+    → new ++ prints_behind mask states alphabet n (drop (i + 1) alphabet) ≡ old ++ prints_behind mask states alphabet n (drop i alphabet)
 unfolding prints_behind
-letter_done mask states after_x letters n i x old new h item step e =
-    let rest : List ℕ = prints_behind mask states letters n (drop (i + 1) letters) in
-    ap (λ ps. ps ++ rest) (e ∙ ap (λ vs. old ++ prints_of mask vs letters n) step)
-    ∙ append_assoc old (prints_of mask (map (after x) states) letters n) rest
-    ∙ ap (λ ls. old ++ prints_behind mask states letters n ls) (sym (rest_is letters i x h item))
+instr_done mask states after_x alphabet n i x old new h item step e =
+    let rest : List ℕ = prints_behind mask states alphabet n (drop (i + 1) alphabet) in
+    ap (λ ps. ps ++ rest) (e ∙ ap (λ vs. old ++ prints_of mask vs alphabet n) step)
+    ∙ append_assoc old (prints_of mask (map (after x) states) alphabet n) rest
+    ∙ ap (λ ls. old ++ prints_behind mask states alphabet n ls) (sym (rest_is alphabet i x h item))
 
-pub letters_done : (mask : ℕ) (states : List Values) (letters : List Instr) (n i : ℕ) (old : List ℕ) → length letters ≤ i → old ++ prints_behind mask states letters n (drop i letters) ≡ old
+pub instrs_done : (mask : ℕ) (states : List Values) (alphabet : List Instr) (n i : ℕ) (old : List ℕ) → length alphabet ≤ i → old ++ prints_behind mask states alphabet n (drop i alphabet) ≡ old
 unfolding prints_behind
-letters_done mask states letters n i old h = ap (λ ls. old ++ prints_behind mask states letters n ls) (drop_all i letters h) ∙ append-nil old
+instrs_done mask states alphabet n i old h = ap (λ ls. old ++ prints_behind mask states alphabet n ls) (drop_all i alphabet h) ∙ append-nil old
 
 -- the prints of the sequences of n to n + count - 1 instructions
 abbrev pub prints_between : ℕ → List Values → List Instr → ℕ → ℕ → List ℕ
-prints_between mask states letters n count = map (print_after mask states) (flat_map (words letters) (numbers_from n count))
+prints_between mask states alphabet n count = map (print_after mask states) (flat_map (words alphabet) (numbers_from n count))
 
-pub between_is : (mask : ℕ) (states : List Values) (letters : List Instr) (longest : ℕ) → prints_between mask states letters 0 (longest + 1) ≡ prints_within mask states letters longest
+pub between_is : (mask : ℕ) (states : List Values) (alphabet : List Instr) (longest : ℕ) → prints_between mask states alphabet 0 (longest + 1) ≡ prints_within mask states alphabet longest
 unfolding sequences_within
-between_is mask states letters longest = refl
+between_is mask states alphabet longest = refl
 
-pub length_done : (mask : ℕ) (states : List Values) (letters : List Instr) (k end : ℕ) (old new : List ℕ) → k < end → new ≡ old ++ prints_of mask states letters k
-    → new ++ prints_between mask states letters (k + 1) (end - (k + 1)) ≡ old ++ prints_between mask states letters k (end - k)
+pub length_done : (mask : ℕ) (states : List Values) (alphabet : List Instr) (k end : ℕ) (old new : List ℕ) → k < end → new ≡ old ++ prints_of mask states alphabet k
+    → new ++ prints_between mask states alphabet (k + 1) (end - (k + 1)) ≡ old ++ prints_between mask states alphabet k (end - k)
 unfolding numbers_from
-length_done mask states letters k end old new h e =
+length_done mask states alphabet k end old new h e =
     let next : end - k ≡ suc (end - (k + 1)) = omega arith in
     let one : suc k ≡ k + 1 = omega arith in
-    ap (λ ps. ps ++ prints_between mask states letters (k + 1) (end - (k + 1))) e
-    ∙ append_assoc old (prints_of mask states letters k) (prints_between mask states letters (k + 1) (end - (k + 1)))
-    ∙ ap (λ ps. old ++ ps) (sym (map-append (print_after mask states) (words letters k) (flat_map (words letters) (numbers_from (k + 1) (end - (k + 1))))))
+    ap (λ ps. ps ++ prints_between mask states alphabet (k + 1) (end - (k + 1))) e
+    ∙ append_assoc old (prints_of mask states alphabet k) (prints_between mask states alphabet (k + 1) (end - (k + 1)))
+    ∙ ap (λ ps. old ++ ps) (sym (map-append (print_after mask states) (words alphabet k) (flat_map (words alphabet) (numbers_from (k + 1) (end - (k + 1))))))
     ∙ rw (next, one) refl
 
-pub lengths_done : (mask : ℕ) (states : List Values) (letters : List Instr) (k end : ℕ) (old : List ℕ) → k ≡ end → old ++ prints_between mask states letters k (end - k) ≡ old
+pub lengths_done : (mask : ℕ) (states : List Values) (alphabet : List Instr) (k end : ℕ) (old : List ℕ) → k ≡ end → old ++ prints_between mask states alphabet k (end - k) ≡ old
 unfolding numbers_from
-lengths_done mask states letters k end old e =
+lengths_done mask states alphabet k end old e =
     let none : end - k ≡ 0 = omega arith in
     rw none (append-nil old)
 
@@ -175,10 +175,10 @@ pub none_stepped : (vs : List Values) (later : List Column) → later ≡ [] →
 unfolding states_in
 none_stepped vs later e = ap (λ cs. states_in cs ++ vs) e
 
-pub first_length : (mask : ℕ) (states : List Values) (letters : List Instr) (longest : ℕ) (old : List ℕ) → old ≡ [] → old ++ prints_between mask states letters 0 (longest + 1 - 0) ≡ prints_within mask states letters longest
-first_length mask states letters longest old e =
+pub first_length : (mask : ℕ) (states : List Values) (alphabet : List Instr) (longest : ℕ) (old : List ℕ) → old ≡ [] → old ++ prints_between mask states alphabet 0 (longest + 1 - 0) ≡ prints_within mask states alphabet longest
+first_length mask states alphabet longest old e =
     let whole : longest + 1 - 0 ≡ longest + 1 = omega arith in
-    ap (λ ps. ps ++ prints_between mask states letters 0 (longest + 1 - 0)) e ∙ ap (prints_between mask states letters 0) whole ∙ between_is mask states letters longest
+    ap (λ ps. ps ++ prints_between mask states alphabet 0 (longest + 1 - 0)) e ∙ ap (prints_between mask states alphabet 0) whole ∙ between_is mask states alphabet longest
 
 -- a column more of the states that are left
 pub column_arranged : (columns new : List Column) (column : Column) (rest eight more : List WState) (n : ℕ) → eight ≡ take n rest → more ≡ drop n rest
@@ -196,21 +196,21 @@ pub lanes_printed : (f : Values → Values) (m h : ℕ) (columns : List Column) 
 lanes_printed f m h columns i column l r whole below item each e so =
     column_printed f m h columns i column (record { lanes = l; count = column.count; most = column.most }) r below item (column_after f column.lanes l column.count each column.most) e ∙ so
 
--- the prints of four letters, and then those of the rest
-pub four_printed : (mask : ℕ) (states : List Values) (letters rest tail : List Instr) (x y z w : Instr) (old now whole : List ℕ) (p q r s : ℕ) → rest ≡ x ∷ y ∷ z ∷ w ∷ tail
+-- the prints of four instructions, and then those of the rest
+pub four_printed : (mask : ℕ) (states : List Values) (alphabet rest tail : List Instr) (x y z w : Instr) (old now whole : List ℕ) (p q r s : ℕ) → rest ≡ x ∷ y ∷ z ∷ w ∷ tail
     → p ≡ print_from mask 0 (map (after x) states) → q ≡ print_from mask 0 (map (after y) states) → r ≡ print_from mask 0 (map (after z) states) → s ≡ print_from mask 0 (map (after w) states)
     → now ≡ (((old ++ p ∷ []) ++ q ∷ []) ++ r ∷ []) ++ s ∷ []
-    → old ++ prints_behind mask states letters 0 rest ≡ whole → now ++ prints_behind mask states letters 0 tail ≡ whole
+    → old ++ prints_behind mask states alphabet 0 rest ≡ whole → now ++ prints_behind mask states alphabet 0 tail ≡ whole
 unfolding prints_behind
-four_printed mask states letters rest tail x y z w old now whole p q r s e a b c d f so =
-    ap (λ ns. ns ++ prints_behind mask states letters 0 tail) (f ∙ simp append_assoc)
-    ∙ append_assoc old (p ∷ q ∷ r ∷ s ∷ []) (prints_behind mask states letters 0 tail)
+four_printed mask states alphabet rest tail x y z w old now whole p q r s e a b c d f so =
+    ap (λ ns. ns ++ prints_behind mask states alphabet 0 tail) (f ∙ simp append_assoc)
+    ∙ append_assoc old (p ∷ q ∷ r ∷ s ∷ []) (prints_behind mask states alphabet 0 tail)
     ∙ rw (a, b, c, d) (ap (λ ns. old ++ ns) (sym (each x (y ∷ z ∷ w ∷ tail) ∙ ap (λ ns. print_from mask 0 (map (after x) states) ∷ ns)
     (each y (z ∷ w ∷ tail) ∙ ap (λ ns. print_from mask 0 (map (after y) states) ∷ ns) (each z (w ∷ tail) ∙ ap (λ ns. print_from mask 0 (map (after z) states) ∷ ns) (each w tail))))))
-    ∙ ap (λ is. old ++ prints_behind mask states letters 0 is) (sym e) ∙ so
+    ∙ ap (λ is. old ++ prints_behind mask states alphabet 0 is) (sym e) ∙ so
   where
-    each : (i : Instr) (is : List Instr) → prints_behind mask states letters 0 (i ∷ is) ≡ print_from mask 0 (map (after i) states) ∷ prints_behind mask states letters 0 is
-    each i is = ap (λ ns. ns ++ prints_behind mask states letters 0 is) (prints_none mask (map (after i) states) letters 0 refl)
+    each : (i : Instr) (is : List Instr) → prints_behind mask states alphabet 0 (i ∷ is) ≡ print_from mask 0 (map (after i) states) ∷ prints_behind mask states alphabet 0 is
+    each i is = ap (λ ns. ns ++ prints_behind mask states alphabet 0 is) (prints_none mask (map (after i) states) alphabet 0 refl)
 
 -- a list of four at least, by its first four
 pub four_are : (rest : List Instr) (x y z w : Instr) → 4 ≤ length rest → x ≡ slice_index_or rest 0 x → y ≡ slice_index_or rest 1 y → z ≡ slice_index_or rest 2 z → w ≡ slice_index_or rest 3 w
@@ -222,17 +222,17 @@ four_are rest x y z w h ea eb ec ed = absurd (omega arith)
 pub over_tail : (rest : List Instr) (x y z w : Instr) (tail : List Instr) → rest ≡ x ∷ y ∷ z ∷ w ∷ tail → AreOver 4 rest → AreOver 4 tail
 over_tail rest x y z w tail e over = let o : AreOver 4 (x ∷ y ∷ z ∷ w ∷ tail) = subst (AreOver 4) e over in o.2.2.2.2
 
--- one more letter of those that are left
-pub left_printed : (mask : ℕ) (states : List Values) (letters rest : List Instr) (i : ℕ) (x : Instr) (old new whole : List ℕ) (print : ℕ) → i < length rest → x ≡ slice_index_or rest i x
+-- one more instruction of those that are left
+pub left_printed : (mask : ℕ) (states : List Values) (alphabet rest : List Instr) (i : ℕ) (x : Instr) (old new whole : List ℕ) (print : ℕ) → i < length rest → x ≡ slice_index_or rest i x
     → print ≡ print_from mask 0 (map (after x) states) → new ≡ old ++ print ∷ []
-    → old ++ prints_behind mask states letters 0 (drop i rest) ≡ whole → new ++ prints_behind mask states letters 0 (drop (i + 1) rest) ≡ whole
+    → old ++ prints_behind mask states alphabet 0 (drop i rest) ≡ whole → new ++ prints_behind mask states alphabet 0 (drop (i + 1) rest) ≡ whole
 unfolding prints_behind
-left_printed mask states letters rest i x old new whole print h item p e so =
-    let tail = prints_behind mask states letters 0 (drop (i + 1) rest) in
-    ap (λ ns. ns ++ tail) (e ∙ ap (λ n. old ++ n ∷ []) p ∙ ap (λ ns. old ++ ns) (sym (prints_none mask (map (after x) states) letters 0 refl)))
-    ∙ append_assoc old (prints_of mask (map (after x) states) letters 0) tail
-    ∙ ap (λ is. old ++ prints_behind mask states letters 0 is) (sym (rest_is rest i x h item)) ∙ so
+left_printed mask states alphabet rest i x old new whole print h item p e so =
+    let tail = prints_behind mask states alphabet 0 (drop (i + 1) rest) in
+    ap (λ ns. ns ++ tail) (e ∙ ap (λ n. old ++ n ∷ []) p ∙ ap (λ ns. old ++ ns) (sym (prints_none mask (map (after x) states) alphabet 0 refl)))
+    ∙ append_assoc old (prints_of mask (map (after x) states) alphabet 0) tail
+    ∙ ap (λ is. old ++ prints_behind mask states alphabet 0 is) (sym (rest_is rest i x h item)) ∙ so
 
-pub none_left : (mask : ℕ) (states : List Values) (letters rest : List Instr) (i : ℕ) (old whole : List ℕ) → length rest ≤ i → old ++ prints_behind mask states letters 0 (drop i rest) ≡ whole → old ≡ whole
+pub none_left : (mask : ℕ) (states : List Values) (alphabet rest : List Instr) (i : ℕ) (old whole : List ℕ) → length rest ≤ i → old ++ prints_behind mask states alphabet 0 (drop i rest) ≡ whole → old ≡ whole
 unfolding prints_behind
-none_left mask states letters rest i old whole h so = sym (append-nil old) ∙ ap (λ is. old ++ prints_behind mask states letters 0 is) (sym (drop_all i rest h)) ∙ so
+none_left mask states alphabet rest i old whole h so = sym (append-nil old) ∙ ap (λ is. old ++ prints_behind mask states alphabet 0 is) (sym (drop_all i rest h)) ∙ so

@@ -14,9 +14,9 @@ outcome_at c start i = record {
   nzcv = get_or c.flags.items i 0;
 }
 
--- each letter behind a sequence
+-- each instruction behind a sequence
 abbrev pub extended : List Instr → List Instr → List (List Instr)
-extended letters seq = map (λ x. seq ++ x ∷ []) letters
+extended alphabet seq = map (λ x. seq ++ x ∷ []) alphabet
 
 -- the columns with one state more behind the others
 pub record IsAfter (k : ℕ) (s : WState) (old new : Columns) : Type 0 where

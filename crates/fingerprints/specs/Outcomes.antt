@@ -9,23 +9,23 @@ use Rattle.seq_enum.specs.Alphabet.{numbers_from, ascends_from, words}
 use Rattle.fingerprints.specs.declared.outcome_columns.Columns.{Columns}
 use Rattle.fingerprints.specs.OutcomeColumns.{Holds}
 
--- the sequences of fewer than n letters, by number
+-- the sequences of fewer than n instructions, by number
 unfoldable pub sequences_below : List Instr → ℕ → List (List Instr)
-sequences_below letters n = flat_map (words letters) (numbers_from 0 n)
+sequences_below alphabet n = flat_map (words alphabet) (numbers_from 0 n)
 
--- the outcomes of a state under the sequences of at most `longest` letters, which name the first registers alone
+-- the outcomes of a state under the sequences of at most `longest` instructions, which name the first registers alone
 pub record Extent : Type 0 where
   pub registers : ℕ
-  pub letters : List Instr
+  pub alphabet : List Instr
   pub start : WState
   pub longest : ℕ
 
 abbrev pub sequences_in : Extent → List (List Instr)
-sequences_in e = sequences_below e.letters (e.longest + 1)
+sequences_in e = sequences_below e.alphabet (e.longest + 1)
 
 -- the same with longer sequences, where it has none so long
 abbrev pub grown_to : ℕ → Extent → Extent
-grown_to longest e = record { registers = e.registers; letters = e.letters; start = e.start; longest = max e.longest longest }
+grown_to longest e = record { registers = e.registers; alphabet = e.alphabet; start = e.start; longest = max e.longest longest }
 
 -- how many sequences are added then
 abbrev pub added : ℕ → Extent → ℕ
@@ -45,12 +45,12 @@ pub record AreAgreeing (e : Extent) (end : Values) (mask limit : ℕ) (numbers :
 -- ---- the fields of a table ----
 
 -- `first` of its sequences are shorter than the longest
-pub record IsTable (k : ℕ) (letters : List Instr) (start : WState) (longest first : ℕ) (columns : Columns) : Type 0 where
+pub record IsTable (k : ℕ) (alphabet : List Instr) (start : WState) (longest first : ℕ) (columns : Columns) : Type 0 where
   pub some : 0 < k
   pub few : k ≤ 4
-  pub some_letters : 0 < length letters
-  pub few_letters : length letters ≤ 1952
-  pub over : AreOver k letters
+  pub some_instrs : 0 < length alphabet
+  pub few_instrs : length alphabet ≤ 1952
+  pub over : AreOver k alphabet
   pub short : longest ≤ 4
-  pub before : first ≡ length (sequences_below letters longest)
-  pub holds : Holds k start (sequences_below letters (longest + 1)) columns
+  pub before : first ≡ length (sequences_below alphabet longest)
+  pub holds : Holds k start (sequences_below alphabet (longest + 1)) columns

@@ -8,12 +8,12 @@ use Rattle.fingerprints.specs.Print.{print_after}
 
 -- the sequences of at most so many instructions of an alphabet, by number
 unfoldable pub sequences_within : ℕ → List Instr → List (List Instr)
-sequences_within longest letters = flat_map (words letters) (numbers_from 0 (longest + 1))
+sequences_within longest alphabet = flat_map (words alphabet) (numbers_from 0 (longest + 1))
 
 -- the prints of all sequences of n instructions
 abbrev pub prints_of : ℕ → List Values → List Instr → ℕ → List ℕ
-prints_of mask states letters n = map (print_after mask states) (words letters n)
+prints_of mask states alphabet n = map (print_after mask states) (words alphabet n)
 
 -- the prints of the sequences of at most so many instructions, by number
 abbrev pub prints_within : ℕ → List Values → List Instr → ℕ → List ℕ
-prints_within mask states letters longest = map (print_after mask states) (sequences_within longest letters)
+prints_within mask states alphabet longest = map (print_after mask states) (sequences_within longest alphabet)

@@ -8,7 +8,7 @@ use Rattle.fingerprints.specs.Outcomes.{Extent}
 -- a table of the first k registers and these numbers, from this state
 pub record IsFor (k : ℕ) (pool : List ℕ) (start : WState) (e : Extent) : Type 0 where
   pub registers : e.registers ≡ k
-  pub letters : e.letters ≡ alphabet k pool
+  pub alphabet : e.alphabet ≡ alphabet k pool
   pub state : e.start ≡ start
 
 -- each is of its count of registers

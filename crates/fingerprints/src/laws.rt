@@ -14,7 +14,7 @@ ghost use Rattle.fingerprints.specs.Laws.{IsState, AreUntold};
 /// The candidates of a print are the numbers of the sequences of at most `longest` instructions
 /// that have it.
 pub fn candidates_are_sequences()
-    ensures { (mask longest print number : ℕ) (states : List Values) (letters : List Instr) → longest ≤ 5 → Contains (scanned print 0 (prints_within mask states letters longest)) number ↔ ((seq : List Instr) × (slice_get (sequences_of letters) number ≡ Some seq) × (length seq ≤ longest) × (print_after mask states seq ≡ print)) }
+    ensures { (mask longest print number : ℕ) (states : List Values) (alphabet : List Instr) → longest ≤ 5 → Contains (scanned print 0 (prints_within mask states alphabet longest)) number ↔ ((seq : List Instr) × (slice_get (sequences_of alphabet) number ≡ Some seq) × (length seq ≤ longest) × (print_after mask states seq ≡ print)) }
 {}
 
 /// Sequences that no state tells apart have equal prints.

@@ -152,54 +152,54 @@ impl Columns {
         self.flags.push_reserved(state.nzcv);
     }
 
-    /// Puts what each letter leaves of a state behind the other states, for which there is room. Where that is what a sequence leaves of a state
-    /// at which the columns begin, these are what the sequence leaves with each letter behind it.
-    pub(crate) fn push_letters<L: Ledger>(
+    /// Puts what each instruction leaves of a state behind the other states, for which there is room. Where that is what a sequence leaves of a state
+    /// at which the columns begin, these are what the sequence leaves with each instruction behind it.
+    pub(crate) fn push_extended<L: Ledger>(
         &mut self,
         k: u8,
-        letters: &[Instr],
+        alphabet: &[Instr],
         from: &WState,
         steps: &mut Steps<L>,
     )
         requires few { k ≤ 4 }
-        requires over { AreOver k letters.now }
-        requires room { HaveRoom k (length letters.now) self.old }
+        requires over { AreOver k alphabet.now }
+        requires room { HaveRoom k (length alphabet.now) self.old }
         ensures holds { (start : State) (seqs : List (List Instr)) (seq : List Instr) → Holds k start seqs self.old → KeepsFrom k start from.now
-            → values_of from.now ≡ after_all seq (values_of start) → Holds k start (seqs ++ extended letters.now seq) self.new }
+            → values_of from.now ≡ after_all seq (values_of start) → Holds k start (seqs ++ extended alphabet.now seq) self.new }
         ensures more { length self.old.flags.items ≤ length self.new.flags.items }
-        ensures room { (more : ℕ) → HaveRoom k (more + length letters.now) self.old → HaveRoom k more self.new }
-        ensures count { RisesBy steps.old steps.new (length letters.now) }
+        ensures room { (more : ℕ) → HaveRoom k (more + length alphabet.now) self.old → HaveRoom k more self.new }
+        ensures count { RisesBy steps.old steps.new (length alphabet.now) }
     {
-        for letter in letters {
+        for instr in alphabet {
             steps.tick();
             let mut state = *from;
-            compute(&mut state, letter);
+            compute(&mut state, instr);
             self.push(k, &state);
         }
     }
 
-    /// Puts what each sequence from a place on leaves, with each letter behind it, behind the other outcomes. There is room for them.
+    /// Puts what each sequence from a place on leaves, with each instruction behind it, behind the other outcomes. There is room for them.
     pub(crate) fn push_length<L: Ledger>(
         &mut self,
         k: u8,
-        letters: &[Instr],
+        alphabet: &[Instr],
         start: &WState,
         first: usize,
         steps: &mut Steps<L>,
     )
         requires few { k ≤ 4 }
-        requires over { AreOver k letters.now }
+        requires over { AreOver k alphabet.now }
         requires within { first ≤ length self.old.flags.items }
-        requires room { HaveRoom k ((length self.old.flags.items - first) * length letters.now) self.old }
+        requires room { HaveRoom k ((length self.old.flags.items - first) * length alphabet.now) self.old }
         ensures holds { (shorter longest : List (List Instr)) → length shorter ≡ first → Holds k start.now (shorter ++ longest) self.old
-            → Holds k start.now (shorter ++ longest ++ flat_map (extended letters.now) longest) self.new }
-        ensures room { (more : ℕ) → HaveRoom k (more + (length self.old.flags.items - first) * length letters.now) self.old → HaveRoom k more self.new }
-        ensures count { RisesBy steps.old steps.new ((length self.old.flags.items - first) * length letters.now) }
+            → Holds k start.now (shorter ++ longest ++ flat_map (extended alphabet.now) longest) self.new }
+        ensures room { (more : ℕ) → HaveRoom k (more + (length self.old.flags.items - first) * length alphabet.now) self.old → HaveRoom k more self.new }
+        ensures count { RisesBy steps.old steps.new ((length self.old.flags.items - first) * length alphabet.now) }
     {
         let count = self.len();
         for place in first..count {
             let from = self.state_at(place, start);
-            self.push_letters(k, letters, &from, steps);
+            self.push_extended(k, alphabet, &from, steps);
         }
     }
 }

@@ -1,5 +1,5 @@
-//! The outcomes of all sequences of an alphabet from one state, by number. The sequences of one letter more are, for each of the longest
-//! ones in order, each letter behind it, so that a table grows by one step a sequence.
+//! The outcomes of all sequences of an alphabet from one state, by number. The sequences of one instruction more are, for each of the longest
+//! ones in order, each instruction behind it, so that a table grows by one step a sequence.
 ghost use Rattle.std.specs.Prelude.{◌≡◌, ◌<◌, ◌≤◌, ◌+◌, IfOk, IfErr, OnOk, length, slice_get};
 ghost use Rattle.window_exec.specs.State.{values_of};
 ghost use Rattle.seq_enum.specs.Alphabet.{alphabet, sequences_of};
@@ -9,7 +9,7 @@ ghost use Rattle.fingerprints.specs.Outcomes.{AreAgreeing, added, grown_to, sequ
 use crate::looks::alike;
 use crate::numbering::sequence_of;
 use crate::outcome_columns::Columns;
-use seq_enum::{Pool, count_below, letters};
+use seq_enum::{Pool, alphabet_instrs, count_below};
 use std::alloc::{AllocError, Global};
 use std::marker::Model;
 use step_ledger::{Ledger, Steps};
@@ -21,7 +21,7 @@ use window_exec::WState;
 #[derive(Drop)]
 pub struct Outcomes {
     k: u8,
-    letters: Vec<Instr>,
+    alphabet: Vec<Instr>,
     start: WState,
     longest: u8,
     /// how many of the sequences are shorter than the longest
@@ -34,9 +34,9 @@ impl Model for Outcomes {
 
     ghost Value = { Extent };
 
-    ghost view = { λ o. record { registers = o.k; letters = o.letters.items; start = o.start; longest = o.longest } };
+    ghost view = { λ o. record { registers = o.k; alphabet = o.alphabet.items; start = o.start; longest = o.longest } };
 
-    ghost invariant = { λ o. IsTable o.k o.letters.items o.start o.longest o.first o.columns };
+    ghost invariant = { λ o. IsTable o.k o.alphabet.items o.start o.longest o.first o.columns };
 }
 
 impl Outcomes {
@@ -44,14 +44,14 @@ impl Outcomes {
     pub fn new(alloc: Global, k: u8, pool: &Pool, start: WState) -> Result<Outcomes, AllocError>
         requires some { 0 < k }
         requires few { k ≤ 4 }
-        ensures { IfOk result (λ o. o ≡ record { registers = k; letters = alphabet k pool.now; start = start; longest = 0 }) }
+        ensures { IfOk result (λ o. o ≡ record { registers = k; alphabet = alphabet k pool.now; start = start; longest = 0 }) }
     {
-        let letters = letters(alloc, k, pool)?;
+        let alphabet = alphabet_instrs(alloc, k, pool)?;
         let mut columns = Columns::with_room(alloc, k, 1)?;
         columns.push(k, &start);
         Ok(Outcomes {
             k,
-            letters,
+            alphabet,
             start,
             longest: 0,
             first: 0,
@@ -69,12 +69,12 @@ impl Outcomes {
     }
 
     /// The instructions of the alphabet, in order.
-    pub fn letters(&self) -> &[Instr]
-        ensures value { result.now ≡ self.now.letters }
+    pub fn alphabet(&self) -> &[Instr]
+        ensures value { result.now ≡ self.now.alphabet }
         ensures some { 0 < length result.now }
         ensures few { length result.now ≤ 1952 }
     {
-        &self.letters
+        &self.alphabet
     }
 
     /// Adds the sequences of at most `longest` instructions, with a step for each, where they aren't there yet.
@@ -93,12 +93,12 @@ impl Outcomes {
         if longest <= self.longest {
             return Ok(());
         }
-        let room = count_below(self.letters.len() as u64, u32::from(longest) + 1) as usize;
+        let room = count_below(self.alphabet.len() as u64, u32::from(longest) + 1) as usize;
         let mut columns = self.columns.copied(alloc, self.k, room)?;
         let mut first = self.first;
         for _length in self.longest..longest {
             let next = columns.len();
-            columns.push_length(self.k, &self.letters, &self.start, first, steps);
+            columns.push_length(self.k, &self.alphabet, &self.start, first, steps);
             first = next;
         }
         self.first = first;
@@ -110,16 +110,16 @@ impl Outcomes {
     /// How many sequences have at most so many instructions.
     pub fn count(&self, longest: u8) -> u64
         requires { longest ≤ 4 }
-        ensures { result ≡ length (sequences_below self.now.letters (longest + 1)) }
+        ensures { result ≡ length (sequences_below self.now.alphabet (longest + 1)) }
     {
-        count_below(self.letters.len() as u64, u32::from(longest) + 1)
+        count_below(self.alphabet.len() as u64, u32::from(longest) + 1)
     }
 
     /// The sequence of a number: None exactly where the number is of a sequence longer than five instructions. A table needs no outcome of it.
     pub fn sequence_at(&self, number: u64) -> Option<Seq>
-        ensures { result ≡ slice_get (sequences_of self.now.letters) number }
+        ensures { result ≡ slice_get (sequences_of self.now.alphabet) number }
     {
-        sequence_of(&self.letters, number)
+        sequence_of(&self.alphabet, number)
     }
 
     /// The numbers below a limit, ascending, of the sequences after which each item of a mask is as in a state.

@@ -18,18 +18,18 @@ use thumb_instr::{Instr, Mask};
 /// The prints of all sequences of at most `longest` instructions, by number.
 pub(crate) fn prints_within(
     alloc: Global,
-    letters: &[Instr],
+    alphabet: &[Instr],
     columns: &[Column],
     mask: Mask,
     longest: u8,
 ) -> Result<Vec<u64>, AllocError>
-    requires over { AreOver 4 letters.now }
+    requires over { AreOver 4 alphabet.now }
     requires few { longest ≤ 5 }
-    ensures { IfOk result (λ v. v.items ≡ prints_within mask.items.bits (states_in columns.now) letters.now longest) }
+    ensures { IfOk result (λ v. v.items ≡ prints_within mask.items.bits (states_in columns.now) alphabet.now longest) }
 {
     let mut prints = Vec::new(alloc);
     for length in 0..longest + 1 {
-        print_length(alloc, letters, columns, mask, length, &mut prints)?;
+        print_length(alloc, alphabet, columns, mask, length, &mut prints)?;
     }
     Ok(prints)
 }
@@ -37,40 +37,40 @@ pub(crate) fn prints_within(
 /// Puts the prints of all sequences of this length behind the others.
 fn print_length(
     alloc: Global,
-    letters: &[Instr],
+    alphabet: &[Instr],
     columns: &[Column],
     mask: Mask,
     length: u8,
     prints: &mut Vec<u64>,
 ) -> Result<(), AllocError>
-    requires { AreOver 4 letters.now }
-    ensures { OnOk result (prints.new.items ≡ prints.old.items ++ prints_of mask.items.bits (states_in columns.now) letters.now length) }
+    requires { AreOver 4 alphabet.now }
+    ensures { OnOk result (prints.new.items ≡ prints.old.items ++ prints_of mask.items.bits (states_in columns.now) alphabet.now length) }
 {
     if length == 0 {
         prints.push(print_in(columns, mask))?;
         return Ok(());
     }
     if length == 1 {
-        return print_letters(letters, columns, mask, prints);
+        return print_instrs(alphabet, columns, mask, prints);
     }
-    for letter in letters {
-        let after = stepped(alloc, letter, columns)?;
-        print_length(alloc, letters, &after, mask, length - 1, prints)?;
+    for instr in alphabet {
+        let after = stepped(alloc, instr, columns)?;
+        print_length(alloc, alphabet, &after, mask, length - 1, prints)?;
     }
     Ok(())
 }
 
-/// Puts the print of each letter alone behind the others.
-fn print_letters(
-    letters: &[Instr],
+/// Puts the print of each instruction alone behind the others.
+fn print_instrs(
+    alphabet: &[Instr],
     columns: &[Column],
     mask: Mask,
     prints: &mut Vec<u64>,
 ) -> Result<(), AllocError>
-    requires { AreOver 4 letters.now }
-    ensures { OnOk result (prints.new.items ≡ prints.old.items ++ prints_of mask.items.bits (states_in columns.now) letters.now 1) }
+    requires { AreOver 4 alphabet.now }
+    ensures { OnOk result (prints.new.items ≡ prints.old.items ++ prints_of mask.items.bits (states_in columns.now) alphabet.now 1) }
 {
-    let mut rest = letters;
+    let mut rest = alphabet;
     while let [a, b, c, d, more @ ..] = rest {
         let four = print_four(a, b, c, d, columns, mask);
         prints.push(four.a)?;
@@ -79,8 +79,8 @@ fn print_letters(
         prints.push(four.d)?;
         rest = more;
     }
-    for letter in rest {
-        prints.push(print_next(letter, columns, mask))?;
+    for instr in rest {
+        prints.push(print_next(instr, columns, mask))?;
     }
     Ok(())
 }

@@ -35,7 +35,7 @@ pub fn candidates<L: Ledger>(
 ) -> Result<Vec<u64>, AllocError>
     requires short { longest ≤ 4 }
     requires start { BeginsAt outcomes.old.start trials.now }
-    ensures candidates { IfOk result (λ v. AreCandidates (sequences_below outcomes.old.letters (longest + 1)) trials.now mask.items.bits v.items) }
+    ensures candidates { IfOk result (λ v. AreCandidates (sequences_below outcomes.old.alphabet (longest + 1)) trials.now mask.items.bits v.items) }
     ensures grown { OnOk result (outcomes.new ≡ grown_for trials.now longest outcomes.old) }
     ensures count { OnOk result (RisesBy steps.old steps.new (added_for trials.now longest outcomes.old)) }
     ensures most { steps.new ≤ steps.old + added_for trials.now longest outcomes.old }

@@ -10,7 +10,7 @@ use Rattle.thumb_model.specs.Layout.{cleared, instr_size, is_among, set_address}
 use Rattle.thumb_model.specs.Replaced.{is_op, labels_kept, new_line, replaced_lines, without}
 use Rattle.thumb_model.proofs.Lists.{drop_back, length_map}
 use Rattle.window_runs.specs.declared.rows.WindowPlace.{WindowPlace}
-use Rattle.window_runs.specs.Rows.{is_unlabelled, letter_of, rows_of, rows_from, stays_joined}
+use Rattle.window_runs.specs.Rows.{is_unlabelled, window_instr, rows_of, rows_from, stays_joined}
 use Rattle.window_runs.specs.Windows.{IsWindow}
 use Rattle.window_runs.proofs.Joined.{window_fits, Fits, no_place as not_first}
 use Rattle.window_runs.proofs.Lengths.{rows_length}
@@ -44,9 +44,9 @@ record IsPlain (i : Instr) (mention : Option Mention) : Type 0 where
   alone : mention ≡ None
   size : instr_size i ≡ 2
 
-letter_plain : (i k : Instr) (m : Option Mention) → letter_of k m ≡ Some i → IsPlain k m
-letter_plain i k (Some m) e = absurd (cc)
-letter_plain i k None e = go (is_in_window k) refl e
+instr_plain : (i k : Instr) (m : Option Mention) → window_instr k m ≡ Some i → IsPlain k m
+instr_plain i k (Some m) e = absurd (cc)
+instr_plain i k None e = go (is_in_window k) refl e
   where
     go : (b : Bool) → is_in_window k ≡ b → (if b then Some k else None) ≡ Some i → IsPlain k None
     go true w e = record { alone = refl; size = two_bytes k w }
@@ -170,7 +170,7 @@ inner_kept n l ls e k =
 inner_step : (i : Instr) (is : List Instr) (l : ListingLine) (s : Statement) (ls : List ListingLine) (j : Bool) → l.statement ≡ s → ((b : Bool) → Fits false is (rows_from b ls) → IsInner (length is) ls) → ((b : Bool) → Fits false (i ∷ is) (rows_from b ls) → IsInner (suc (length is)) ls)
     → Fits false (i ∷ is) (rows_of j s ++ rows_from (stays_joined j s) ls) → IsInner (suc (length is)) (l ∷ ls)
 inner_step i is l (Instruction k m) ls j e next same f =
-    let p = letter_plain i k m f.1 in
+    let p = instr_plain i k m f.1 in
     inner_gone (length is) l k ls (e ∙ ap (λ o. Instruction k o) p.alone) p.size (next true f.2)
 inner_step i is l (Words (v ∷ vs)) ls j e next same f = let g = f.0 in absurd (cc)
 inner_step i is l s ls j e next same f = inner_kept (length is) l ls (rw e refl) (same (stays_joined j s) f)
@@ -207,7 +207,7 @@ lines_here : (write : Instr → List ℕ) (n : ℕ) (new : List Instr) (l : List
 lines_here write n new l i ls e = rw e (ap (λ m. labels_kept l l.names ++ (map (new_line write) new ++ without m ls)) (let z : suc n - 1 ≡ n = omega arith in z))
 
 given_here : (write : Instr → List ℕ) (n : ℕ) (new : List Instr) (l : ListingLine) (i : Instr) (ls : List ListingLine) → l.statement ≡ Instruction i None → instr_size i ≡ 2 → length new ≤ suc n → list_all is_in_window new ≡ true → IsInner n ls → IsGiven write 0 (suc n) new (l ∷ ls)
-given_here write n new l i ls e two short letters k =
+given_here write n new l i ls e two short in_window k =
     let labels : List ListingLine = labels_kept l l.names in
     let lines : List ListingLine = map (new_line write) new in
     let size : bytes_in l.statement ≡ 2 = rw e two in
@@ -216,7 +216,7 @@ given_here write n new l i ls e two short letters k =
       less = subst (IsLess (suc n - length new) (l ∷ ls)) (sym (lines_here write n new l i ls e)) (record {
         bytes =
             let a = kept_bytes l l.names (lines ++ without n ls) in
-            let b = new_bytes write new (without n ls) letters in
+            let b = new_bytes write new (without n ls) in_window in
             let c = k.less.bytes in
             omega arith;
         places = omega (arith, one, ap (λ ps. length ps) (kept_places l l.names (lines ++ without n ls)), new_places write new (without n ls), k.less.places, length-append (places_in l.statement) (places_of ls));
@@ -238,7 +238,7 @@ given_behind write p m count new l ls t e k =
     }
 
 abbrev word_row : Value → WindowPlace
-word_row v = record { letter = None; is_joined = false }
+word_row v = record { instr = None; is_joined = false }
 
 -- a window doesn't begin among words
 past_words : (vs : List Value) (p : ℕ) (rows : List WindowPlace) (i : Instr) (is : List Instr) → Fits true (i ∷ is) (drop p (map word_row vs ++ rows)) → (m : ℕ) × (p ≡ length vs + m) × Fits true (i ∷ is) (drop m rows)
@@ -249,24 +249,24 @@ past_words (v ∷ vs) (suc p) rows i is f = let r = past_words vs p rows i is f 
 given_step : (write : Instr → List ℕ) (i : Instr) (is new : List Instr) → length new ≤ suc (length is) → list_all is_in_window new ≡ true → (l : ListingLine) (s : Statement) (ls : List ListingLine) (j : Bool) (p : ℕ) → l.statement ≡ s
     → ((b : Bool) (q : ℕ) → Fits true (i ∷ is) (drop q (rows_from b ls)) → IsGiven write q (suc (length is)) new ls)
     → Fits true (i ∷ is) (drop p (rows_of j s ++ rows_from (stays_joined j s) ls)) → IsGiven write p (suc (length is)) new (l ∷ ls)
-given_step write i is new short letters l (Instruction k m) ls j zero e rec f =
-    let a = letter_plain i k m f.1 in
-    given_here write (length is) new l k ls (e ∙ ap (λ o. Instruction k o) a.alone) a.size short letters (inner is ls true f.2)
-given_step write i is new short letters l (Instruction k m) ls j (suc p) e rec f =
+given_step write i is new short in_window l (Instruction k m) ls j zero e rec f =
+    let a = instr_plain i k m f.1 in
+    given_here write (length is) new l k ls (e ∙ ap (λ o. Instruction k o) a.alone) a.size short in_window (inner is ls true f.2)
+given_step write i is new short in_window l (Instruction k m) ls j (suc p) e rec f =
     let one : length (places_in l.statement) ≡ 1 = rw e refl in
     given_behind write (suc p) p (suc (length is)) new l ls (rw e (not_first p)) (omega (arith, one)) (rec true p f)
-given_step write i is new short letters l (Words vs) ls j p e rec f =
+given_step write i is new short in_window l (Words vs) ls j p e rec f =
     let r = past_words vs p (rows_from j ls) i is f in
     let past = r.1 in
     let size : length (places_in l.statement) ≡ length vs = rw e (length_map Word vs) in
     given_behind write p (r.0) (suc (length is)) new l ls (rw e refl) (omega (arith, size, past)) (rec j (r.0) r.2)
-given_step write i is new short letters l s ls j p e rec f =
+given_step write i is new short in_window l s ls j p e rec f =
     let none : length (places_in l.statement) ≡ 0 = rw e refl in
     given_behind write p p (suc (length is)) new l ls (rw e refl) (omega (arith, none)) (rec (stays_joined j s) p f)
 
 given : (write : Instr → List ℕ) (i : Instr) (is new : List Instr) → length new ≤ suc (length is) → list_all is_in_window new ≡ true → (ls : List ListingLine) (j : Bool) (p : ℕ) → Fits true (i ∷ is) (drop p (rows_from j ls)) → IsGiven write p (suc (length is)) new ls
-given write i is new short letters [] j p f = absurd (none_fits i is p f)
-given write i is new short letters (l ∷ ls) j p f = given_step write i is new short letters l l.statement ls (j && is_unlabelled l.names) p refl (given write i is new short letters ls) f
+given write i is new short in_window [] j p f = absurd (none_fits i is p f)
+given write i is new short in_window (l ∷ ls) j p f = given_step write i is new short in_window l l.statement ls (j && is_unlabelled l.names) p refl (given write i is new short in_window ls) f
 
 -- ---- bare lines ----
 
@@ -423,7 +423,7 @@ record StandsIn (write : Instr → List ℕ) (p : ℕ) (window new : List Instr)
 
 stands_first : (write : Instr → List ℕ) (i : Instr) (is new : List Instr) → length new ≤ suc (length is) → list_all is_in_window new ≡ true → (find : Name → Option NameLocation) (part : List ListingLine) (ps : List (List ListingLine)) (s : Footprint) (ss : List Footprint) (j : Bool) (p : ℕ)
     → AreFootprintsOf find (part ∷ ps) (s ∷ ss) → AllBegin ps → p < s.places → Fits true (i ∷ is) (drop p (rows_from j (part ++ joined ps))) → StandsIn write p (i ∷ is) new find 0 (part ∷ ps) (s ∷ ss) s
-stands_first write i is new short letters find part ps s ss j p h b less f =
+stands_first write i is new short in_window find part ps s ss j p h b less f =
     let rows = rows_length j part in
     let places = h.0.places in
     let bytes = h.0.bytes in
@@ -434,7 +434,7 @@ stands_first write i is new short letters find part ps s ss j p h b less f =
     record {
       within = omega arith;
       bytes = omega arith;
-      given = given_first write p (suc (length is)) new find part ps s ss (given write i is new short letters part j p fits) (alike_given write p (suc (length is)) new part j i is h.0.bare fits) h;
+      given = given_first write p (suc (length is)) new find part ps s ss (given write i is new short in_window part j p fits) (alike_given write p (suc (length is)) new part j i is h.0.bare fits) h;
     }
 
 -- rows behind a part
@@ -446,18 +446,18 @@ fits_behind i is j part rest p m e f =
 stands_in : (write : Instr → List ℕ) (i : Instr) (is new : List Instr) → length new ≤ suc (length is) → list_all is_in_window new ≡ true → (find : Name → Option NameLocation) (k : ℕ) (parts : List (List ListingLine)) (footprints : List Footprint) (s : Footprint) (j : Bool) (p : ℕ)
     → AreFootprintsOf find parts footprints → AllBegin (behind_first_part parts) → slice_get footprints k ≡ Some s → total_places (take k footprints) ≤ p → p < total_places (take k footprints) + s.places
     → Fits true (i ∷ is) (drop p (rows_from j (joined parts))) → StandsIn write p (i ∷ is) new find k parts footprints s
-stands_in write i is new short letters find k [] [] s j p h b e from until f = absurd (cc)
-stands_in write i is new short letters find k [] (t ∷ ss) s j p h b e from until f = absurd h
-stands_in write i is new short letters find k (part ∷ ps) [] s j p h b e from until f = absurd h
-stands_in write i is new short letters find zero (part ∷ ps) (t ∷ ss) s j p h b e from until f =
+stands_in write i is new short in_window find k [] [] s j p h b e from until f = absurd (cc)
+stands_in write i is new short in_window find k [] (t ∷ ss) s j p h b e from until f = absurd h
+stands_in write i is new short in_window find k (part ∷ ps) [] s j p h b e from until f = absurd h
+stands_in write i is new short in_window find zero (part ∷ ps) (t ∷ ss) s j p h b e from until f =
     let same : t ≡ s = cc in
     let places = ap (λ (x : Footprint). x.places) same in
-    subst (λ x. StandsIn write p (i ∷ is) new find 0 (part ∷ ps) (t ∷ ss) x) same (stands_first write i is new short letters find part ps t ss j p h b (omega arith) f)
-stands_in write i is new short letters find (suc k) (part ∷ ps) (t ∷ ss) s j p h b e from until f =
+    subst (λ x. StandsIn write p (i ∷ is) new find 0 (part ∷ ps) (t ∷ ss) x) same (stands_first write i is new short in_window find part ps t ss j p h b (omega arith) f)
+stands_in write i is new short in_window find (suc k) (part ∷ ps) (t ∷ ss) s j p h b e from until f =
     let places = h.0.places in
     let m : ℕ = p - length (places_of part) in
     let ahead : p ≡ length (places_of part) + m = omega arith in
-    let r = stands_in write i is new short letters find k ps ss s (still_joined j part) m h.1 (behind_begin ps b) e (omega arith) (omega arith) (fits_behind i is j part (joined ps) p m ahead f) in
+    let r = stands_in write i is new short in_window find k ps ss s (still_joined j part) m h.1 (behind_begin ps b) e (omega arith) (omega arith) (fits_behind i is j part (joined ps) p m ahead f) in
     let within = r.within in
     record { within = omega arith; bytes = r.bytes; given = given_later write p m (suc (length is)) new find k part ps t ss ahead h.0 r.given }
   where
@@ -479,13 +479,13 @@ pub record BeginsIn (lines : List ListingLine) (footprints : List Footprint) (he
 
 window_stands : (write : Instr → List ℕ) (lines : List ListingLine) (footprints : List Footprint) (here first place : ℕ) (s : Footprint) (window new : List Instr) → length new ≤ length window → list_all is_in_window new ≡ true → (b : BeginsIn lines footprints here first place s window)
     → StandsIn write place window new (target_in b.cut.parts) here b.cut.parts footprints s
-window_stands write lines footprints here first place s [] new short letters b = absurd (let h = b.some in omega arith)
-window_stands write lines footprints here first place s (i ∷ is) new short letters b =
+window_stands write lines footprints here first place s [] new short in_window b = absurd (let h = b.some in omega arith)
+window_stands write lines footprints here first place s (i ∷ is) new short in_window b =
     let from = b.from in
     let until = b.until in
     let first_is = b.first_is in
     let fits = subst (λ ls. Fits true (i ∷ is) (drop place (rows_from false ls))) b.cut.is (window_fits lines place (i ∷ is) (omega arith) b.is_window) in
-    stands_in write i is new short letters (target_in b.cut.parts) here b.cut.parts footprints s false place b.cut.footprints_are b.cut.begin b.is_footprint (omega arith) (omega arith) fits
+    stands_in write i is new short in_window (target_in b.cut.parts) here b.cut.parts footprints s false place b.cut.footprints_are b.cut.begin b.is_footprint (omega arith) (omega arith) fits
 
 target_same : (old new : List (List ListingLine)) (name : Name) → part_of name 0 new ≡ part_of name 0 old → set_address name (joined old) ≡ set_address name (joined new) → target_in old name ≡ target_in new name
 target_same old new name part set = ap (λ o. target_at o (cleared (set_address name (joined old)))) (sym part) ∙ ap (λ a. target_at (part_of name 0 new) (cleared a)) set
@@ -501,9 +501,9 @@ window_within lines footprints here first place s window b =
 -- where it gives way to fewer instructions, the lines are cut into the same parts, of which that one takes fewer bytes and has fewer places
 pub window_gives_way : (write : Instr → List ℕ) (lines : List ListingLine) (footprints : List Footprint) (here first place : ℕ) (s : Footprint) (window new : List Instr) → length new ≤ length window → list_all is_in_window new ≡ true → BeginsIn lines footprints here first place s window
     → AreCut (replaced_lines write place (length window) new lines) (lessen here (2 * (length window - length new)) (length window - length new) footprints)
-window_gives_way write lines footprints here first place s window new short letters b =
+window_gives_way write lines footprints here first place s window new short in_window b =
     let parts : List (List ListingLine) = b.cut.parts in
-    let g = (window_stands write lines footprints here first place s window new short letters b).given in
+    let g = (window_stands write lines footprints here first place s window new short in_window b).given in
     let news : List (List ListingLine) = g.news in
     let sets : (name : Name) → set_address name (joined parts) ≡ set_address name (joined news) = λ name. sets_kept write place (length window) new (joined parts) name ∙ ap (set_address name) g.lines in
     let same : (name : Name) → target_in parts name ≡ target_in news name = λ name. target_same parts news name (g.names name 0) (sets name) in

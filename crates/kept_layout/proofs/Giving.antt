@@ -45,14 +45,14 @@ pub record GivesWay (k : KeptLayout) (lines : List ListingLine) (place : ℕ) (w
   pub is_window : IsWindow lines place window
   pub some : 0 < length window
   pub fewer : length new ≤ length window
-  pub letters : list_all is_in_window new ≡ true
+  pub in_window : list_all is_in_window new ≡ true
 
 pub gives : {k : KeptLayout} {lines : List ListingLine} {place : ℕ} {window new : List Instr} → Lays k lines → IsNear k place → IsWindow lines place window → 0 < length window → length new ≤ length window → list_all is_in_window new ≡ true → GivesWay k lines place window new
-gives lays near is_window some fewer letters = record { lays = lays; near = near; is_window = is_window; some = some; fewer = fewer; letters = letters }
+gives lays near is_window some fewer in_window = record { lays = lays; near = near; is_window = is_window; some = some; fewer = fewer; in_window = in_window }
 
 -- so it is with the lines and the place of which that is known
 pub gives_way : {k : KeptLayout} {window new : List Instr} (at : StandsAt k window) → 0 < length window → length new ≤ length window → list_all is_in_window new ≡ true → GivesWay k at.lines at.place window new
-gives_way at some fewer letters = gives at.lays at.near at.is_window some fewer letters
+gives_way at some fewer in_window = gives at.lays at.near at.is_window some fewer in_window
 
 -- it begins in the block at which the layout stands
 begins_here : (k : KeptLayout) (lines : List ListingLine) (place : ℕ) (window new : List Instr) (s : Footprint) → slice_get (footprints_of k.blocks.items) k.here ≡ Some s → GivesWay k lines place window new → BeginsIn lines (footprints_of k.blocks.items) k.here k.first place s window
@@ -102,7 +102,7 @@ footprints_after k window new = lessen k.here (2 * (length window - length new))
 pub cut_after : (write : Instr → List ℕ) (k : KeptLayout) (lines : List ListingLine) (place : ℕ) (window new : List Instr) → GivesWay k lines place window new → AreCut (replaced_lines write place (length window) new lines) (footprints_after k window new)
 cut_after write k lines place window new g =
     let s = here_is k g.lays.laid in
-    window_gives_way write lines (footprints_of k.blocks.items) k.here k.first place s.0 window new g.fewer g.letters (begins_here k lines place window new s.0 s.1 g)
+    window_gives_way write lines (footprints_of k.blocks.items) k.here k.first place s.0 window new g.fewer g.in_window (begins_here k lines place window new s.0 s.1 g)
 
 -- they can be laid out where whatever the blocks then mention is within reach
 pub reach_after : (write : Instr → List ℕ) (k : KeptLayout) (lines : List ListingLine) (place : ℕ) (window new : List Instr) → GivesWay k lines place window new → Layable k.base (replaced_lines write place (length window) new lines) → AllReach k.base (footprints_after k window new)

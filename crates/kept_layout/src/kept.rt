@@ -104,7 +104,7 @@ impl KeptLayout {
         requires stands { StandsAt self.now window.now }
         requires some { 0 < length window.now }
         requires fewer { length new.now ≤ length window.now }
-        requires letters { list_all is_in_window new.now ≡ true }
+        requires in_window { list_all is_in_window new.now ≡ true }
         ensures layable { IfOk result (λ o. (lines : List ListingLine) (place : ℕ) → Lays self.now lines → IsNear self.now place → IsWindow lines place window.now → (is_some o ≡ true) ↔ Layable self.now.base (replaced_lines own_line place (length window.now) new.now lines)) }
         ensures moved { IfOk result (λ o. IfSome o (λ m. IsMoved self.now (2 * (length window.now - length new.now)) m.at.items m.by)) }
     {
@@ -117,7 +117,7 @@ impl KeptLayout {
         requires leaves { LeavesLayable self.old window.now new.now }
         requires some { 0 < length window.now }
         requires fewer { length new.now ≤ length window.now }
-        requires letters { list_all is_in_window new.now ≡ true }
+        requires in_window { list_all is_in_window new.now ≡ true }
         requires moved { IsMoved self.old (2 * (length window.now - length new.now)) moved.now.at.items moved.now.by }
         ensures lays { OnOk result ((lines : List ListingLine) (place : ℕ) → Lays self.old lines → IsNear self.old place → IsWindow lines place window.now → Lays self.new (replaced_lines own_line place (length window.now) new.now lines)) }
         ensures base { OnOk result (self.new.base ≡ self.old.base) }

@@ -21,7 +21,7 @@ need size at = (size - at % size) % size
 no_need : (x : ℕ) → (0 - x) % 0 ≡ 0
 no_need x = ap (λ (y : ℕ). y % 0) (let e : 0 - x ≡ 0 = omega arith in e)
 
-need_small : (size at : ℕ) → need size at ≤ size - 1
+pub need_small : (size at : ℕ) → need size at ≤ size - 1
 need_small zero at = rw (no_need (at % 0)) (omega arith)
 need_small (suc n) at = let h = mod_below (suc n - at % suc n) (suc n) (omega arith) in omega arith
 

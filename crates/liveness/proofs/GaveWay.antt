@@ -69,8 +69,8 @@ module _ (lines : List ListingLine) (place old new : ℕ) (sets : Sets) (w : Was
     keeps : KeepsAt code place w.window w.instrs
     keeps = record {
       stands = ap (λ n. take n (drop place code.places)) w.old_many ∙ w.stood;
-      letters = w.letters;
-      new_letters = w.new_letters;
+      in_window = w.in_window;
+      new_in_window = w.new_in_window;
       shorter = let o = w.old_many in let n = w.new_many in omega arith;
       unlabelled = λ k l e. subst (λ c. (l.place ≤ place) ⊎ (place + c ≤ l.place)) (sym w.old_many) (w.unlabelled k l e);
       labels_stay = λ k l e t.

@@ -43,10 +43,10 @@ drop_whole (x ∷ xs) (suc k) e = drop_whole xs k (omega arith)
 
 -- ---- straight code ----
 
-pub letter_at : (is : List Instr) (j : ℕ) (i : Instr) → list_all is_in_window is ≡ true → slice_get is j ≡ Some i → is_in_window i ≡ true
-letter_at [] j i h e = absurd (cc)
-letter_at (k ∷ is) zero i h e = ap is_in_window (sym (same_Some k i e)) ∙ and_left _ _ h
-letter_at (k ∷ is) (suc j) i h e = letter_at is j i (and_right (is_in_window k) _ h) e
+pub in_window_at : (is : List Instr) (j : ℕ) (i : Instr) → list_all is_in_window is ≡ true → slice_get is j ≡ Some i → is_in_window i ≡ true
+in_window_at [] j i h e = absurd (cc)
+in_window_at (k ∷ is) zero i h e = ap is_in_window (sym (same_Some k i e)) ∙ and_left _ _ h
+in_window_at (k ∷ is) (suc j) i h e = in_window_at is j i (and_right (is_in_window k) _ h) e
 
 pub runs_from : (code : Code) (q : ℕ) (is : List Instr) → list_all is_in_window is ≡ true → ((j : ℕ) (i : Instr) → slice_get is j ≡ Some i → slice_get code.places (q + j) ≡ Some (plain i)) → Runs code q is
 runs_from code q [] h s = tt
@@ -82,8 +82,8 @@ module _ (code : Code) (p : ℕ) (window new : List Instr) (at : KeepsAt code p 
     some = let s = at.shorter in omega arith;
     no_longer = let s = at.shorter in omega arith;
     first = first_is (drop_at window 0 (let s = at.shorter in omega arith));
-    no_call = subst AreNoCalls (sym at.stands) (no_calls window at.letters);
-    no_new_call = no_calls new at.new_letters;
+    no_call = subst AreNoCalls (sym at.stands) (no_calls window at.in_window);
+    no_new_call = no_calls new at.new_in_window;
     unlabelled = at.unlabelled;
     labels_stay = at.labels_stay;
   }
@@ -98,10 +98,10 @@ module _ (code : Code) (p : ℕ) (window new : List Instr) (at : KeepsAt code p 
   to = moved p (length window - length new)
 
   pub window_runs : Runs code p window
-  window_runs = runs_from code p window at.letters stands_at
+  window_runs = runs_from code p window at.in_window stands_at
 
   pub new_runs : Runs new_code p new
-  new_runs = runs_from new_code p new at.new_letters (λ j i e. fetch_window code p (length window) new fits_in j (slice_get_within new j i e) ∙ get_map plain new j i e)
+  new_runs = runs_from new_code p new at.new_in_window (λ j i e. fetch_window code p (length window) new fits_in j (slice_get_within new j i e) ∙ get_map plain new j i e)
 
   -- apart from the window
   abbrev pub IsApart : ℕ → Type 0

@@ -24,8 +24,8 @@ pub record WasLive (lines : List ListingLine) (place old new : ℕ) (sets : Sets
   pub old_many : length window ≡ old
   pub new_many : length instrs ≡ new
   pub stood : take old (drop place (places_of before)) ≡ map plain window
-  pub letters : list_all is_in_window window ≡ true
-  pub new_letters : list_all is_in_window instrs ≡ true
+  pub in_window : list_all is_in_window window ≡ true
+  pub new_in_window : list_all is_in_window instrs ≡ true
   pub unlabelled : (k : ℕ) (l : Label) → slice_get (labels_from 0 before) k ≡ Some l → (l.place ≤ place) ⊎ (place + old ≤ l.place)
   pub labels_stay : (k : ℕ) (l : Label) → slice_get (labels_from 0 before) k ≡ Some l → is_code (places_of before) l ≡ true → is_code (replaced (code_of before) place old instrs).places (move_label place (old - new) l) ≡ true
   pub is : lines ≡ replaced_lines write place old instrs before

@@ -47,8 +47,8 @@ AreFlowsFrom code q fs = (k : ℕ) (f : Flow) → slice_get fs k ≡ Some f → 
 -- the window stands from p on, and may give way to the new instructions, which are fewer: no label stands within it, and each code label is still code
 pub record KeepsAt (code : Code) (p : ℕ) (window new : List Instr) : Type 0 where
   pub stands : take (length window) (drop p code.places) ≡ map plain window
-  pub letters : list_all is_in_window window ≡ true
-  pub new_letters : list_all is_in_window new ≡ true
+  pub in_window : list_all is_in_window window ≡ true
+  pub new_in_window : list_all is_in_window new ≡ true
   pub shorter : length new < length window
   pub unlabelled : (k : ℕ) (l : Label) → slice_get code.labels k ≡ Some l → (l.place ≤ p) ⊎ (p + length window ≤ l.place)
   pub labels_stay : (k : ℕ) (l : Label) → slice_get code.labels k ≡ Some l → is_code code.places l ≡ true → is_code (replaced code p (length window) new).places (move_label p (length window - length new) l) ≡ true

@@ -1,4 +1,4 @@
--- What sequences cost, those of one letter more behind the others.
+-- What sequences cost, those of one instruction more behind the others.
 use Rattle.std.proofs.Common.{◌≡◌, ◌∙◌, ℕ, zero, suc, ◌+◌, ◌-◌, ◌*◌, ◌^◌, ◌<◌, ◌≤◌, List, [], ◌∷◌, ◌++◌, length, map, take, drop, get_or, slice_get, Some, refl, sym, ap, subst, arith, add-one, append_assoc, append-nil, length-append, length-drop, get_or-drop}
 use Rattle.std.specs.List.{flat_map, sum_by, All}
 use Rattle.std.proofs.Math.Seq.{take-suc}
@@ -47,18 +47,18 @@ next_place f old now new first place w low high e at is =
 -- ---- sequences by their lengths
 
 abbrev pub up_to : List Instr → ℕ → List (List Instr)
-up_to letters count = flat_map (words letters) (numbers_from 0 count)
+up_to alphabet count = flat_map (words alphabet) (numbers_from 0 count)
 
-pub up_more : (letters : List Instr) (n : ℕ) → up_to letters (n + 1) ≡ up_to letters n ++ words letters n
-up_more letters n = ap (flat_map (words letters)) (numbers_push n) ∙ flat_map-append (words letters) (numbers_from 0 n) (n ∷ []) ∙ ap (λ ws. up_to letters n ++ ws) (append-nil (words letters n))
+pub up_more : (alphabet : List Instr) (n : ℕ) → up_to alphabet (n + 1) ≡ up_to alphabet n ++ words alphabet n
+up_more alphabet n = ap (flat_map (words alphabet)) (numbers_push n) ∙ flat_map-append (words alphabet) (numbers_from 0 n) (n ∷ []) ∙ ap (λ ws. up_to alphabet n ++ ws) (append-nil (words alphabet n))
 
-pub up_none : (letters : List Instr) → up_to letters 0 ≡ []
+pub up_none : (alphabet : List Instr) → up_to alphabet 0 ≡ []
 unfolding numbers_from
-up_none letters = refl
+up_none alphabet = refl
 
-up_one : (letters : List Instr) → up_to letters 1 ≡ [] ∷ []
+up_one : (alphabet : List Instr) → up_to alphabet 1 ≡ [] ∷ []
 unfolding numbers_from words
-up_one letters = refl
+up_one alphabet = refl
 
 -- ---- weights
 
@@ -72,38 +72,38 @@ All-from_slice_get P [] each = All-nil P
 All-from_slice_get P (x ∷ xs) each = All-cons P x xs (each 0 x refl) (All-from_slice_get P xs (λ i. each (suc i)))
 
 module _ (costs : List ℕ) where
-  pub more_weights : (ws letters : List Instr) → map (weight_under (Some costs)) (map (λ x. ws ++ x ∷ []) letters) ≡ map (λ c. weight_under (Some costs) ws + c) (map (cost_in costs) letters)
+  pub more_weights : (ws alphabet : List Instr) → map (weight_under (Some costs)) (map (λ x. ws ++ x ∷ []) alphabet) ≡ map (λ c. weight_under (Some costs) ws + c) (map (cost_in costs) alphabet)
   more_weights ws [] = refl
-  more_weights ws (x ∷ letters) =
+  more_weights ws (x ∷ alphabet) =
       let one : sum_by (cost_in costs) (ws ++ x ∷ []) ≡ sum_by (cost_in costs) ws + cost_in costs x = sum_by-append (cost_in costs) ws (x ∷ []) ∙ omega arith in
-      ap (λ (n : ℕ). n ∷ map (weight_under (Some costs)) (map (λ y. ws ++ y ∷ []) letters)) one ∙ ap (λ ns. (sum_by (cost_in costs) ws + cost_in costs x) ∷ ns) (more_weights ws letters)
+      ap (λ (n : ℕ). n ∷ map (weight_under (Some costs)) (map (λ y. ws ++ y ∷ []) alphabet)) one ∙ ap (λ ns. (sum_by (cost_in costs) ws + cost_in costs x) ∷ ns) (more_weights ws alphabet)
 
-  longer_weights : (letters : List Instr) (seqs : List (List Instr)) → map (weight_under (Some costs)) (flat_map (λ w. map (λ x. w ++ x ∷ []) letters) seqs)
-      ≡ flat_map (λ w. map (λ c. w + c) (map (cost_in costs) letters)) (map (weight_under (Some costs)) seqs)
-  longer_weights letters [] = refl
-  longer_weights letters (s ∷ seqs) =
-      map-append (weight_under (Some costs)) (map (λ x. s ++ x ∷ []) letters) (flat_map (λ w. map (λ x. w ++ x ∷ []) letters) seqs)
-      ∙ ap (λ ns. ns ++ map (weight_under (Some costs)) (flat_map (λ w. map (λ x. w ++ x ∷ []) letters) seqs)) (more_weights s letters)
-      ∙ ap (λ ns. map (λ c. weight_under (Some costs) s + c) (map (cost_in costs) letters) ++ ns) (longer_weights letters seqs)
+  longer_weights : (alphabet : List Instr) (seqs : List (List Instr)) → map (weight_under (Some costs)) (flat_map (λ w. map (λ x. w ++ x ∷ []) alphabet) seqs)
+      ≡ flat_map (λ w. map (λ c. w + c) (map (cost_in costs) alphabet)) (map (weight_under (Some costs)) seqs)
+  longer_weights alphabet [] = refl
+  longer_weights alphabet (s ∷ seqs) =
+      map-append (weight_under (Some costs)) (map (λ x. s ++ x ∷ []) alphabet) (flat_map (λ w. map (λ x. w ++ x ∷ []) alphabet) seqs)
+      ∙ ap (λ ns. ns ++ map (weight_under (Some costs)) (flat_map (λ w. map (λ x. w ++ x ∷ []) alphabet) seqs)) (more_weights s alphabet)
+      ∙ ap (λ ns. map (λ c. weight_under (Some costs) s + c) (map (cost_in costs) alphabet) ++ ns) (longer_weights alphabet seqs)
 
-  pub begun : (letters : List Instr) → 0 ∷ [] ≡ map (weight_under (Some costs)) (up_to letters 1)
-  begun letters = sym (ap (map (weight_under (Some costs))) (up_one letters))
+  pub begun : (alphabet : List Instr) → 0 ∷ [] ≡ map (weight_under (Some costs)) (up_to alphabet 1)
+  begun alphabet = sym (ap (map (weight_under (Some costs))) (up_one alphabet))
 
-  pub grown : (letters : List Instr) (of_letters : List ℕ) (n first : ℕ) (now new : List ℕ) → of_letters ≡ map (cost_in costs) letters → now ≡ map (weight_under (Some costs)) (up_to letters (n + 1)) → first ≡ length (up_to letters n)
-      → new ≡ now ++ flat_map (λ w. map (λ c. w + c) of_letters) (drop first now) → new ≡ map (weight_under (Some costs)) (up_to letters (n + 1 + 1))
+  pub grown : (alphabet : List Instr) (instr_costs : List ℕ) (n first : ℕ) (now new : List ℕ) → instr_costs ≡ map (cost_in costs) alphabet → now ≡ map (weight_under (Some costs)) (up_to alphabet (n + 1)) → first ≡ length (up_to alphabet n)
+      → new ≡ now ++ flat_map (λ w. map (λ c. w + c) instr_costs) (drop first now) → new ≡ map (weight_under (Some costs)) (up_to alphabet (n + 1 + 1))
   unfolding words
-  grown letters of_letters n first now new of e size is =
-      let shorter = map (weight_under (Some costs)) (up_to letters n) in
-      let longest = map (weight_under (Some costs)) (words letters n) in
-      let parts : now ≡ shorter ++ longest = e ∙ ap (map (weight_under (Some costs))) (up_more letters n) ∙ map-append (weight_under (Some costs)) (up_to letters n) (words letters n) in
-      let back : drop first now ≡ longest = ap (drop first) parts ∙ drop_at shorter longest first (length-map (up_to letters n) (weight_under (Some costs)) ∙ sym size) in
-      let next : words letters (n + 1) ≡ flat_map (λ w. map (λ x. w ++ x ∷ []) letters) (words letters n) = ap (words letters) (add-one n) in
+  grown alphabet instr_costs n first now new of e size is =
+      let shorter = map (weight_under (Some costs)) (up_to alphabet n) in
+      let longest = map (weight_under (Some costs)) (words alphabet n) in
+      let parts : now ≡ shorter ++ longest = e ∙ ap (map (weight_under (Some costs))) (up_more alphabet n) ∙ map-append (weight_under (Some costs)) (up_to alphabet n) (words alphabet n) in
+      let back : drop first now ≡ longest = ap (drop first) parts ∙ drop_at shorter longest first (length-map (up_to alphabet n) (weight_under (Some costs)) ∙ sym size) in
+      let next : words alphabet (n + 1) ≡ flat_map (λ w. map (λ x. w ++ x ∷ []) alphabet) (words alphabet n) = ap (words alphabet) (add-one n) in
       is ∙ ap (λ ls. now ++ flat_map (λ w. map (λ c. w + c) ls) (drop first now)) of
-      ∙ ap (λ ws. now ++ flat_map (λ w. map (λ c. w + c) (map (cost_in costs) letters)) ws) back
-      ∙ ap (λ ws. now ++ ws) (sym (longer_weights letters (words letters n)) ∙ ap (map (weight_under (Some costs))) (sym next))
-      ∙ ap (λ ws. ws ++ map (weight_under (Some costs)) (words letters (n + 1))) e
-      ∙ sym (map-append (weight_under (Some costs)) (up_to letters (n + 1)) (words letters (n + 1)))
-      ∙ ap (map (weight_under (Some costs))) (sym (up_more letters (n + 1)))
+      ∙ ap (λ ws. now ++ flat_map (λ w. map (λ c. w + c) (map (cost_in costs) alphabet)) ws) back
+      ∙ ap (λ ws. now ++ ws) (sym (longer_weights alphabet (words alphabet n)) ∙ ap (map (weight_under (Some costs))) (sym next))
+      ∙ ap (λ ws. ws ++ map (weight_under (Some costs)) (words alphabet (n + 1))) e
+      ∙ sym (map-append (weight_under (Some costs)) (up_to alphabet (n + 1)) (words alphabet (n + 1)))
+      ∙ ap (map (weight_under (Some costs))) (sym (up_more alphabet (n + 1)))
 
   -- ---- bounds
 
@@ -117,21 +117,21 @@ module _ (costs : List ℕ) where
       let size : length (x ∷ seq) ≡ suc (length seq) = refl in
       omega (arith, cost_small are x, weight_small are seq, sum, size)
 
-  pub words_small : AreCosts costs → (letters : List Instr) (n : ℕ) → n ≤ 5 → All (λ w. w ≤ 320) (map (weight_under (Some costs)) (words letters n))
-  words_small are letters n short =
-      All-map (λ w. w ≤ 320) (weight_under (Some costs)) (words letters n)
-      (All-from_slice_get (λ seq. weight_under (Some costs) seq ≤ 320) (words letters n) (λ i seq at. omega (arith, weight_small are seq, word_length letters n i seq at)))
+  pub words_small : AreCosts costs → (alphabet : List Instr) (n : ℕ) → n ≤ 5 → All (λ w. w ≤ 320) (map (weight_under (Some costs)) (words alphabet n))
+  words_small are alphabet n short =
+      All-map (λ w. w ≤ 320) (weight_under (Some costs)) (words alphabet n)
+      (All-from_slice_get (λ seq. weight_under (Some costs) seq ≤ 320) (words alphabet n) (λ i seq at. omega (arith, weight_small are seq, word_length alphabet n i seq at)))
 
-  pub all_small : AreCosts costs → (letters : List Instr) (n : ℕ) → n ≤ 6 → All (λ w. w ≤ 320) (map (weight_under (Some costs)) (up_to letters n))
-  all_small are letters zero short = subst (λ seqs. All (λ w. w ≤ 320) (map (weight_under (Some costs)) seqs)) (sym (up_none letters)) (All-nil (λ w. w ≤ 320))
-  all_small are letters (suc n) short =
-      let more : map (weight_under (Some costs)) (up_to letters (suc n)) ≡ map (weight_under (Some costs)) (up_to letters n) ++ map (weight_under (Some costs)) (words letters n) =
-      ap (λ m. map (weight_under (Some costs)) (up_to letters m)) (sym (add-one n)) ∙ ap (map (weight_under (Some costs))) (up_more letters n) ∙ map-append (weight_under (Some costs)) (up_to letters n) (words letters n) in
-      All-same (λ w. w ≤ 320) _ _ more (All-append (λ w. w ≤ 320) _ _ (all_small are letters n (omega arith)) (words_small are letters n (omega arith)))
+  pub all_small : AreCosts costs → (alphabet : List Instr) (n : ℕ) → n ≤ 6 → All (λ w. w ≤ 320) (map (weight_under (Some costs)) (up_to alphabet n))
+  all_small are alphabet zero short = subst (λ seqs. All (λ w. w ≤ 320) (map (weight_under (Some costs)) seqs)) (sym (up_none alphabet)) (All-nil (λ w. w ≤ 320))
+  all_small are alphabet (suc n) short =
+      let more : map (weight_under (Some costs)) (up_to alphabet (suc n)) ≡ map (weight_under (Some costs)) (up_to alphabet n) ++ map (weight_under (Some costs)) (words alphabet n) =
+      ap (λ m. map (weight_under (Some costs)) (up_to alphabet m)) (sym (add-one n)) ∙ ap (map (weight_under (Some costs))) (up_more alphabet n) ∙ map-append (weight_under (Some costs)) (up_to alphabet n) (words alphabet n) in
+      All-same (λ w. w ≤ 320) _ _ more (All-append (λ w. w ≤ 320) _ _ (all_small are alphabet n (omega arith)) (words_small are alphabet n (omega arith)))
 
-pub length-up_to : (letters : List Instr) (n : ℕ) → length (up_to letters n) ≡ sum_below (λ m. length letters ^ m) n
+pub length-up_to : (alphabet : List Instr) (n : ℕ) → length (up_to alphabet n) ≡ sum_below (λ m. length alphabet ^ m) n
 unfolding sum_below
-length-up_to letters zero = ap length (up_none letters)
-length-up_to letters (suc n) =
-    ap (λ m. length (up_to letters m)) (sym (add-one n)) ∙ ap length (up_more letters n) ∙ length-append (up_to letters n) (words letters n)
-    ∙ omega (arith, length-up_to letters n, length-words letters n)
+length-up_to alphabet zero = ap length (up_none alphabet)
+length-up_to alphabet (suc n) =
+    ap (λ m. length (up_to alphabet m)) (sym (add-one n)) ∙ ap length (up_more alphabet n) ∙ length-append (up_to alphabet n) (words alphabet n)
+    ∙ omega (arith, length-up_to alphabet n, length-words alphabet n)

@@ -113,14 +113,14 @@ alphabet k pool = flat_map (members k pool) rows
 abbrev pub IsOver : ℕ → List ℕ → List Instr → Type 0
 IsOver k pool seq = All (Contains (alphabet k pool)) seq
 
--- the sequences of so many letters in order, the first letter weighing most: behind each shorter one, each letter
+-- the sequences of so many items in order, the first item weighing most: behind each shorter one, each item
 unfoldable pub words : {A : Type 0} → List A → ℕ → List (List A)
-words letters zero = [] ∷ []
-words letters (suc n) = flat_map (λ w. map (λ x. w ++ x ∷ []) letters) (words letters n)
+words items zero = [] ∷ []
+words items (suc n) = flat_map (λ w. map (λ x. w ++ x ∷ []) items) (words items n)
 
--- the sequences of at most five letters by number: the shorter ones first
+-- the sequences of at most five items by number: the shorter ones first
 unfoldable pub sequences_of : {A : Type 0} → List A → List (List A)
-sequences_of letters = flat_map (words letters) (numbers_from 0 6)
+sequences_of items = flat_map (words items) (numbers_from 0 6)
 
 -- those of the alphabet
 abbrev pub sequences : ℕ → List ℕ → List (List Instr)

@@ -5,18 +5,18 @@ use Rattle.seq_enum.specs.Alphabet.{words}
 use Rattle.seq_enum.specs.Places.{sum_below}
 use Rattle.seq_enum.specs.declared.walk.Walk.{Walk}
 
--- how many sequences are shorter than n letters
+-- how many sequences are shorter than n instructions
 abbrev pub shorter : List Instr → ℕ → ℕ
-shorter letters n = sum_below (λ m. length letters ^ m) n
+shorter alphabet n = sum_below (λ m. length alphabet ^ m) n
 
--- a sequence has this number, and its last letter this place among the letters
-pub record Stands (letters seq : List Instr) (number last : ℕ) : Type 0 where
-  pub some : 0 < length letters
-  pub few : length letters ≤ 1952
+-- a sequence has this number, and its last instruction this place in the alphabet
+pub record Stands (alphabet seq : List Instr) (number last : ℕ) : Type 0 where
+  pub some : 0 < length alphabet
+  pub few : length alphabet ≤ 1952
   pub short : length seq ≤ 5
-  pub behind : shorter letters (length seq) ≤ number
-  pub word : slice_get (words letters (length seq)) (number - shorter letters (length seq)) ≡ Some seq
-  pub digit : (number - shorter letters (length seq)) % length letters ≡ last
+  pub behind : shorter alphabet (length seq) ≤ number
+  pub word : slice_get (words alphabet (length seq)) (number - shorter alphabet (length seq)) ≡ Some seq
+  pub digit : (number - shorter alphabet (length seq)) % length alphabet ≡ last
 
 abbrev pub IsWalk : Walk → Type 0
-IsWalk w = Stands w.letters.now w.instrs.items w.number w.last
+IsWalk w = Stands w.alphabet.now w.instrs.items w.number w.last

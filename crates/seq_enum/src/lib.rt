@@ -23,4 +23,4 @@ pub use numbering::{Numbering, count_below, number_of};
 pub use pool::Pool;
 pub use rows::rank;
 pub use sequences::seq_at;
-pub use walk::{Walk, letters, letters_at};
+pub use walk::{Walk, alphabet_instrs, instrs_at};

@@ -10,10 +10,10 @@ use arrayvec::ArrayVec;
 use std::alloc::{AllocError, Global};
 use thumb_instr::Instr;
 
-/// A walk through the sequences of at most five letters of an alphabet, in order of their numbers.
+/// A walk through the sequences of at most five instructions of an alphabet, in order of their numbers.
 #[derive(Drop)]
 pub struct Walk<'a> {
-    letters: &'a [Instr],
+    alphabet: &'a [Instr],
     instrs: ArrayVec<Instr, 5>,
     last: u64,
     number: u64,
@@ -21,15 +21,15 @@ pub struct Walk<'a> {
 
 impl<'a> Walk<'a> {
     /// A walk that stands at sequence 0, which is empty.
-    pub fn new(letters: &'a [Instr]) -> Self
-        requires some { 0 < length letters.now }
-        requires few { length letters.now ≤ 1952 }
+    pub fn new(alphabet: &'a [Instr]) -> Self
+        requires some { 0 < length alphabet.now }
+        requires few { length alphabet.now ≤ 1952 }
         ensures stands { IsWalk result }
-        ensures letters { result.letters.now ≡ letters.now }
+        ensures alphabet { result.alphabet.now ≡ alphabet.now }
         ensures number { result.number ≡ 0 }
     {
         Walk {
-            letters,
+            alphabet,
             instrs: ArrayVec::new(),
             last: 0,
             number: 0,
@@ -46,7 +46,7 @@ impl<'a> Walk<'a> {
     /// The sequence where it stands.
     pub fn instrs(&self) -> &[Instr]
         requires { IsWalk self.now }
-        ensures { slice_get (sequences_of self.now.letters.now) self.now.number ≡ Some result.now }
+        ensures { slice_get (sequences_of self.now.alphabet.now) self.now.number ≡ Some result.now }
     {
         self.instrs.as_slice()
     }
@@ -55,22 +55,22 @@ impl<'a> Walk<'a> {
     pub fn next(&mut self) -> bool
         requires { IsWalk self.old }
         ensures stands { IsWalk self.new }
-        ensures letters { self.new.letters.now ≡ self.old.letters.now }
+        ensures alphabet { self.new.alphabet.now ≡ self.old.alphabet.now }
         ensures more { OnTrue result (self.new.number ≡ self.old.number + 1) }
-        ensures end { OnFalse result (slice_get (sequences_of self.old.letters.now) (self.old.number + 1) ≡ None) }
+        ensures end { OnFalse result (slice_get (sequences_of self.old.alphabet.now) (self.old.number + 1) ≡ None) }
         ensures stays { OnFalse result (self.new.number ≡ self.old.number) }
     {
-        let letters = self.letters;
+        let alphabet = self.alphabet;
         let next = self.last + 1;
         let count = self.instrs.len();
-        if count > 0 && next < letters.len() as u64 {
+        if count > 0 && next < alphabet.len() as u64 {
             self.instrs.truncate(count - 1);
-            self.instrs.push(letters[next as usize]);
+            self.instrs.push(alphabet[next as usize]);
             self.last = next;
             self.number += 1;
             return true;
         }
-        match word_of(letters, self.number + 1) {
+        match word_of(alphabet, self.number + 1) {
             None => false,
             Some((instrs, last)) => {
                 self.instrs = instrs;
@@ -83,54 +83,54 @@ impl<'a> Walk<'a> {
 }
 
 /// The instructions of the alphabet, in order.
-pub fn letters(alloc: Global, k: u8, pool: &Pool) -> Result<Vec<Instr>, AllocError>
+pub fn alphabet_instrs(alloc: Global, k: u8, pool: &Pool) -> Result<Vec<Instr>, AllocError>
     requires some { 0 < k }
     requires few { k ≤ 4 }
-    ensures value { IfOk result (λ letters. letters.items ≡ alphabet k pool.now) }
-    ensures some { IfOk result (λ letters. 0 < length letters.items) }
-    ensures few { IfOk result (λ letters. length letters.items ≤ 1952) }
+    ensures value { IfOk result (λ instrs. instrs.items ≡ alphabet k pool.now) }
+    ensures some { IfOk result (λ instrs. 0 < length instrs.items) }
+    ensures few { IfOk result (λ instrs. length instrs.items ≤ 1952) }
 {
     let count = size(k, pool);
-    let mut letters = Vec::new(alloc);
+    let mut instrs = Vec::new(alloc);
     for place in 0..count {
         match instr_at(k, pool, place) {
             None => unreachable!(),
-            Some(instr) => letters.push(instr)?,
+            Some(instr) => instrs.push(instr)?,
         }
     }
-    Ok(letters)
+    Ok(instrs)
 }
 
-/// The sequence of a number, and the place of its last letter.
-fn word_of(letters: &[Instr], number: u64) -> Option<(ArrayVec<Instr, 5>, u64)>
-    requires some { 0 < length letters.now }
-    requires few { length letters.now ≤ 1952 }
-    ensures { MatchOption result (slice_get (sequences_of letters.now) number ≡ None) (λ p. Stands letters.now p.0.items number p.1) }
+/// The sequence of a number, and the place of its last instruction.
+fn word_of(alphabet: &[Instr], number: u64) -> Option<(ArrayVec<Instr, 5>, u64)>
+    requires some { 0 < length alphabet.now }
+    requires few { length alphabet.now ≤ 1952 }
+    ensures { MatchOption result (slice_get (sequences_of alphabet.now) number ≡ None) (λ p. Stands alphabet.now p.0.items number p.1) }
 {
-    let size = letters.len() as u64;
+    let size = alphabet.len() as u64;
     let mut left = number;
     for n in 0..6u32 {
         let count = size.pow(n);
         if left < count {
-            return Some((letters_at(letters, n, left), left % size));
+            return Some((instrs_at(alphabet, n, left), left % size));
         }
         left -= count;
     }
     None
 }
 
-/// The letters of a place among the sequences of so many.
-pub fn letters_at(letters: &[Instr], count: u32, place: u64) -> ArrayVec<Instr, 5>
-    requires some { 0 < length letters.now }
+/// The instructions of a place among the sequences of so many.
+pub fn instrs_at(alphabet: &[Instr], count: u32, place: u64) -> ArrayVec<Instr, 5>
+    requires some { 0 < length alphabet.now }
     requires short { count ≤ 5 }
-    requires within { place < length letters.now ^ count }
-    ensures { slice_get (words letters.now count) place ≡ Some result.items }
+    requires within { place < length alphabet.now ^ count }
+    ensures { slice_get (words alphabet.now count) place ≡ Some result.items }
 {
-    let size = letters.len() as u64;
+    let size = alphabet.len() as u64;
     let mut instrs = ArrayVec::new();
     let mut left = place;
     for _turn in 0..count {
-        instrs.insert(0, letters[(left % size) as usize]);
+        instrs.insert(0, alphabet[(left % size) as usize]);
         left /= size;
     }
     instrs

@@ -1,5 +1,5 @@
-//! What all sequences cost, in order of their numbers. The sequences of one letter more are, for each of the longest ones in order, each letter behind it, so
-//! that what a sequence costs comes from what it costs without its last letter.
+//! What all sequences cost, in order of their numbers. The sequences of one instruction more are, for each of the longest ones in order, each instruction
+//! behind it, so that what a sequence costs comes from what it costs without its last instruction.
 ghost use Rattle.std.specs.Prelude.{◌≡◌, ◌+◌, ◌<◌, ◌≤◌, ◌++◌, All, IfOk, OnOk, Some, drop, length, map};
 ghost use Rattle.std.specs.List.{flat_map};
 ghost use Rattle.seq_enum.specs.Alphabet.{numbers_from, alphabet, words};
@@ -7,46 +7,46 @@ ghost use Rattle.seq_enum.specs.Costs.{cost_in, weight_under};
 
 use crate::costs::Costs;
 use crate::pool::Pool;
-use crate::walk::letters;
+use crate::walk::alphabet_instrs;
 use std::alloc::{AllocError, Global};
 use thumb_instr::Instr;
 
-/// What each letter costs, 1 to 64.
-fn letter_costs(alloc: Global, letters: &[Instr], costs: &Costs) -> Result<Vec<u16>, AllocError>
-    ensures value { IfOk result (λ v. v.items ≡ map (cost_in costs.now) letters.now) }
+/// What each instruction costs, 1 to 64.
+fn instr_costs(alloc: Global, alphabet: &[Instr], costs: &Costs) -> Result<Vec<u16>, AllocError>
+    ensures value { IfOk result (λ v. v.items ≡ map (cost_in costs.now) alphabet.now) }
     ensures small { IfOk result (λ v. All (λ cost. cost ≤ 64) v.items) }
 {
-    let mut all = Vec::with_capacity(alloc, letters.len())?;
-    for letter in letters {
-        all.push(costs.of_instr(letter) as u16)?;
+    let mut all = Vec::with_capacity(alloc, alphabet.len())?;
+    for instr in alphabet {
+        all.push(costs.of_instr(instr) as u16)?;
     }
     Ok(all)
 }
 
-/// Puts what a sequence costs with each letter behind it behind the others.
+/// Puts what a sequence costs with each instruction behind it behind the others.
 #[inline(always)]
-fn push_letters(weights: &mut Vec<u16>, letters: &[u16], weight: u16) -> Result<(), AllocError>
+fn push_extended(weights: &mut Vec<u16>, costs: &[u16], weight: u16) -> Result<(), AllocError>
     requires small { weight ≤ 320 }
-    requires letters { All (λ cost. cost ≤ 64) letters.now }
-    ensures { OnOk result (weights.new.items ≡ weights.old.items ++ map (λ cost. weight + cost) letters.now) }
+    requires costs { All (λ cost. cost ≤ 64) costs.now }
+    ensures { OnOk result (weights.new.items ≡ weights.old.items ++ map (λ cost. weight + cost) costs.now) }
 {
-    for letter in letters {
-        weights.push(weight + *letter)?;
+    for cost in costs {
+        weights.push(weight + *cost)?;
     }
     Ok(())
 }
 
-/// Puts what the sequences from a place on cost, each with each letter behind it, behind the others.
-fn push_longer(weights: &mut Vec<u16>, letters: &[u16], first: usize) -> Result<(), AllocError>
+/// Puts what the sequences from a place on cost, each with each instruction behind it, behind the others.
+fn push_longer(weights: &mut Vec<u16>, costs: &[u16], first: usize) -> Result<(), AllocError>
     requires within { first ≤ length weights.old.items }
     requires small { All (λ weight. weight ≤ 320) weights.old.items }
-    requires letters { All (λ cost. cost ≤ 64) letters.now }
+    requires costs { All (λ cost. cost ≤ 64) costs.now }
     ensures { OnOk result (weights.new.items ≡ weights.old.items
-        ++ flat_map (λ weight. map (λ cost. weight + cost) letters.now) (drop first weights.old.items)) }
+        ++ flat_map (λ weight. map (λ cost. weight + cost) costs.now) (drop first weights.old.items)) }
 {
     for place in first..weights.len() {
         let weight = weights[place];
-        push_letters(weights, letters, weight)?;
+        push_extended(weights, costs, weight)?;
     }
     Ok(())
 }
@@ -66,13 +66,13 @@ pub(crate) fn weights(
     ensures small { IfOk result (λ v. All (λ weight. weight ≤ 320) v.items) }
 {
     let _numbers = costs.numbers();
-    let letters = letters(alloc, k, pool)?;
-    let letters = letter_costs(alloc, &letters, costs)?;
+    let alphabet = alphabet_instrs(alloc, k, pool)?;
+    let instr_costs = instr_costs(alloc, &alphabet, costs)?;
     let mut weights = vec![in alloc; 0]?;
     let mut first = 0;
     for _turn in 0..longest {
         let next = weights.len();
-        push_longer(&mut weights, &letters, first)?;
+        push_longer(&mut weights, &instr_costs, first)?;
         first = next;
     }
     Ok(weights)

@@ -41,37 +41,37 @@ below_short h left right q seq valid b = omega (arith, length_within h.costs seq
 
 -- ---- each untold one is among the numbers ----
 
--- the table's letters are the entry's alphabet, and its sequences as long as those that are tried
-pub record IsTried (t : Table) (e : Rule) (letters : List Instr) (longest : ℕ) : Type 0 where
+-- the table's instructions are the entry's alphabet, and its sequences as long as those that are tried
+pub record IsTried (t : Table) (e : Rule) (instrs : List Instr) (longest : ℕ) : Type 0 where
   pub costs : IfSome t.header.costs AreCosts
   pub few : length e.left ≤ 5
-  pub is_alphabet : letters ≡ alphabet (alphabet_registers t.header e.left) t.header.pool
+  pub is_alphabet : instrs ≡ alphabet (alphabet_registers t.header e.left) t.header.pool
   pub is_longest : longest ≡ min (length e.left) (weight_in t.header e.right - 1)
 
-module _ (t : Table) (e : Rule) (letters : List Instr) (longest : ℕ) (tried : IsTried t e letters longest) where
+module _ (t : Table) (e : Rule) (instrs : List Instr) (longest : ℕ) (tried : IsTried t e instrs longest) where
   abbrev k : ℕ
   k = alphabet_registers t.header e.left
 
-  same : table.sequences_below letters (longest + 1) ≡ sequences_below k t.header.pool (longest + 1)
-  same = below_same k (longest + 1) t.header.pool letters (longest + 1) tried.is_alphabet refl
+  same : table.sequences_below instrs (longest + 1) ≡ sequences_below k t.header.pool (longest + 1)
+  same = below_same k (longest + 1) t.header.pool instrs (longest + 1) tried.is_alphabet refl
 
   short : longest + 1 ≤ 6
   short = omega (arith, tried.is_longest, tried.few)
 
   -- a number below the count is that of a sequence no longer than the left side
-  within_tried : (q : ℕ) → q < length (table.sequences_below letters (longest + 1)) → IsWithin t e q
+  within_tried : (q : ℕ) → q < length (table.sequences_below instrs (longest + 1)) → IsWithin t e q
   within_tried q low =
       let one = present_at (sequences_below k t.header.pool (longest + 1)) q (subst (λ ws. q < length ws) same low) in
       let in_all = below_in k t.header.pool (longest + 1) q one.0 short one.1 in
       record { seq = one.0; at = in_all.0; no_longer = omega (arith, in_all.1, tried.is_longest) }
 
   -- one below the right side stands there
-  below_there : (q : ℕ) (seq : List Instr) → IsBelow t.header e.left e.right q seq → slice_get (table.sequences_below letters (longest + 1)) q ≡ Some seq
+  below_there : (q : ℕ) (seq : List Instr) → IsBelow t.header e.left e.right q seq → slice_get (table.sequences_below instrs (longest + 1)) q ≡ Some seq
   below_there q seq b =
       let l = below_short t.header e.left e.right q seq tried.costs b in
       ap (λ ws. slice_get ws q) same ∙ below_from k t.header.pool (longest + 1) q seq short b.at (omega (arith, l, tried.is_longest))
 
-  pub few_cover : (limit : ℕ) (numbers : List ℕ) → limit ≡ weight_in t.header e.right → AreLighter t.header.costs limit (table.sequences_below letters (longest + 1)) numbers → CoverUntold t e numbers
+  pub few_cover : (limit : ℕ) (numbers : List ℕ) → limit ≡ weight_in t.header e.right → AreLighter t.header.costs limit (table.sequences_below instrs (longest + 1)) numbers → CoverUntold t e numbers
   few_cover limit numbers is are = record {
     ascending = are.ascending;
     within = λ q c. within_tried q (are.within q c);
@@ -79,43 +79,43 @@ module _ (t : Table) (e : Rule) (letters : List Instr) (longest : ℕ) (tried : 
   }
 
   pub candidates_cover : (trials : List Trial) (numbers : List ℕ) → ((x : ℕ) → has e.mask x ≡ true → is_in_masks x ≡ true) → AreTrials e.left t.states trials
-      → AreCandidates (table.sequences_below letters (longest + 1)) trials e.mask numbers → CoverUntold t e numbers
+      → AreCandidates (table.sequences_below instrs (longest + 1)) trials e.mask numbers → CoverUntold t e numbers
   candidates_cover trials numbers in_masks trial are = record {
     ascending = are.ascending;
     within = λ q c. within_tried q (are.within q c);
-    untold = λ q seq u. elim (told_or_candidate (table.sequences_below letters (longest + 1)) trials e.mask numbers in_masks are q seq (below_there q seq u.below)) [
+    untold = λ q seq u. elim (told_or_candidate (table.sequences_below instrs (longest + 1)) trials e.mask numbers in_masks are q seq (below_there q seq u.below)) [
       | inl has ↦ has
       | inr tells ↦ absurd (u.untold ((told_is e.left t.states trials seq e.mask trial).0 tells))
     ];
   }
 
   -- the table gets no more sequences than 128 for each that is below the right side
-  pub few_rows : (trials : List Trial) (x : Extent) (limit : ℕ) → x.letters ≡ letters → limit ≡ weight_in t.header e.right
-      → length (table.sequences_below letters (longest + 1)) ≤ 128 * length (filter (is_lighter t.header.costs limit) (table.sequences_below letters (longest + 1)))
+  pub few_rows : (trials : List Trial) (x : Extent) (limit : ℕ) → x.alphabet ≡ instrs → limit ≡ weight_in t.header e.right
+      → length (table.sequences_below instrs (longest + 1)) ≤ 128 * length (filter (is_lighter t.header.costs limit) (table.sequences_below instrs (longest + 1)))
       → added_for trials longest x ≤ 128 * length (below t.header e.left e.right)
   unfolding below
-  few_rows trials x limit e_letters is enough =
-      let rows : added_for trials longest x ≤ length (table.sequences_below letters (longest + 1)) = added_few trials in
-      let kept : length (filter (is_lighter t.header.costs limit) (table.sequences_below letters (longest + 1))) ≤ length (filter (is_lighter t.header.costs limit) (table.sequences_below letters (length e.left + 1))) =
-      filter_longer (is_lighter t.header.costs limit) letters (longest + 1) (length e.left + 1) (omega (arith, tried.is_longest)) in
-      let all : table.sequences_below letters (length e.left + 1) ≡ sequences_below k t.header.pool (length e.left + 1) = below_same k (length e.left + 1) t.header.pool letters (length e.left + 1) tried.is_alphabet refl in
-      let size : length (filter (is_lighter t.header.costs limit) (table.sequences_below letters (length e.left + 1))) ≡ length (filter (is_lighter t.header.costs (weight_in t.header e.right)) (sequences_below k t.header.pool (length e.left + 1))) =
+  few_rows trials x limit e_instrs is enough =
+      let rows : added_for trials longest x ≤ length (table.sequences_below instrs (longest + 1)) = added_few trials in
+      let kept : length (filter (is_lighter t.header.costs limit) (table.sequences_below instrs (longest + 1))) ≤ length (filter (is_lighter t.header.costs limit) (table.sequences_below instrs (length e.left + 1))) =
+      filter_longer (is_lighter t.header.costs limit) instrs (longest + 1) (length e.left + 1) (omega (arith, tried.is_longest)) in
+      let all : table.sequences_below instrs (length e.left + 1) ≡ sequences_below k t.header.pool (length e.left + 1) = below_same k (length e.left + 1) t.header.pool instrs (length e.left + 1) tried.is_alphabet refl in
+      let size : length (filter (is_lighter t.header.costs limit) (table.sequences_below instrs (length e.left + 1))) ≡ length (filter (is_lighter t.header.costs (weight_in t.header e.right)) (sequences_below k t.header.pool (length e.left + 1))) =
       ap (λ ws. length (filter (is_lighter t.header.costs limit) ws)) all ∙ ap (λ m. length (filter (is_lighter t.header.costs m) (sequences_below k t.header.pool (length e.left + 1)))) is in
       omega (arith, rows, enough, kept, size)
     where
-      added_few : (trials : List Trial) → added_for trials longest x ≤ length (table.sequences_below letters (longest + 1))
+      added_few : (trials : List Trial) → added_for trials longest x ≤ length (table.sequences_below instrs (longest + 1))
       added_few [] = omega arith
-      added_few (u ∷ us) = (let most = few_added x longest in let size : length (table.sequences_below x.letters (longest + 1)) ≡ length (table.sequences_below letters (longest + 1)) = ap (λ ls. length (table.sequences_below ls (longest + 1))) e_letters in omega (arith, most, size))
+      added_few (u ∷ us) = (let most = few_added x longest in let size : length (table.sequences_below x.alphabet (longest + 1)) ≡ length (table.sequences_below instrs (longest + 1)) = ap (λ ls. length (table.sequences_below ls (longest + 1))) e_instrs in omega (arith, most, size))
 
-      filter_more : (p : List Instr → Bool) (letters : List Instr) (m d : ℕ) → length (filter p (table.sequences_below letters m)) ≤ length (filter p (table.sequences_below letters (m + d)))
-      filter_more p letters m zero = let same : m + 0 ≡ m = omega arith in rw same (omega arith)
-      filter_more p letters m (suc d) =
+      filter_more : (p : List Instr → Bool) (instrs : List Instr) (m d : ℕ) → length (filter p (table.sequences_below instrs m)) ≤ length (filter p (table.sequences_below instrs (m + d)))
+      filter_more p instrs m zero = let same : m + 0 ≡ m = omega arith in rw same (omega arith)
+      filter_more p instrs m (suc d) =
           let next : m + suc d ≡ m + d + 1 = omega arith in
-          let split = ap (λ ws. length (filter p ws)) (below_more letters (m + d)) ∙ ap (λ ws. length ws) (filter-append p (table.sequences_below letters (m + d)) _) ∙ length-append (filter p (table.sequences_below letters (m + d))) _ in
-          rw next (omega (arith, split, filter_more p letters m d))
+          let split = ap (λ ws. length (filter p ws)) (below_more instrs (m + d)) ∙ ap (λ ws. length ws) (filter-append p (table.sequences_below instrs (m + d)) _) ∙ length-append (filter p (table.sequences_below instrs (m + d))) _ in
+          rw next (omega (arith, split, filter_more p instrs m d))
 
-      filter_longer : (p : List Instr → Bool) (letters : List Instr) (m n : ℕ) → m ≤ n → length (filter p (table.sequences_below letters m)) ≤ length (filter p (table.sequences_below letters n))
-      filter_longer p letters m n h = let e : m + (n - m) ≡ n = omega (arith, h) in subst (λ j. length (filter p (table.sequences_below letters m)) ≤ length (filter p (table.sequences_below letters j))) e (filter_more p letters m (n - m))
+      filter_longer : (p : List Instr → Bool) (instrs : List Instr) (m n : ℕ) → m ≤ n → length (filter p (table.sequences_below instrs m)) ≤ length (filter p (table.sequences_below instrs n))
+      filter_longer p instrs m n h = let e : m + (n - m) ≡ n = omega (arith, h) in subst (λ j. length (filter p (table.sequences_below instrs m)) ≤ length (filter p (table.sequences_below instrs j))) e (filter_more p instrs m (n - m))
 
 -- ---- steps ----
 

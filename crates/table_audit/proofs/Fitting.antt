@@ -13,33 +13,33 @@ use Rattle.table_audit.specs.Canonical.{HasFormula}
 use Rattle.table_audit.specs.Orders.{IsInOrder, AreWithin}
 use Rattle.seq_enum.proofs.Shared.{over_sequences}
 use Rattle.table_audit.proofs.Numbering.{has_number}
-use Rattle.fingerprints.proofs.Letters.{IsLetter, letter}
+use Rattle.fingerprints.proofs.Members.{IsMember, member}
 
--- a sequence has a number exactly where each instruction is a letter
+-- a sequence has a number exactly where each instruction is one of the alphabet
 pub has_place : (k : ℕ) (pool : List ℕ) (s : List Instr) (p : Option ℕ) → length s ≤ 5 → IsPlace p (sequences k pool) s → IsTrue (is_some p) ↔ IsOver k pool s
 has_place k pool s None short place = (λ h. absurd (cc), λ over. (let at = has_number k pool s short over in let no : None ≡ Some at.0 = place.found at.0 at.1 in absurd (cc)))
 has_place k pool s (Some q) short place = (λ h. over_sequences k pool q s (place.stands q refl), λ over. refl)
 
--- ---- letters, one after the other ----
+-- ---- instructions, one after the other ----
 
 over_rest : {X : Type 0} (P : X → Type 0) (x : X) (xs : List X) → All P (x ∷ xs) → P x × All P xs
 over_rest P x xs all = (all 0 x (omega arith), λ i d low. all (suc i) d (omega arith))
 
-letter_of : (k : ℕ) (pool : List ℕ) (i : Instr) → k ≤ 8 → Contains (alphabet k pool) i → IsLetter k i
-letter_of k pool i few has = letter k pool has.0 i few (slice_get-get_or (alphabet k pool) has.0 i has.1 ∙ ap Some has.2)
+is_member : (k : ℕ) (pool : List ℕ) (i : Instr) → k ≤ 8 → Contains (alphabet k pool) i → IsMember k i
+is_member k pool i few has = member k pool has.0 i few (slice_get-get_or (alphabet k pool) has.0 i has.1 ∙ ap Some has.2)
 
 pub are_over : (k : ℕ) (pool : List ℕ) (s : List Instr) → k ≤ 8 → IsOver k pool s → AreOver k s
 are_over k pool [] few over = tt
 are_over k pool (i ∷ is) few over =
     let parts = over_rest (Contains (alphabet k pool)) i is over in
-    let l = letter_of k pool i few parts.0 in
+    let l = is_member k pool i few parts.0 in
     (l.window, l.below, are_over k pool is few parts.1)
 
 pub are_normal : (k : ℕ) (pool : List ℕ) (s : List Instr) → k ≤ 8 → IsOver k pool s → map normal_of s ≡ s
 are_normal k pool [] few over = refl
 are_normal k pool (i ∷ is) few over =
     let parts = over_rest (Contains (alphabet k pool)) i is over in
-    let l = letter_of k pool i few parts.0 in
+    let l = is_member k pool i few parts.0 in
     let rest = are_normal k pool is few parts.1 in
     let one = l.normal in
     cc

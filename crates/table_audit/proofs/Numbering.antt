@@ -59,57 +59,57 @@ pub length-sequences_below : (k : ℕ) (pool : List ℕ) (n : ℕ) → length (s
 unfolding sequences_below sum_below numbers_from
 length-sequences_below k pool zero = refl
 length-sequences_below k pool (suc n) =
-    let letters = alphabet k pool in
+    let instrs = alphabet k pool in
     let split : numbers_from 0 (suc n) ≡ numbers_from 0 n ++ n ∷ [] = ap (numbers_from 0) (sym (add-one n)) ∙ numbers_split 0 n 1 ∙ ap (λ m. numbers_from 0 n ++ m ∷ []) (zero-add n) in
-    ap (λ ns. length (flat_map (words letters) ns)) split
-    ∙ ap length (flat_map-append (words letters) (numbers_from 0 n) (n ∷ []))
-    ∙ length-append (flat_map (words letters) (numbers_from 0 n)) (words letters n ++ [])
-    ∙ omega (arith, length-sequences_below k pool n, length-append (words letters n) [], length-words letters n)
+    ap (λ ns. length (flat_map (words instrs) ns)) split
+    ∙ ap length (flat_map-append (words instrs) (numbers_from 0 n) (n ∷ []))
+    ∙ length-append (flat_map (words instrs) (numbers_from 0 n)) (words instrs n ++ [])
+    ∙ omega (arith, length-sequences_below k pool n, length-append (words instrs n) [], length-words instrs n)
 
 -- the same, where the alphabet's size is known
 pub count_is : (k : ℕ) (pool : List ℕ) (n m size count : ℕ) → size ≡ length (alphabet k pool) → m ≡ n → count ≡ sum_below (λ i. size ^ i) m → count ≡ length (sequences_below k pool n)
 count_is k pool n m size count e f h = h ∙ ap (λ s. sum_below (λ i. s ^ i) m) e ∙ ap (λ j. sum_below (λ i. length (alphabet k pool) ^ i) j) f ∙ sym (length-sequences_below k pool n)
 
--- ---- the letters of sequences ----
+-- ---- the instructions of sequences ----
 
--- a sequence of letters is a word
-words_have : (letters : List Instr) (n : ℕ) (s : List Instr) → length s ≡ n → All (Contains letters) s → (i : ℕ) × (slice_get (words letters n) i ≡ Some s)
+-- a sequence of instructions that are listed is a word
+words_have : (instrs : List Instr) (n : ℕ) (s : List Instr) → length s ≡ n → All (Contains instrs) s → (i : ℕ) × (slice_get (words instrs n) i ≡ Some s)
 unfolding words
-words_have letters zero [] size over = (0, refl)
-words_have letters zero (y ∷ ys) size over = absurd (omega arith)
-words_have letters (suc n) [] size over = absurd (omega arith)
-words_have letters (suc n) (y ∷ ys) size over =
+words_have instrs zero [] size over = (0, refl)
+words_have instrs zero (y ∷ ys) size over = absurd (omega arith)
+words_have instrs (suc n) [] size over = absurd (omega arith)
+words_have instrs (suc n) (y ∷ ys) size over =
     let s = y ∷ ys in
-    let make : List Instr → List (List Instr) = λ w. map (λ x. w ++ x ∷ []) letters in
+    let make : List Instr → List (List Instr) = λ w. map (λ x. w ++ x ∷ []) instrs in
     let low : n < length s = omega arith in
     let x = get_or s n y in
     let one = over n y low in
     let parts : take n s ++ x ∷ [] ≡ s = sym (take_more s n y low) ∙ take_all (n + 1) s (omega arith) in
-    let front = words_have letters n (take n s) (length-take-le n s (omega arith)) (All-take (Contains letters) n s over) in
-    let last : slice_get letters one.0 ≡ Some x = slice_get-get_or letters one.0 x one.1 ∙ ap Some one.2 in (
-      front.0 * length letters + one.0,
-      get-flat_map make (length letters) (words letters n) (λ j w e. length-map letters (λ v. w ++ v ∷ [])) front.0 one.0 one.1
-          ∙ rw front.1 (slice_get-map (λ v. take n s ++ v ∷ []) letters one.0 ∙ ap (option_map (λ v. take n s ++ v ∷ [])) last ∙ ap Some parts),
+    let front = words_have instrs n (take n s) (length-take-le n s (omega arith)) (All-take (Contains instrs) n s over) in
+    let last : slice_get instrs one.0 ≡ Some x = slice_get-get_or instrs one.0 x one.1 ∙ ap Some one.2 in (
+      front.0 * length instrs + one.0,
+      get-flat_map make (length instrs) (words instrs n) (λ j w e. length-map instrs (λ v. w ++ v ∷ [])) front.0 one.0 one.1
+          ∙ rw front.1 (slice_get-map (λ v. take n s ++ v ∷ []) instrs one.0 ∙ ap (option_map (λ v. take n s ++ v ∷ [])) last ∙ ap Some parts),
     )
 
--- so a sequence of at most five letters has a number
+-- so a sequence of at most five instructions has a number
 pub has_number : (k : ℕ) (pool : List ℕ) (s : List Instr) → length s ≤ 5 → IsOver k pool s → (q : ℕ) × (slice_get (sequences k pool) q ≡ Some s)
 unfolding numbers_from
 has_number k pool s short over =
-    let letters = alphabet k pool in
+    let instrs = alphabet k pool in
     let n = length s in
-    let word = words_have letters n s refl over in
+    let word = words_have instrs n s refl over in
     let front = sequences_below k pool n in
     let more : 6 - n ≡ suc (5 - n) = omega arith in
-    let rest = flat_map (words letters) (numbers_from (suc n) (5 - n)) in
-    let back : flat_map (words letters) (numbers_from n (6 - n)) ≡ words letters n ++ rest = ap (λ m. flat_map (words letters) (numbers_from n m)) more in
-    let low : word.0 < length (words letters n) = slice_get_within (words letters n) word.0 s word.1 in
+    let rest = flat_map (words instrs) (numbers_from (suc n) (5 - n)) in
+    let back : flat_map (words instrs) (numbers_from n (6 - n)) ≡ words instrs n ++ rest = ap (λ m. flat_map (words instrs) (numbers_from n m)) more in
+    let low : word.0 < length (words instrs n) = slice_get_within (words instrs n) word.0 s word.1 in
     let place : length front + word.0 - length front ≡ word.0 = omega arith in (
       length front + word.0,
       ap (λ xs. slice_get xs (length front + word.0)) (sequences_split k pool n (omega arith) ∙ ap (λ xs. front ++ xs) back)
-          ∙ get_back front (words letters n ++ rest) (length front + word.0) (omega arith)
-          ∙ ap (slice_get (words letters n ++ rest)) place
-          ∙ get_front (words letters n) rest word.0 low
+          ∙ get_back front (words instrs n ++ rest) (length front + word.0) (omega arith)
+          ∙ ap (slice_get (words instrs n ++ rest)) place
+          ∙ get_front (words instrs n) rest word.0 low
           ∙ word.1,
     )
 

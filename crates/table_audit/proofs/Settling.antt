@@ -62,8 +62,8 @@ first_or_later x ys q c = found c.0 c.1 c.2
     found (suc k) low e = inr (k, omega (arith, low), e)
 
 -- the sequence of a number that is tried
-module _ (t : Table) (e : Rule) (numbers : List ℕ) (i : ℕ) (low : i < length numbers) (cover : CoverUntold t e numbers) (letters : List Instr) (is : letters ≡ alphabet (alphabet_registers t.header e.left) t.header.pool)
-    (o : Option (List Instr)) (got : o ≡ slice_get (sequences_of letters) (get_or numbers i 0)) where
+module _ (t : Table) (e : Rule) (numbers : List ℕ) (i : ℕ) (low : i < length numbers) (cover : CoverUntold t e numbers) (instrs : List Instr) (is : instrs ≡ alphabet (alphabet_registers t.header e.left) t.header.pool)
+    (o : Option (List Instr)) (got : o ≡ slice_get (sequences_of instrs) (get_or numbers i 0)) where
   its_within : IsWithin t e (get_or numbers i 0)
   its_within = cover.within (get_or numbers i 0) (Contains-get_or numbers i 0 low)
 
@@ -228,13 +228,13 @@ pub some_there : {X : Type 0} (xs : List X) → (xs ≡ [] → ⊥) → 0 < leng
 some_there [] h = absurd (h refl)
 some_there (x ∷ xs) h = omega arith
 
--- a table that has grown is of the same registers, letters and state
+-- a table that has grown is of the same registers, alphabet and state
 pub grown_is_for : (k : ℕ) (pool : List ℕ) (start : WState) (trials : List Trial) (longest : ℕ) (old new : Extent) → new ≡ grown_for trials longest old → IsFor k pool start old → IsFor k pool start new
 grown_is_for k pool start [] longest old new e is = subst (IsFor k pool start) (sym e) is
-grown_is_for k pool start (t ∷ ts) longest old new e is = subst (IsFor k pool start) (sym e) (record { registers = is.registers; letters = is.letters; state = is.state })
+grown_is_for k pool start (t ∷ ts) longest old new e is = subst (IsFor k pool start) (sym e) (record { registers = is.registers; alphabet = is.alphabet; state = is.state })
 
 pub is_for_own : (k : ℕ) (pool : List ℕ) (start : WState) (x : Extent) → IsFor k pool start x → IsFor x.registers pool start x
-is_for_own k pool start x is = record { registers = refl; letters = is.letters ∙ ap (λ j. alphabet j pool) (sym is.registers); state = is.state }
+is_for_own k pool start x is = record { registers = refl; alphabet = is.alphabet ∙ ap (λ j. alphabet j pool) (sym is.registers); state = is.state }
 
 -- ---- sequences by number ----
 
@@ -243,16 +243,16 @@ pub record IsHere (k : ℕ) (pool : List ℕ) (n q : ℕ) (seq : List Instr) : T
   pub all : slice_get (sequences k pool) q ≡ Some seq
   pub short : length seq < n
 
-pub here : (k : ℕ) (pool : List ℕ) (n q : ℕ) (letters : List Instr) (o : Option (List Instr)) (seq : List Instr) → n ≤ 6 → letters ≡ alphabet k pool → q < length (sequences_below k pool n) → o ≡ slice_get (sequences_of letters) q → o ≡ Some seq → IsHere k pool n q seq
-here k pool n q letters o seq few is low e f =
+pub here : (k : ℕ) (pool : List ℕ) (n q : ℕ) (instrs : List Instr) (o : Option (List Instr)) (seq : List Instr) → n ≤ 6 → instrs ≡ alphabet k pool → q < length (sequences_below k pool n) → o ≡ slice_get (sequences_of instrs) q → o ≡ Some seq → IsHere k pool n q seq
+here k pool n q instrs o seq few is low e f =
     let one = present_at (sequences_below k pool n) q low in
     let whole = below_in k pool n q one.0 few one.1 in
     let there : slice_get (sequences k pool) q ≡ Some seq = ap (λ ls. slice_get (sequences_of ls) q) (sym is) ∙ sym e ∙ f in
     let same : one.0 ≡ seq = same_Some one.0 seq (sym whole.0 ∙ there) in
     record { at = one.1 ∙ ap (λ z. Some z) same; all = there; short = (let l = whole.1 in omega (arith, l, ap (λ (w : List Instr). length w) same)) }
 
-pub not_here : (k : ℕ) (pool : List ℕ) (n q : ℕ) (letters : List Instr) (o : Option (List Instr)) → n ≤ 6 → letters ≡ alphabet k pool → q < length (sequences_below k pool n) → o ≡ slice_get (sequences_of letters) q → o ≡ None → ⊥
-not_here k pool n q letters o few is low e f =
+pub not_here : (k : ℕ) (pool : List ℕ) (n q : ℕ) (instrs : List Instr) (o : Option (List Instr)) → n ≤ 6 → instrs ≡ alphabet k pool → q < length (sequences_below k pool n) → o ≡ slice_get (sequences_of instrs) q → o ≡ None → ⊥
+not_here k pool n q instrs o few is low e f =
     let one = present_at (sequences_below k pool n) q low in
     let whole = below_in k pool n q one.0 few one.1 in
     let clash : None ≡ Some one.0 = sym f ∙ e ∙ ap (λ ls. slice_get (sequences_of ls) q) is ∙ whole.0 in
@@ -273,6 +273,6 @@ begins_at left (s ∷ ss) (t ∷ ts) start are is =
     let one : seen t.start ≡ seen s = head_is (seen t.start) (seen s) (map start_of ts) (map seen ss) are.starts in
     is ∙ sym (same_state t.start s one)
 
-pub below_same : (k n : ℕ) (pool : List ℕ) (letters : List Instr) (m : ℕ) → letters ≡ alphabet k pool → m ≡ n → table.sequences_below letters m ≡ sequences_below k pool n
+pub below_same : (k n : ℕ) (pool : List ℕ) (instrs : List Instr) (m : ℕ) → instrs ≡ alphabet k pool → m ≡ n → table.sequences_below instrs m ≡ sequences_below k pool n
 unfolding table.sequences_below sequences_below
-below_same k n pool letters m is e = ap (λ j. table.sequences_below letters j) e ∙ ap (λ ls. table.sequences_below ls n) is
+below_same k n pool instrs m is e = ap (λ j. table.sequences_below instrs j) e ∙ ap (λ ls. table.sequences_below ls n) is

@@ -13,14 +13,14 @@ pub record AreLighter (costs : Option (List ℕ)) (limit : ℕ) (seqs : List (Li
   pub within : (q : ℕ) → Contains numbers q → q < length seqs
   pub each : (q : ℕ) (seq : List Instr) → slice_get seqs q ≡ Some seq → Contains numbers q ↔ (is_lighter costs limit seq ≡ true)
 
--- whether there is a letter, and it costs less than a limit
-abbrev pub is_light_letter : Option (List ℕ) → ℕ → Option Instr → Bool
-is_light_letter costs limit None = false
-is_light_letter costs limit (Some x) = nat_lt (cost_under costs x) limit
+-- whether there is an instruction, and it costs less than a limit
+abbrev pub is_light_instr : Option (List ℕ) → ℕ → Option Instr → Bool
+is_light_instr costs limit None = false
+is_light_instr costs limit (Some x) = nat_lt (cost_under costs x) limit
 
--- whether one of the letters, whose first has this number, is lighter than a limit and has a number below a count
+-- whether one of the instructions, whose first has this number, is lighter than a limit and has a number below a count
 abbrev pub is_light_at : Option (List ℕ) → List Instr → (first limit count : ℕ) → ℕ → Bool
-is_light_at costs letters first limit count q = nat_lt q count && is_light_letter costs limit (slice_get letters (q - first))
+is_light_at costs alphabet first limit count q = nat_lt q count && is_light_instr costs limit (slice_get alphabet (q - first))
 
 -- the number is that of a sequence of the entry's alphabet, no longer than the left side
 pub record IsWithin (t : Table) (e : Rule) (number : ℕ) : Type 0 where

@@ -1,5 +1,5 @@
-//! The sequences that weigh less than a limit, where they are few beside those that are as long. Each letter weighs something, so a sequence without its last
-//! letter is lighter: all of them are found by putting letters behind those that were found before.
+//! The sequences that weigh less than a limit, where they are few beside those that are as long. Each instruction weighs something, so a sequence without its
+//! last instruction is lighter: all of them are found by putting instructions behind those that were found before.
 ghost use Rattle.std.specs.Prelude.{◌≡◌, ◌<◌, ◌≤◌, ◌+◌, ◌*◌, ◌^◌, ◌++◌, None, IfOk, IsTrue, OnOk, MatchOption, filter, length};
 ghost use Rattle.seq_enum.specs.Alphabet.{numbers_from};
 ghost use Rattle.seq_enum.specs.Costs.{cost_under};
@@ -26,25 +26,25 @@ fn cost(costs: &Option<Costs>, instr: &Instr) -> u32
     }
 }
 
-/// Puts the numbers of a sequence with one letter more, in order of the letters, behind the others, where they are below a count and the letter weighs
-/// less than a limit.
+/// Puts the numbers of a sequence with one instruction more, in order of the instructions, behind the others, where they are below a count and the instruction
+/// weighs less than a limit.
 fn push_longer(
     numbers: &mut Vec<u64>,
     costs: &Option<Costs>,
-    letters: &[Instr],
+    alphabet: &[Instr],
     number: u64,
     limit: u32,
     count: u64,
 ) -> Result<(), AllocError>
-    requires few { length letters.now ≤ 1952 }
+    requires few { length alphabet.now ≤ 1952 }
     requires small { number < 2 ^ 50 }
     ensures { OnOk result (numbers.new.items ≡ numbers.old.items
-        ++ filter (is_light_at costs.now letters.now (number * length letters.now + 1) limit count) (numbers_from (number * length letters.now + 1) (length letters.now))) }
+        ++ filter (is_light_at costs.now alphabet.now (number * length alphabet.now + 1) limit count) (numbers_from (number * length alphabet.now + 1) (length alphabet.now))) }
 {
-    let first = number * letters.len() as u64 + 1;
-    for (place, letter) in letters.iter().enumerate() {
+    let first = number * alphabet.len() as u64 + 1;
+    for (place, instr) in alphabet.iter().enumerate() {
         let longer = first + place as u64;
-        if longer < count && cost(costs, letter) < limit {
+        if longer < count && cost(costs, instr) < limit {
             numbers.push(longer)?;
         }
     }
@@ -73,13 +73,13 @@ pub(crate) fn few_lighter(
     requires short { longest ≤ 4 }
     requires some { 0 < limit }
     ensures { IfOk result (λ found. MatchOption found
-        (length (sequences_below outcomes.now.letters (longest + 1)) ≤ 128 * length (filter (is_lighter costs.now limit) (sequences_below outcomes.now.letters (longest + 1))))
-        (λ v. AreLighter costs.now limit (sequences_below outcomes.now.letters (longest + 1)) v.items)) }
+        (length (sequences_below outcomes.now.alphabet (longest + 1)) ≤ 128 * length (filter (is_lighter costs.now limit) (sequences_below outcomes.now.alphabet (longest + 1))))
+        (λ v. AreLighter costs.now limit (sequences_below outcomes.now.alphabet (longest + 1)) v.items)) }
 {
     if are_all_lighter(costs, longest, limit) {
         return Ok(None);
     }
-    let letters = outcomes.letters();
+    let alphabet = outcomes.alphabet();
     let count = outcomes.count(longest);
     let most = (count / SHARE) as usize;
     let mut numbers = vec![in alloc; 0]?;
@@ -90,7 +90,7 @@ pub(crate) fn few_lighter(
             unreachable!();
         };
         let left = limit - weight(costs, &seq);
-        push_longer(&mut numbers, costs, letters, number, left, count)?;
+        push_longer(&mut numbers, costs, alphabet, number, left, count)?;
         place += 1;
     }
     if numbers.len() <= most {

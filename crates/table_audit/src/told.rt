@@ -78,7 +78,7 @@ fn first_untold<L: Ledger>(
     trials: &[Trial],
     steps: &mut Steps<L>,
 ) -> Option<u64>
-    requires letters { outcomes.now.letters ≡ alphabet (alphabet_registers (header_in table.now) entry.now.left) table.now.pool }
+    requires alphabet { outcomes.now.alphabet ≡ alphabet (alphabet_registers (header_in table.now) entry.now.left) table.now.pool }
     requires few { length entry.now.left ≤ 5 }
     requires ascending { ascends_from 0 (numbers_of (map opened_of entry.now.opens.items)) ≡ true }
     requires trials { AreTrials entry.now.left (map seen table.now.states) trials.now }
@@ -116,7 +116,7 @@ fn numbers_to_try<L: Ledger>(
     requires some { 0 < length entry.now.right }
     requires no_longer { length entry.now.right ≤ length entry.now.left }
     requires short { lengths_below table.now.costs (length entry.now.left) ≤ 5 }
-    requires letters { outcomes.old.letters ≡ alphabet (alphabet_registers (header_in table.now) entry.now.left) table.now.pool }
+    requires alphabet { outcomes.old.alphabet ≡ alphabet (alphabet_registers (header_in table.now) entry.now.left) table.now.pool }
     requires start { outcomes.old.start ≡ first_of table.now.states }
     requires trials { AreTrials entry.now.left (map seen table.now.states) trials.now }
     ensures numbers { IfOk result (λ v. CoverUntold (table_of table.now) (rule_of entry.now) v.items) }

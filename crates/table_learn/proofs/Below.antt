@@ -14,7 +14,7 @@ use Rattle.table_audit.proofs.Numbering.{below_in, below_from, length-sequences_
 use Rattle.table_learn.specs.Learnt.{Settings, Window}
 use Rattle.table_learn.specs.Given.{IsWindow}
 use Rattle.table_learn.specs.Searching.{width_at}
-use Rattle.table_learn.proofs.Monotone.{least_letters, sum_more, shorter_more}
+use Rattle.table_learn.proofs.Monotone.{least_instrs, sum_more, shorter_more}
 use Rattle.table_learn.proofs.Registers.{few_registers, some_registers, narrow_registers}
 use Rattle.thumb_model.proofs.Lists.{present_at}
 
@@ -105,7 +105,7 @@ wide_sum = omega arith
 five_wide : (k : ℕ) (pool : List ℕ) → 0 < k → k ≤ 4 → 5000000 < length (sequences_below k pool 6)
 five_wide k pool some few =
     let e = length-sequences_below k pool 6 in
-    let size = least_letters k pool some few in
+    let size = least_instrs k pool some few in
     let wide : sum_below (λ i. 26 ^ i) 6 ≤ sum_below (λ i. length (alphabet k pool) ^ i) 6 = sum_more 26 (length (alphabet k pool)) 6 size in
     omega (arith, e, wide, wide_sum)
 

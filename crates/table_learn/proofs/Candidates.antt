@@ -31,9 +31,9 @@ use Rattle.table_learn.proofs.Sorting.{order_ascending, order_by_weight, few_by_
 use Rattle.table_learn.proofs.Telling.{is_told}
 use Rattle.thumb_model.proofs.Lists.{present_at}
 
-pub table_below : (s : Settings) (w : Window) (k n : ℕ) (letters : List Instr) → k ≡ alphabet_registers s w.seq → letters ≡ alphabet k s.pool → table.sequences_below letters n ≡ sequences_below (alphabet_registers s w.seq) s.pool n
+pub table_below : (s : Settings) (w : Window) (k n : ℕ) (instrs : List Instr) → k ≡ alphabet_registers s w.seq → instrs ≡ alphabet k s.pool → table.sequences_below instrs n ≡ sequences_below (alphabet_registers s w.seq) s.pool n
 unfolding table.sequences_below sequences_below
-table_below s w k n letters named is = ap (λ ls. table.sequences_below ls n) is ∙ ap (λ j. table.sequences_below (alphabet j s.pool) n) named
+table_below s w k n instrs named is = ap (λ ls. table.sequences_below ls n) is ∙ ap (λ j. table.sequences_below (alphabet j s.pool) n) named
 
 first_tells : (states : List WState) (w : Window) (seq : List Instr) (start : WState) (t : Trial) → IsMask w.mask → slice_get (map seen states) 0 ≡ Some (seen start) → t.start ≡ start → values_of t.end ≡ after_all w.seq (values_of start) → Any (TellsFrom seq w.mask) (t ∷ []) → told (map seen states) w.seq seq w.mask ≡ true
 first_tells states w seq start t m at begins ends h =
@@ -77,9 +77,9 @@ ordered : (costs : Option (List ℕ)) (k : ℕ) (pool : List ℕ) (left : List I
 ordered None k pool left count numbers f = order_ascending (weight_at None (alphabet k pool)) 0 (length (sequences_below k pool count)) numbers (λ a b. lengths_rise k pool count a b f.few) f.ascending f.within
 ordered (Some costs) k pool left count numbers f = order_by_weight (weight_at (Some costs) (alphabet k pool)) (weight_under (Some costs) left) 0 numbers f.ascending
 
-few_ordered : (costs : Option (List ℕ)) (letters left : List Instr) (numbers : List ℕ) → length (in_order costs letters left numbers) ≤ length numbers
-few_ordered None letters left numbers = omega arith
-few_ordered (Some costs) letters left numbers = few_by_weight (weight_at (Some costs) letters) (weight_under (Some costs) left) numbers
+few_ordered : (costs : Option (List ℕ)) (instrs left : List Instr) (numbers : List ℕ) → length (in_order costs instrs left numbers) ≤ length numbers
+few_ordered None instrs left numbers = omega arith
+few_ordered (Some costs) instrs left numbers = few_by_weight (weight_at (Some costs) instrs) (weight_under (Some costs) left) numbers
 
 -- each is that of a sequence that is no longer and weighs less than the left side
 record IsLighter (costs : Option (List ℕ)) (k : ℕ) (pool : List ℕ) (left : List Instr) (q : ℕ) : Type 0 where
@@ -103,58 +103,58 @@ from_ordered (Some costs) k pool left count numbers q f c =
     record { seq = one.0; at = place.0; no_longer = omega (arith, place.1, short); lighter = (let low = from.1 in omega (arith, low, is)) }
 
 -- and all such stay
-to_ordered : (costs : Option (List ℕ)) (letters left : List Instr) (numbers : List ℕ) (q : ℕ) (seq : List Instr) → Contains numbers q → slice_get (sequences_of letters) q ≡ Some seq → weight_under costs seq < weight_under costs left
-    → Contains (in_order costs letters left numbers) q
-to_ordered None letters left numbers q seq c at less = c
-to_ordered (Some costs) letters left numbers q seq c at less =
-    let is : weight_at (Some costs) letters q ≡ weight_under (Some costs) seq = ap (weight_or_none (Some costs)) at in
-    to_by_weight (weight_at (Some costs) letters) (weight_under (Some costs) left) numbers q c (omega (arith, less, is))
+to_ordered : (costs : Option (List ℕ)) (instrs left : List Instr) (numbers : List ℕ) (q : ℕ) (seq : List Instr) → Contains numbers q → slice_get (sequences_of instrs) q ≡ Some seq → weight_under costs seq < weight_under costs left
+    → Contains (in_order costs instrs left numbers) q
+to_ordered None instrs left numbers q seq c at less = c
+to_ordered (Some costs) instrs left numbers q seq c at less =
+    let is : weight_at (Some costs) instrs q ≡ weight_under (Some costs) seq = ap (weight_or_none (Some costs)) at in
+    to_by_weight (weight_at (Some costs) instrs) (weight_under (Some costs) left) numbers q c (omega (arith, less, is))
 
 -- the table's sequences, of which the first state leaves these numbers
-pub record AreLeft (s : Settings) (w : Window) (seqs : List (List Instr)) (letters : List Instr) (t : Trial) (numbers : List ℕ) : Type 0 where
+pub record AreLeft (s : Settings) (w : Window) (seqs : List (List Instr)) (instrs : List Instr) (t : Trial) (numbers : List ℕ) : Type 0 where
   pub window : IsWindow s w
   pub costs : IfSome s.costs AreCosts
   pub short : lengths_below s.costs (length w.seq) ≤ 5
   pub those : seqs ≡ sequences_below (alphabet_registers s w.seq) s.pool (longest_in s.costs w.seq + 1)
-  pub alphabetic : letters ≡ alphabet (alphabet_registers s w.seq) s.pool
+  pub alphabetic : instrs ≡ alphabet (alphabet_registers s w.seq) s.pool
   pub found : found.AreCandidates seqs (t ∷ []) w.mask numbers
 
-pub are_left : (s : Settings) (w : Window) (k n : ℕ) (e later : Extent) (t : Trial) (numbers : List ℕ) → IsWindow s w → IfSome s.costs AreCosts → lengths_below s.costs (length w.seq) ≤ 5 → k ≡ alphabet_registers s w.seq → e.letters ≡ alphabet k s.pool
-    → n ≡ longest_in s.costs w.seq → later ≡ grown_to n e → found.AreCandidates (table.sequences_below e.letters (n + 1)) (t ∷ []) w.mask numbers → AreLeft s w (table.sequences_below e.letters (n + 1)) later.letters t numbers
+pub are_left : (s : Settings) (w : Window) (k n : ℕ) (e later : Extent) (t : Trial) (numbers : List ℕ) → IsWindow s w → IfSome s.costs AreCosts → lengths_below s.costs (length w.seq) ≤ 5 → k ≡ alphabet_registers s w.seq → e.alphabet ≡ alphabet k s.pool
+    → n ≡ longest_in s.costs w.seq → later ≡ grown_to n e → found.AreCandidates (table.sequences_below e.alphabet (n + 1)) (t ∷ []) w.mask numbers → AreLeft s w (table.sequences_below e.alphabet (n + 1)) later.alphabet t numbers
 are_left s w k n e later t numbers window costs short named is long grown are = record {
   window = window;
   costs = costs;
   short = short;
-  those = table_below s w k (n + 1) e.letters named is ∙ ap (λ m. sequences_below (alphabet_registers s w.seq) s.pool (m + 1)) long;
-  alphabetic = ap (λ (x : Extent). x.letters) grown ∙ is ∙ ap (λ j. alphabet j s.pool) named;
+  those = table_below s w k (n + 1) e.alphabet named is ∙ ap (λ m. sequences_below (alphabet_registers s w.seq) s.pool (m + 1)) long;
+  alphabetic = ap (λ (x : Extent). x.alphabet) grown ∙ is ∙ ap (λ j. alphabet j s.pool) named;
   found = are;
 }
 
-found_so : (s : Settings) (w : Window) (seqs : List (List Instr)) (letters : List Instr) (t : Trial) (numbers : List ℕ) → AreLeft s w seqs letters t numbers
+found_so : (s : Settings) (w : Window) (seqs : List (List Instr)) (instrs : List Instr) (t : Trial) (numbers : List ℕ) → AreLeft s w seqs instrs t numbers
     → AreFound s.costs (alphabet_registers s w.seq) s.pool w.seq (longest_in s.costs w.seq + 1) numbers
-found_so s w seqs letters t numbers l =
+found_so s w seqs instrs t numbers l =
     let short = longest_short s.costs w.seq l.window.canonical.renamable.some in
     let five = l.short in
     record { few = omega (arith, short, five); short = short; ascending = l.found.ascending; within = λ q c. subst (λ ss. q < length ss) l.those (l.found.within q c) }
 
 -- each number is that of a sequence
-pub all_there : (s : Settings) (w : Window) (seqs : List (List Instr)) (letters : List Instr) (t : Trial) (numbers : List ℕ) → AreLeft s w seqs letters t numbers → All (λ q. q < length (sequences_of letters)) numbers
-all_there s w seqs letters t numbers l j d low =
+pub all_there : (s : Settings) (w : Window) (seqs : List (List Instr)) (instrs : List Instr) (t : Trial) (numbers : List ℕ) → AreLeft s w seqs instrs t numbers → All (λ q. q < length (sequences_of instrs)) numbers
+all_there s w seqs instrs t numbers l j d low =
     let k : ℕ = alphabet_registers s w.seq in
-    let f = found_so s w seqs letters t numbers l in
+    let f = found_so s w seqs instrs t numbers l in
     let count : ℕ = longest_in s.costs w.seq + 1 in
     let q : ℕ = get_or numbers j d in
     let one = present_at (sequences_below k s.pool count) q (f.within q (Contains-get_or numbers j d low)) in
     let place = below_in k s.pool count q one.0 f.few one.1 in
-    slice_get_within (sequences_of letters) q one.0 (ap (λ ls. slice_get (sequences_of ls) q) l.alphabetic ∙ place.0)
+    slice_get_within (sequences_of instrs) q one.0 (ap (λ ls. slice_get (sequences_of ls) q) l.alphabetic ∙ place.0)
 
-pub candidates_are : (s : Settings) (states : List WState) (w : Window) (seqs : List (List Instr)) (letters : List Instr) (start : WState) (t : Trial) (numbers order : List ℕ) → IsMask w.mask → AreLeft s w seqs letters t numbers
-    → slice_get (map seen states) 0 ≡ Some (seen start) → t.start ≡ start → values_of t.end ≡ after_all w.seq (values_of start) → order ≡ in_order s.costs letters w.seq numbers → AreCandidates s (map seen states) w order
-candidates_are s states w seqs letters start t numbers order m l at begins ends o =
+pub candidates_are : (s : Settings) (states : List WState) (w : Window) (seqs : List (List Instr)) (instrs : List Instr) (start : WState) (t : Trial) (numbers order : List ℕ) → IsMask w.mask → AreLeft s w seqs instrs t numbers
+    → slice_get (map seen states) 0 ≡ Some (seen start) → t.start ≡ start → values_of t.end ≡ after_all w.seq (values_of start) → order ≡ in_order s.costs instrs w.seq numbers → AreCandidates s (map seen states) w order
+candidates_are s states w seqs instrs start t numbers order m l at begins ends o =
     let k : ℕ = alphabet_registers s w.seq in
     let count : ℕ = longest_in s.costs w.seq + 1 in
     let mine : order ≡ in_order s.costs (alphabet k s.pool) w.seq numbers = o ∙ ap (λ ls. in_order s.costs ls w.seq numbers) l.alphabetic in
-    let f = found_so s w seqs letters t numbers l in
+    let f = found_so s w seqs instrs t numbers l in
     let fewer : 0 + length numbers ≤ length (sequences_below k s.pool count) = few_numbers 0 (length (sequences_below k s.pool count)) numbers (omega arith) f.ascending (λ j d low. f.within (get_or numbers j d) (Contains-get_or numbers j d low)) in
     subst (AreCandidates s (map seen states) w) (sym mine) (record {
       ordered = ordered s.costs k s.pool w.seq count numbers f;

@@ -17,7 +17,7 @@ use Rattle.table_learn.specs.Fitness.{IsFit, tells_number, stays_open, without_t
 use Rattle.table_learn.specs.Progress.{table_with}
 use Rattle.table_learn.proofs.Certificates.{refutation_passes, search_spends}
 use Rattle.table_learn.proofs.Telling.{told_is, untold, told_more, told-append, untold_both}
-pub use Rattle.fingerprints.proofs.Letters.{filter_at}
+pub use Rattle.fingerprints.proofs.Members.{filter_at}
 use Rattle.seq_enum.proofs.Ascending.{ascends_lower}
 
 -- ---- the audit ----

@@ -52,9 +52,9 @@ alphabet_more k m pool some h few =
     let g = size_more (length (those_within 0 8 pool)) (length (those_within 0 256 pool)) (length (those_within 1 32 pool)) (length (those_within 1 33 pool)) k m some h few in
     rw (e, f) g
 
--- each mnemonic of two registers or one has a letter
-pub least_letters : (k : ℕ) (pool : List ℕ) → 0 < k → k ≤ 4 → 26 ≤ length (alphabet k pool)
-least_letters k pool some few =
+-- each mnemonic of two registers or one has an instruction
+pub least_instrs : (k : ℕ) (pool : List ℕ) → 0 < k → k ≤ 4 → 26 ≤ length (alphabet k pool)
+least_instrs k pool some few =
     let e = size_formula k pool (omega (arith, few)) in
     let square : 1 * 1 ≤ k * k = mul-le-mul some some in
     omega (arith, e, square)

@@ -129,10 +129,10 @@ grown_length xs ys g =
 pub kept_later : (pool : List ℕ) (old new : List Seen) (t : Tables) → IsGrown old new → 0 < length old → AreKept pool old t → AreKept pool new t
 kept_later pool old new t g some kept start at = kept start (sym (get_front old g.more 0 some) ∙ ap (λ ss. slice_get ss 0) (sym g.grown) ∙ at)
 
--- the letters of a table of them
-pub table_letters : (k : ℕ) (pool : List ℕ) (states : List WState) (e : Extent) → 0 < length states → IsOfFirst k pool (map seen states) e → e.letters ≡ alphabet k pool
-table_letters k pool [] e some is = absurd (omega (arith, some))
-table_letters k pool (s ∷ ss) e some is = (is s refl).letters
+-- the alphabet of a table of them
+pub table_alphabet : (k : ℕ) (pool : List ℕ) (states : List WState) (e : Extent) → 0 < length states → IsOfFirst k pool (map seen states) e → e.alphabet ≡ alphabet k pool
+table_alphabet k pool [] e some is = absurd (omega (arith, some))
+table_alphabet k pool (s ∷ ss) e some is = (is s refl).alphabet
 
 -- a table that was taken out of them is put back
 pub put_back : (k : ℕ) (pool : List ℕ) (states : List Seen) (e : Extent) (old new : Tables) → AreKept pool states old → IsOfFirst k pool states e → ((p : List ℕ) (start : WState) → AreTables p start old → IsFor e.registers p start e → AreTables p start new) → AreKept pool states new

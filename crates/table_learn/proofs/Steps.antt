@@ -31,7 +31,7 @@ use Rattle.table_learn.proofs.Registers.{more_registers}
 use Rattle.table_learn.proofs.Wider.{over_wider}
 use Rattle.table_learn.proofs.Telling.{told_more, told_last, untold, untold_before, apart_tells}
 use Rattle.table_learn.proofs.Fit.{ascends-filter, filter_at, named-filter}
-use Rattle.fingerprints.proofs.Letters.{at_cons as head_or}
+use Rattle.fingerprints.proofs.Members.{at_cons as head_or}
 
 -- ---- lists ----
 

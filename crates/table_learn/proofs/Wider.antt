@@ -1,4 +1,4 @@
--- The alphabet of more registers has each letter of that of fewer.
+-- The alphabet of more registers has each instruction of that of fewer.
 use Rattle.std.proofs.Common.{ℕ, zero, suc, ◌≤◌, inl, inr, Bool, true, List, [], ◌∷◌, Contains, filter, map, refl, subst, arith}
 use Rattle.std.specs.List.{flat_map}
 use Rattle.std.proofs.lemmas.List.Elements.{All-nil, All-cons, All-head, All-tail}
@@ -46,7 +46,7 @@ more_registers : (k m : ℕ) → k ≤ m → Are (registers k) (registers m)
 unfolding those_within
 more_registers k m h = more_flat _ _ (numbers_from 0 k) (numbers_from 0 m) (more_numbers 0 k m h) (λ n x c. c)
 
--- ---- letters ----
+-- ---- instructions ----
 
 more_members : (k m : ℕ) (pool : List ℕ) (t : Kind) → Are (registers k) (registers m) → Are (members k pool t) (members m pool t)
 unfolding members
@@ -63,12 +63,12 @@ more_members k m pool (kind.Extend e) r = more_grid2 (instr.Extend e) (registers
 more_members k m pool (kind.Reverse v) r = more_grid2 (instr.Reverse v) (registers k) (registers m) (registers k) (registers m) r r
 more_members k m pool t r = λ x c. absurd (none_in x c)
 
-more_letters : (k m : ℕ) (pool : List ℕ) → k ≤ m → Are (alphabet k pool) (alphabet m pool)
+more_instrs : (k m : ℕ) (pool : List ℕ) → k ≤ m → Are (alphabet k pool) (alphabet m pool)
 unfolding alphabet
-more_letters k m pool h = more_flat (members k pool) (members m pool) rows rows (λ t c. c) (λ t. more_members k m pool t (more_registers k m h))
+more_instrs k m pool h = more_flat (members k pool) (members m pool) rows rows (λ t c. c) (λ t. more_members k m pool t (more_registers k m h))
 
 -- a sequence over fewer registers is one over more
 pub over_wider : (k m : ℕ) (pool : List ℕ) (seq : List Instr) → k ≤ m → IsOver k pool seq → IsOver m pool seq
 over_wider k m pool [] h over = All-nil (Contains (alphabet m pool))
 over_wider k m pool (i ∷ is) h over =
-    All-cons (Contains (alphabet m pool)) i is (more_letters k m pool h i (All-head (Contains (alphabet k pool)) i is over)) (over_wider k m pool is h (All-tail (Contains (alphabet k pool)) i is over))
+    All-cons (Contains (alphabet m pool)) i is (more_instrs k m pool h i (All-head (Contains (alphabet k pool)) i is over)) (over_wider k m pool is h (All-tail (Contains (alphabet k pool)) i is over))

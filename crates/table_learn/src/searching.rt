@@ -85,7 +85,7 @@ pub(crate) fn search<L: Ledger>(
     requires few { window.k ≤ 4 }
     requires counted { window.k ≡ alphabet_registers (settings_of settings.now) window.left }
     requires window { IsWindow (settings_of settings.now) (window_in window) }
-    requires letters { list.now.outcomes.letters ≡ alphabet window.k settings.now.pool }
+    requires alphabet { list.now.outcomes.alphabet ≡ alphabet window.k settings.now.pool }
     requires candidates { AreCandidates (settings_of settings.now) (map seen states.old.items) (window_in window) list.now.numbers.items }
     ensures grown { OnOk result (IsGrown (map seen states.old.items) (map seen states.new.items)) }
     ensures earned { OnOk result (EarnedFrom (settings_of settings.now) (length states.old.items) (map seen states.new.items) (window_in window)) }

@@ -6,29 +6,29 @@ use Rattle.seq_enum.specs.Alphabet.{numbers_from, those_within, grid2, grid3, ro
 use Rattle.seq_enum.proofs.Numbered.{numbers_at}
 use Rattle.window_harvest.proofs.Lists.{In, contains_in, in_map, in_lists, Each, all_each}
 
-one_more : (letters : List Instr) (n : ℕ) (v : List Instr) (x : Instr) → In (words letters n) v → In letters x → In (words letters (suc n)) (v ++ x ∷ [])
+one_more : (instrs : List Instr) (n : ℕ) (v : List Instr) (x : Instr) → In (words instrs n) v → In instrs x → In (words instrs (suc n)) (v ++ x ∷ [])
 unfolding words
-one_more letters n v x a b = in_lists (λ w. map (λ y. w ++ y ∷ []) letters) (words letters n) v (v ++ x ∷ []) a (in_map (λ y. v ++ y ∷ []) letters x b)
+one_more instrs n v x a b = in_lists (λ w. map (λ y. w ++ y ∷ []) instrs) (words instrs n) v (v ++ x ∷ []) a (in_map (λ y. v ++ y ∷ []) instrs x b)
 
-longer : (letters : List Instr) (n m : ℕ) (v w : List Instr) → m ≡ n + length w → In (words letters n) v → Each (Contains letters) w → In (words letters m) (v ++ w)
-longer letters n m v [] e a b =
+longer : (instrs : List Instr) (n m : ℕ) (v w : List Instr) → m ≡ n + length w → In (words instrs n) v → Each (Contains instrs) w → In (words instrs m) (v ++ w)
+longer instrs n m v [] e a b =
     let f : n ≡ m = omega arith in
-    subst (λ (u : List Instr). In (words letters m) u) (sym (append-nil v)) (subst (λ k. In (words letters k) v) f a)
-longer letters n m v (x ∷ xs) e a b =
-    subst (λ (u : List Instr). In (words letters m) u) (append_assoc v (x ∷ []) xs) (longer letters (suc n) m (v ++ x ∷ []) xs (omega arith) (one_more letters n v x a (contains_in letters x b.0)) b.1)
+    subst (λ (u : List Instr). In (words instrs m) u) (sym (append-nil v)) (subst (λ k. In (words instrs k) v) f a)
+longer instrs n m v (x ∷ xs) e a b =
+    subst (λ (u : List Instr). In (words instrs m) u) (append_assoc v (x ∷ []) xs) (longer instrs (suc n) m (v ++ x ∷ []) xs (omega arith) (one_more instrs n v x a (contains_in instrs x b.0)) b.1)
 
-first_word : (letters : List Instr) → In (words letters 0) []
+first_word : (instrs : List Instr) → In (words instrs 0) []
 unfolding words
-first_word letters = (0, refl)
+first_word instrs = (0, refl)
 
 -- at most five instructions of the alphabet have a number
 pub over_number : (k : ℕ) (pool : List ℕ) (w : List Instr) → length w ≤ 5 → IsOver k pool w → In (sequences k pool) w
 unfolding sequences_of
 over_number k pool w h o =
-    let letters = alphabet k pool in
-    in_lists (words letters) (numbers_from 0 6) (length w) w
+    let instrs = alphabet k pool in
+    in_lists (words instrs) (numbers_from 0 6) (length w) w
     (length w, numbers_at 0 6 (length w) (omega arith) ∙ ap Some (let f : 0 + length w ≡ length w = omega arith in f))
-    (longer letters 0 (length w) [] w (omega arith) (first_word letters) (all_each (Contains letters) w o))
+    (longer instrs 0 (length w) [] w (omega arith) (first_word instrs) (all_each (Contains instrs) w o))
 
 -- no instruction names no register
 pub no_alphabet : (pool : List ℕ) → alphabet 0 pool ≡ []

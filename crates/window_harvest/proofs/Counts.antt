@@ -14,7 +14,7 @@ use Rattle.thumb_instr.proofs.RenamingLemmas.{named_renamed, below_parts}
 use Rattle.thumb_model.specs.Effect.{above, register_count}
 use Rattle.rule_table.specs.Canonical.{has, with_first, firsts, numbers_of, appearing, IsRenamable, IsCanonical}
 use Rattle.window_harvest.proofs.Once.{AreDistinct, distinct_firsts, or_parts, has_append, name_at}
-use Rattle.window_harvest.proofs.Pairs.{seq_letters}
+use Rattle.window_harvest.proofs.Pairs.{seq_in_window}
 use Rattle.thumb_model.proofs.Small.{below_append}
 use Rattle.rule_model.proofs.Alone.{above_most}
 use Rattle.thumb_instr.proofs.Shared.{named_all}
@@ -96,5 +96,5 @@ counted window items seq given mask r c =
     let most : register_count seq ≤ n = count_least n seq c.below in
     elim (leb_tells n (register_count seq)) [
       | inl h ↦ omega (arith, many, most, h.1)
-      | inr h ↦ absurd (not_fewer c.registers seq (map normal_of window) (seq_letters window items seq given mask r c) c.under c.order (omega (arith, h.1)))
+      | inr h ↦ absurd (not_fewer c.registers seq (map normal_of window) (seq_in_window window items seq given mask r c) c.under c.order (omega (arith, h.1)))
     ]

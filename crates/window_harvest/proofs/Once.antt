@@ -135,8 +135,8 @@ canonical_once window items seq other given too mask next w few a b =
     let under : map (renamed a.registers) other ≡ map normal_of window = ap (λ (f : List Low). map (renamed f) other) same ∙ b.under in
     let below : AreBelow k (flat_map named other) = subst (λ n. AreBelow n (flat_map named other)) (ap length (sym same)) b.below in
     let normal : list_all is_in_window (map normal_of window) ≡ true = windows_normal window w in
-    let letters : list_all is_in_window seq ≡ true = windows_back a.registers k seq (omega arith) a.below (ap (list_all is_in_window) a.under ∙ normal) in
-    let letters_too : list_all is_in_window other ≡ true = windows_back a.registers k other (omega arith) below (ap (list_all is_in_window) under ∙ normal) in (
-      sym (seq_back a.registers k seq refl count distinct a.below letters) ∙ ap (map (renamed (backward a.registers))) (a.under ∙ sym under) ∙ seq_back a.registers k other refl count distinct below letters_too,
+    let in_window : list_all is_in_window seq ≡ true = windows_back a.registers k seq (omega arith) a.below (ap (list_all is_in_window) a.under ∙ normal) in
+    let in_window_too : list_all is_in_window other ≡ true = windows_back a.registers k other (omega arith) below (ap (list_all is_in_window) under ∙ normal) in (
+      sym (seq_back a.registers k seq refl count distinct a.below in_window) ∙ ap (map (renamed (backward a.registers))) (a.under ∙ sym under) ∙ seq_back a.registers k other refl count distinct below in_window_too,
       same_words mask next (λ x. a.masks x ∙ ap (λ (f : List Low). masked items (numbers_of f) x) same ∙ sym (b.masks x)),
     )

@@ -40,7 +40,7 @@ none_lies limits lines spot w items seq given mask r c n s pair p =
     n (subst (λ (v : List Instr). Lies limits.regs limits.pool v) (sym once.0) (record { few = p.few; over = p.over }))
 
 -- a canonical form has instructions of windows alone
-pub seq_letters : (w : List Instr) (items : ℕ) (seq : List Instr) (given : List (Option Low)) (mask : ℕ) → IsRenamable w → IsCanonical w items seq given mask → list_all is_in_window seq ≡ true
-seq_letters w items seq given mask r c =
+pub seq_in_window : (w : List Instr) (items : ℕ) (seq : List Instr) (given : List (Option Low)) (mask : ℕ) → IsRenamable w → IsCanonical w items seq given mask → list_all is_in_window seq ≡ true
+seq_in_window w items seq given mask r c =
     let few : length c.registers ≤ 8 = omega (arith, r.registers, ap length c.order, length-map c.registers (λ (y : Low). y.number)) in
     windows_back c.registers (length c.registers) seq few c.below (ap (list_all is_in_window) c.under ∙ windows_normal w r.windows)

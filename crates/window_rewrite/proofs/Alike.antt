@@ -25,7 +25,7 @@ use Rattle.window_rewrite.proofs.RuleWindows.{applied_gap, applied_stay}
 use Rattle.window_rewrite.specs.TableRewriting.{setting_by}
 use Rattle.window_rewrite.specs.Rules.{is_marked, AreAlike, AreFit, AreLed}
 use Rattle.window_rewrite.specs.Choices.{Meets}
-use Rattle.window_rewrite.proofs.Applied.{made, rule_there, fits_lighter, letters_all, IsLeft}
+use Rattle.window_rewrite.proofs.Applied.{made, rule_there, fits_lighter, all_in_window, IsLeft}
 use Rattle.window_rewrite.proofs.Live.{Allowed}
 use Rattle.window_rewrite.proofs.Weights.{lighter_some, lighter_true, lowers_same}
 use Rattle.window_rewrite.proofs.Whole.{alike_registers, front_allowed, front_apart, front_matches}
@@ -165,7 +165,7 @@ pub left_under : (base place count k : ℕ) (f g : List Low) (right : List Instr
     → IsLeft base lines (replaced_lines own_line place count (map (renamed g) right) lines)
 left_under base place count k f g right lines over left =
     left_as base lines (replaced_lines own_line place count (map (renamed f) right) lines) (replaced_lines own_line place count (map (renamed g) right) lines)
-    (replaced_as own_line place count (map (renamed f) right) (map (renamed g) right) lines (length-map right (renamed f) ∙ sym (length-map right (renamed g))) (letters_all k f right over) (letters_all k g right over)) left
+    (replaced_as own_line place count (map (renamed f) right) (map (renamed g) right) lines (length-map right (renamed f) ∙ sym (length-map right (renamed g))) (all_in_window k f right over) (all_in_window k g right over)) left
 
 -- and a place that is settled
 pub settled_under : (code : Code) (p count : ℕ) (f g : List Low) (right : List Instr) → IsSettled code.places code.labels p count (map (renamed f) right) → IsSettled code.places code.labels p count (map (renamed g) right)
@@ -220,7 +220,7 @@ led_to asked costs base longest rules kept lines o fit led m =
             let left : IsLeft base lines (replaced_lines own_line o.place (length rule.left) is lines) = subst (λ (r : Option Rule). IsLeft base lines (lines_after_rule s r o lines)) m.0.is_rule was in
             let same : IsLeft base lines (replaced_lines own_line o.place (length rule.left) js lines) =
             left_as base lines (replaced_lines own_line o.place (length rule.left) is lines) (replaced_lines own_line o.place (length rule.left) js lines)
-            (replaced_as own_line o.place (length rule.left) is js lines as_many (letters_all (rule_registers rule) o.registers rule.right rule_fit.sound.right) (letters_all (rule_registers other) first other.right other_fit.sound.right)) left in
+            (replaced_as own_line o.place (length rule.left) is js lines as_many (all_in_window (rule_registers rule) o.registers rule.right rule_fit.sound.right) (all_in_window (rule_registers other) first other.right other_fit.sound.right)) left in
             let now : IsLeft base lines (lines_after_rule s (used_rule s (made o.place l.leader first)) (made o.place l.leader first) lines) =
             subst (λ (r : Option Rule). IsLeft base lines (lines_after_rule s r (made o.place l.leader first) lines)) (sym used)
             (subst (λ k. IsLeft base lines (replaced_lines own_line o.place k js lines)) (sym count) same) in

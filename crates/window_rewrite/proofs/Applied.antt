@@ -59,22 +59,22 @@ same_window rule registers lines place window n w a = plain_same a.window window
 -- ---- the new instructions ----
 
 -- what may stand in a window has no label in its text
-plain_letter : (i : Instr) → is_in_window i ≡ true → names_no_label i ≡ true
-plain_letter (instr.BranchIf c d) w = absurd (cc)
-plain_letter (instr.Branch d) w = absurd (cc)
-plain_letter (instr.Call d) w = absurd (cc)
-plain_letter (instr.Literal t d) w = absurd (cc)
-plain_letter (instr.Address t d) w = absurd (cc)
-plain_letter i w = refl
+plain_instr : (i : Instr) → is_in_window i ≡ true → names_no_label i ≡ true
+plain_instr (instr.BranchIf c d) w = absurd (cc)
+plain_instr (instr.Branch d) w = absurd (cc)
+plain_instr (instr.Call d) w = absurd (cc)
+plain_instr (instr.Literal t d) w = absurd (cc)
+plain_instr (instr.Address t d) w = absurd (cc)
+plain_instr i w = refl
 
 pub plain_all : (k : ℕ) (r : List Low) (is : List Instr) → AreOver k is → list_all names_no_label (map (renamed r) is) ≡ true
 plain_all k r [] h = refl
-plain_all k r (i ∷ is) h = and_from (names_no_label (renamed r i)) (list_all names_no_label (map (renamed r) is)) (plain_letter (renamed r i) (window_renamed r i h.0)) (plain_all k r is h.2)
+plain_all k r (i ∷ is) h = and_from (names_no_label (renamed r i)) (list_all names_no_label (map (renamed r) is)) (plain_instr (renamed r i) (window_renamed r i h.0)) (plain_all k r is h.2)
 
 -- the new instructions may stand in a window
-pub letters_all : (k : ℕ) (r : List Low) (is : List Instr) → AreOver k is → list_all is_in_window (map (renamed r) is) ≡ true
-letters_all k r [] h = refl
-letters_all k r (i ∷ is) h = and_from (is_in_window (renamed r i)) (list_all is_in_window (map (renamed r) is)) (window_renamed r i h.0) (letters_all k r is h.2)
+pub all_in_window : (k : ℕ) (r : List Low) (is : List Instr) → AreOver k is → list_all is_in_window (map (renamed r) is) ≡ true
+all_in_window k r [] h = refl
+all_in_window k r (i ∷ is) h = and_from (is_in_window (renamed r i)) (list_all is_in_window (map (renamed r) is)) (window_renamed r i h.0) (all_in_window k r is h.2)
 
 -- the replacement by a rule of a number under a map
 abbrev pub made : ℕ → ℕ → List Low → Replacement

@@ -31,7 +31,7 @@ use Rattle.window_rewrite.specs.Choices.{Awaits, choice_of, FitsIn, IsChoice, Is
 use Rattle.window_rewrite.proofs.Applied.{made, rule_there, fits_some, back_lightens, meets, meets_less}
 use Rattle.window_rewrite.proofs.Keys.{awaited, none_awaited}
 use Rattle.window_rewrite.proofs.Alike.{led_to}
-use Rattle.window_rewrite.proofs.RuleWindows.{letters_of as straight_letters}
+use Rattle.window_rewrite.proofs.RuleWindows.{in_window_of as straight_in_window}
 
 -- ---- counts of rules ----
 
@@ -305,7 +305,7 @@ applicable costs base longest table lines o fit a =
       window = a.applies.window;
       is_window = record {
         stands = ap (λ k. take k (drop o.place (places_of lines))) n ∙ a.applies.stands;
-        letters = straight_letters a.applies.window (applies_sound a.rule o.registers (code_of lines) o.place f.sound some a.applies).left_straight;
+        in_window = straight_in_window a.applies.window (applies_sound a.rule o.registers (code_of lines) o.place f.sound some a.applies).left_straight;
         unlabelled = subst (λ k. (j : ℕ) (l : Label) → slice_get (labels_from 0 lines) j ≡ Some l → (l.place ≤ o.place) ⊎ (o.place + k ≤ l.place)) (sym n) a.applies.unlabelled;
         joined = subst (λ k. are_joined_from o.place k lines ≡ true) (sym n) a.joined;
       };

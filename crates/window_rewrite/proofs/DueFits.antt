@@ -28,10 +28,10 @@ use Rattle.window_rewrite.proofs.Settled.{IsGap}
 use Rattle.window_rewrite.proofs.WindowPlaces.{window_within}
 
 -- the last instruction of a window may stand in one
-letter_at : (window : List Instr) → AreStraight window → (k : ℕ) → k < length window → (i : Instr) × (slice_get window k ≡ Some i) × (is_in_window i ≡ true)
-letter_at [] s k h = absurd (omega arith)
-letter_at (i ∷ is) s zero h = (i, refl, s.0)
-letter_at (i ∷ is) s (suc k) h = letter_at is s.1 k (omega arith)
+in_window_at : (window : List Instr) → AreStraight window → (k : ℕ) → k < length window → (i : Instr) × (slice_get window k ≡ Some i) × (is_in_window i ≡ true)
+in_window_at [] s k h = absurd (omega arith)
+in_window_at (i ∷ is) s zero h = (i, refl, s.0)
+in_window_at (i ∷ is) s (suc k) h = in_window_at is s.1 k (omega arith)
 
 stands_at : (window : List Instr) (n p k q : ℕ) (places : List Place) (i : Instr) → take n (drop p places) ≡ map plain window → k < n → q ≡ p + k → slice_get window k ≡ Some i → slice_get places q ≡ Some (plain i)
 stands_at window n p k q places i e h at is =
@@ -98,7 +98,7 @@ module _ (write : Instr → List ℕ) (gone : List Bool) (padded : Code) (lines 
   live_still : (n r s : ℕ) (i : Instr) → 0 < n → s ≡ moved g (length ps - length is) r → (r + n ≤ g) ⊎ (g + length ps ≤ r) → r + n ≤ length (places_of lines) → slice_get (places_of lines) (r + n - 1) ≡ Some (plain i) → is_in_window i ≡ true
       → ((q x : ℕ) → is_gone after q ≡ false → suc (rank after q) ≡ s + n → Reads padded x (suc q) → Reads (exchanged ps is padded) x (suc q))
       → (x : ℕ) → LiveAfter (code_of lines) (r + n - 1) x → LiveAfter (code_of new) (s + n - 1) x
-  live_still n r s i some m o within stands letter still x h =
+  live_still n r s i some m o within stands in_window still x h =
       let t = rank_taken gone padded (code_of lines) w.padded_is (r + n - 1) (omega arith) in
       let q : ℕ = t.0 in
       let at : rank gone q ≡ r + n - 1 = t.3 in
@@ -109,9 +109,9 @@ module _ (write : Instr → List ℕ) (gone : List Bool) (padded : Code) (lines 
       let there : slice_get (exchanged ps is padded).places q ≡ Some (plain i) = places_stay ps is padded.places q out ∙ here in
       let now : rank after q ≡ moved g (length ps - length is) (rank gone q) = rank_now q (elim o [ inl a ↦ inl (omega arith) | inr a ↦ inr (omega arith) ]) in
       let new_at : rank after q ≡ s + n - 1 = elim o [ inl a ↦ omega arith | inr a ↦ omega arith ] in
-      let read : Reads padded x (suc q) = (live_behind gone padded (code_of lines) w.padded_is q i t.2 here letter x).0 (subst (λ k. LiveAfter (code_of lines) k x) (sym at) h) in
+      let read : Reads padded x (suc q) = (live_behind gone padded (code_of lines) w.padded_is q i t.2 here in_window x).0 (subst (λ k. LiveAfter (code_of lines) k x) (sym at) h) in
       let read_still : Reads (exchanged ps is padded) x (suc q) = still q x kept (omega arith) read in
-      subst (λ k. LiveAfter (code_of new) k x) new_at ((live_behind after (exchanged ps is padded) (code_of new) w.new_padded q i kept there letter x).1 read_still)
+      subst (λ k. LiveAfter (code_of new) k x) new_at ((live_behind after (exchanged ps is padded) (code_of new) w.new_padded q i kept there in_window x).1 read_still)
 
   -- ---- the rule ----
 
@@ -130,7 +130,7 @@ module _ (write : Instr → List ℕ) (gone : List Bool) (padded : Code) (lines 
       let like = alike n r s some m o within in
       let stands : take n (drop r (places_of lines)) ≡ map plain a.window = same_window n r s (places_of lines) (places_of new) like.within like.new_within like.same ∙ a.stands in
       let straight = (applies_sound rule registers (code_of new) s sound some a).left_straight in
-      let last = letter_at a.window straight (n - 1) (omega arith) in
+      let last = in_window_at a.window straight (n - 1) (omega arith) in
       let at = stands_at a.window n r (n - 1) (r + n - 1) (places_of lines) last.0 stands (omega arith) (omega arith) last.1 in
       record {
         applies = applies_alike rule registers (code_of lines) (code_of new) r s sound like some (live_still n r s last.0 some m o like.within at last.2 still) a;

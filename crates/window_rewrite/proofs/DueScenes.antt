@@ -229,7 +229,7 @@ module _ (r : Rules) (old new : Scene) (t : Site) (c : Choice) (m : IsMadeAt r o
           (none_still (setting_of r) r.longest (marks old.listing) (marks new.listing) (padded old.listing) (padded new.listing) (lines_of old) (lines_of new) t.number (length places) places c.new (short_rules r m.ready) gave_way refl m.gone m.is_padded new_lines p k (far p then u) (none_lost p u) before)
 
 -- the window of a choice at a site is a front of the site's run
-pub choice_within : (r : Rules) (scene : Scene) (t : Site) (c : Choice) → AreReady r → IsSite r.longest scene t → IsChoice (setting_of r) (lines_of scene) c → (choice_of c).place ≡ t.number → length c.window ≤ length t.run.letters
+pub choice_within : (r : Rules) (scene : Scene) (t : Site) (c : Choice) → AreReady r → IsSite r.longest scene t → IsChoice (setting_of r) (lines_of scene) c → (choice_of c).place ≡ t.number → length c.window ≤ length t.run.instrs
 choice_within r scene t c ready site is here =
     let a = is.applies in
     let short = (short_rules r ready (choice_of c) a.rule a.is_rule a.lowers).short in
@@ -237,7 +237,7 @@ choice_within r scene t c ready site is here =
     let some = is.gives_way.some in
     let w : IsWindow (lines_of scene) t.number c.window = subst (λ p. IsWindow (lines_of scene) p c.window) here is.is_window in
     let n = window_in_run (lines_of scene) t.number r.longest c.window (omega arith) (omega arith) w in
-    omega (arith, n, ap (λ (is : List Instr). length is) site.letters)
+    omega (arith, n, ap (λ (is : List Instr). length is) site.instrs)
 
 -- ---- the same listing ----
 

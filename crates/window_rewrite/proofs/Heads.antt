@@ -25,7 +25,7 @@ use Rattle.window_rewrite.specs.declared.marks.Marks.{Marks}
 use Rattle.window_rewrite.specs.Fitting.{NoneBetween, NoneMarked, NoneReaches, NoneStands, Lightens}
 use Rattle.window_rewrite.specs.declared.index.RuleIndex.{RuleIndex}
 use Rattle.window_runs.specs.declared.rows.WindowPlace.{WindowPlace}
-use Rattle.window_runs.specs.Runs.{before, letter_at, run}
+use Rattle.window_runs.specs.Runs.{before, instr_at, run}
 
 -- ---- windows ----
 
@@ -242,24 +242,24 @@ between_end marks hidden run reached at end none n side registers longer noted s
 
 -- ---- what a run begins with ----
 
-begun : (rows : List WindowPlace) (most : ℕ) (i : Instr) → Some i ≡ letter_at true rows → (run true most rows ≡ []) ⊎ (slice_get (run true most rows) 0 ≡ Some i)
+begun : (rows : List WindowPlace) (most : ℕ) (i : Instr) → Some i ≡ instr_at true rows → (run true most rows ≡ []) ⊎ (slice_get (run true most rows) 0 ≡ Some i)
 begun rows zero i e = inl refl
 begun [] (suc most) i e = absurd (cc)
 begun (r ∷ rs) (suc most) i e = inr (ap (λ o. slice_get (before o (run false most rs)) 0) (sym e))
 
-not_begun : (rows : List WindowPlace) (most : ℕ) → None ≡ letter_at true rows → run true most rows ≡ []
+not_begun : (rows : List WindowPlace) (most : ℕ) → None ≡ instr_at true rows → run true most rows ≡ []
 not_begun rows zero e = refl
 not_begun [] (suc most) e = refl
 not_begun (r ∷ rs) (suc most) e = ap (λ o. before o (run false most rs)) (sym e)
 
 -- where no run begins, no left side stands first in it
-pub none_without : (costs : Option (List ℕ)) (table : List (List Rule)) (rows : List WindowPlace) → None ≡ letter_at true rows → (most : ℕ) → NoneReaches costs table (run true most rows) 0
+pub none_without : (costs : Option (List ℕ)) (table : List (List Rule)) (rows : List WindowPlace) → None ≡ instr_at true rows → (most : ℕ) → NoneReaches costs table (run true most rows) 0
 none_without costs table rows e most n k i rule registers some is_rule s =
     let long = side_long false rule.left registers (take n (run true most rows)) s.stands.matches in
     absurd (omega (arith, long, front_long n (run true most rows), ap (λ (js : List Instr). length js) (not_begun rows most e), some))
 
 -- nor where its first instruction begins none
-pub none_begin : (marks : Marks) (hidden : Bool) (first : Instr) (rows : List WindowPlace) → is_marked marks.fronts.items (next_hash 0 (seen hidden first)) ≡ false → Some first ≡ letter_at true rows → (most : ℕ) → NoneMarked marks hidden (run true most rows) 0
+pub none_begin : (marks : Marks) (hidden : Bool) (first : Instr) (rows : List WindowPlace) → is_marked marks.fronts.items (next_hash 0 (seen hidden first)) ≡ false → Some first ≡ instr_at true rows → (most : ℕ) → NoneMarked marks hidden (run true most rows) 0
 none_begin marks hidden first rows missing e most n side registers some noted s = elim (begun rows most first e) [
   | inl l ↦ (
       let long = side_long hidden side registers (take n (run true most rows)) s in

@@ -20,9 +20,9 @@ use Rattle.steady_layout.proofs.Laws.{twos_of, renamed_in, window_in, plain_of, 
 
 -- ---- the kept sets ----
 
-pub letters_of : (is : List Instr) → AreStraight is → list_all is_in_window is ≡ true
-letters_of [] h = refl
-letters_of (i ∷ is) h = both (is_in_window i) _ h.0 (letters_of is h.1)
+pub in_window_of : (is : List Instr) → AreStraight is → list_all is_in_window is ≡ true
+in_window_of [] h = refl
+in_window_of (i ∷ is) h = both (is_in_window i) _ h.0 (in_window_of is h.1)
   where
     both : (a b : Bool) → a ≡ true → b ≡ true → (a && b) ≡ true
     both a b e f = ap (λ c. c && b) e ∙ f
@@ -35,8 +35,8 @@ applies_gives_way rule registers code p sound some a =
     let no_longer = sound.no_longer in
     record {
       stands = ap (λ k. take k (drop p code.places)) n ∙ a.stands;
-      letters = letters_of a.window s.left_straight;
-      new_letters = letters_of (map (renamed registers) rule.right) s.right_straight;
+      in_window = in_window_of a.window s.left_straight;
+      new_in_window = in_window_of (map (renamed registers) rule.right) s.right_straight;
       some = omega arith;
       no_longer = omega arith;
       unlabelled = λ k l e. subst (λ c. (l.place ≤ p) ⊎ (p + c ≤ l.place)) (sym n) (a.unlabelled k l e);

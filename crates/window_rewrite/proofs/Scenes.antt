@@ -49,7 +49,7 @@ use Rattle.window_rewrite.specs.Choices.{setting_of, choice_of, IsChoice}
 use Rattle.window_rewrite.specs.Settled.{IsSettled, MayGiveWay}
 use Rattle.window_rewrite.specs.Layouts.{is_steady, Allows, AreOver, HasLayout, IsSteadyIf, Moves, StandsNear}
 use Rattle.window_rewrite.proofs.ScenesWindows.{gives_way, ranked_at, still_padded}
-use Rattle.liveness.proofs.Moves.{letter_at}
+use Rattle.liveness.proofs.Moves.{in_window_at}
 use Rattle.edited_listing.proofs.Unchanged.{length_given as many_given}
 use Rattle.padded_code.proofs.Spread.{length_after}
 use Rattle.window_rewrite.proofs.DuePlaces.{taken_ranked, marks_length}
@@ -106,46 +106,46 @@ said_still (Some x) P Q f h = f x h
 -- ---- a run ----
 
 -- the first instructions of a run are a window
-pub run_front : (lines : List ListingLine) (most number count : ℕ) (letters : List Instr) → letters ≡ run true most (drop number (rows_from false lines)) → 0 < count → count ≤ length letters → IsWindow lines number (take count letters)
-run_front lines most number count letters e some few =
-    let many : length (take count letters) ≡ count = take_many count letters few in
-    let all : length (take count (run true most (drop number (rows_from false lines)))) ≡ length (take count letters) = ap (λ (is : List Instr). length (take count is)) (sym e) in
+pub run_front : (lines : List ListingLine) (most number count : ℕ) (instrs : List Instr) → instrs ≡ run true most (drop number (rows_from false lines)) → 0 < count → count ≤ length instrs → IsWindow lines number (take count instrs)
+run_front lines most number count instrs e some few =
+    let many : length (take count instrs) ≡ count = take_many count instrs few in
+    let all : length (take count (run true most (drop number (rows_from false lines)))) ≡ length (take count instrs) = ap (λ (is : List Instr). length (take count is)) (sym e) in
     subst (λ (is : List Instr). IsWindow lines number (take count is)) (sym e) (run_window lines number most count (omega arith))
 
 -- an instruction of a run stands at its place
 pub record StandsInRun (lines : List ListingLine) (number k : ℕ) : Type 0 where
-  pub letter : Instr
-  pub stands : slice_get (places_of lines) (number + k) ≡ Some (plain letter)
-  pub is_letter : is_in_window letter ≡ true
+  pub instr : Instr
+  pub stands : slice_get (places_of lines) (number + k) ≡ Some (plain instr)
+  pub in_window : is_in_window instr ≡ true
 
-pub run_stands : (lines : List ListingLine) (most number k : ℕ) (letters : List Instr) → letters ≡ run true most (drop number (rows_from false lines)) → k < length letters → StandsInRun lines number k
-run_stands lines most number k letters e h =
-    let w = run_front lines most number (suc k) letters e (omega arith) h in
-    let i = present_at letters k h in
-    let here : slice_get (take (suc k) letters) k ≡ Some i.0 = get_take (suc k) letters k (omega arith) ∙ i.1 in
-    let many : length (take (suc k) letters) ≡ suc k = take_many (suc k) letters h in
+pub run_stands : (lines : List ListingLine) (most number k : ℕ) (instrs : List Instr) → instrs ≡ run true most (drop number (rows_from false lines)) → k < length instrs → StandsInRun lines number k
+run_stands lines most number k instrs e h =
+    let w = run_front lines most number (suc k) instrs e (omega arith) h in
+    let i = present_at instrs k h in
+    let here : slice_get (take (suc k) instrs) k ≡ Some i.0 = get_take (suc k) instrs k (omega arith) ∙ i.1 in
+    let many : length (take (suc k) instrs) ≡ suc k = take_many (suc k) instrs h in
     record {
-      letter = i.0;
+      instr = i.0;
       stands =
           sym (get_drop number (places_of lines) k (number + k) refl)
           ∙ sym (get_take (suc k) (drop number (places_of lines)) k (omega arith))
           ∙ ap (λ n. slice_get (take n (drop number (places_of lines))) k) (sym many)
           ∙ ap (λ (ps : List Place). slice_get ps k) w.stands
-          ∙ slice_get-map plain (take (suc k) letters) k
+          ∙ slice_get-map plain (take (suc k) instrs) k
           ∙ ap (option_map plain) here;
-      is_letter = letter_at (take (suc k) letters) k i.0 w.letters here;
+      in_window = in_window_at (take (suc k) instrs) k i.0 w.in_window here;
     }
 
 -- what is live after it is what is read from the place behind it
-pub run_live : (e : Edited) (most number : ℕ) (letters : List Instr) (ps : List ℕ) → IsPadded (marks e) (padded e) (code_of (lines_now e)) → letters ≡ run true most (drop number (rows_from false (lines_now e)))
-    → AreRanked (marks e) number ps → length ps ≡ length letters → (k : ℕ) → k < length letters → (x : ℕ) → LiveAfter (code_of (lines_now e)) (number + k) x ↔ Reads (padded e) x (suc (get_or ps k 0))
-run_live e most number letters ps s is a n k h x =
+pub run_live : (e : Edited) (most number : ℕ) (instrs : List Instr) (ps : List ℕ) → IsPadded (marks e) (padded e) (code_of (lines_now e)) → instrs ≡ run true most (drop number (rows_from false (lines_now e)))
+    → AreRanked (marks e) number ps → length ps ≡ length instrs → (k : ℕ) → k < length instrs → (x : ℕ) → LiveAfter (code_of (lines_now e)) (number + k) x ↔ Reads (padded e) x (suc (get_or ps k 0))
+run_live e most number instrs ps s is a n k h x =
     let code : Code = code_of (lines_now e) in
     let p : ℕ = get_or ps k 0 in
     let at = ranked_at (marks e) number ps a k (omega arith) in
-    let there = run_stands (lines_now e) most number k letters is h in
-    let stands : slice_get (padded e).places p ≡ Some (plain there.letter) = sym (place_kept (marks e) (padded e) code s p at.1) ∙ ap (slice_get code.places) at.2 ∙ there.stands in
-    subst (λ q. LiveAfter code q x ↔ Reads (padded e) x (suc p)) at.2 (live_behind (marks e) (padded e) code s p there.letter at.1 stands there.is_letter x)
+    let there = run_stands (lines_now e) most number k instrs is h in
+    let stands : slice_get (padded e).places p ≡ Some (plain there.instr) = sym (place_kept (marks e) (padded e) code s p at.1) ∙ ap (slice_get code.places) at.2 ∙ there.stands in
+    subst (λ q. LiveAfter code q x ↔ Reads (padded e) x (suc p)) at.2 (live_behind (marks e) (padded e) code s p there.instr at.1 stands there.in_window x)
 
 -- behind the last place nothing is read
 pub none_read : (code : Code) (k : Parts) (p x : ℕ) → IsKeptLive code k → length k.before ≤ p → Reads code x p → ⊥
@@ -161,17 +161,17 @@ last_within gone number count items seen a e some few =
     omega (arith, at.0)
 
 -- and what is live after its instruction is what is read behind it
-pub live_there : (e : Edited) (most number count : ℕ) (letters : List Instr) (items seen : List ℕ) → IsPadded (marks e) (padded e) (code_of (lines_now e)) → letters ≡ run true most (drop number (rows_from false (lines_now e)))
-    → AreRanked (marks e) number items → length items ≡ length letters → seen ≡ items → 0 < count → count ≤ length letters → (x : ℕ) → LiveAfter (code_of (lines_now e)) (number + (count - 1)) x ↔ Reads (padded e) x (get_or seen (count - 1) 0 + 1)
-live_there e most number count letters items seen s is a n same some few x =
+pub live_there : (e : Edited) (most number count : ℕ) (instrs : List Instr) (items seen : List ℕ) → IsPadded (marks e) (padded e) (code_of (lines_now e)) → instrs ≡ run true most (drop number (rows_from false (lines_now e)))
+    → AreRanked (marks e) number items → length items ≡ length instrs → seen ≡ items → 0 < count → count ≤ length instrs → (x : ℕ) → LiveAfter (code_of (lines_now e)) (number + (count - 1)) x ↔ Reads (padded e) x (get_or seen (count - 1) 0 + 1)
+live_there e most number count instrs items seen s is a n same some few x =
     let behind : suc (get_or items (count - 1) 0) ≡ get_or seen (count - 1) 0 + 1 = (let z = ap (λ (ps : List ℕ). get_or ps (count - 1) 0) same in omega arith) in
-    subst (λ p. LiveAfter (code_of (lines_now e)) (number + (count - 1)) x ↔ Reads (padded e) x p) behind (run_live e most number letters items s is a n (count - 1) (omega arith) x)
+    subst (λ p. LiveAfter (code_of (lines_now e)) (number + (count - 1)) x ↔ Reads (padded e) x p) behind (run_live e most number instrs items s is a n (count - 1) (omega arith) x)
 
 -- ---- labels that stay code ----
 
 -- where an instruction of the run follows
-pub settled_before : (lines : List ListingLine) (most number count : ℕ) (letters new : List Instr) → letters ≡ run true most (drop number (rows_from false lines)) → count < length letters → IsSettled (places_of lines) (labels_from 0 lines) number count new
-settled_before lines most number count letters new e h = let there = run_stands lines most number count letters e h in inr (inl (ap is_op_place there.stands))
+pub settled_before : (lines : List ListingLine) (most number count : ℕ) (instrs new : List Instr) → instrs ≡ run true most (drop number (rows_from false lines)) → count < length instrs → IsSettled (places_of lines) (labels_from 0 lines) number count new
+settled_before lines most number count instrs new e h = let there = run_stands lines most number count instrs e h in inr (inl (ap is_op_place there.stands))
 
 -- where no label stands at the place
 pub settled_unlabelled : (labelled : Bool) (places : List Place) (labels : List Label) (p count : ℕ) (new : List Instr) → (labelled ≡ true) ↔ HasLabelAt labels p → labelled ≡ false → IsSettled places labels p count new
@@ -227,13 +227,13 @@ twos (i ∷ is) h =
 -- steady lines stay steady where a window gives way to no more instructions
 steady_left : (base : ℕ) (lines : List ListingLine) (place : ℕ) (window new : List Instr) → IsWindow lines place window → list_all is_in_window new ≡ true → 0 < length window → length new ≤ length window → IsSteady base lines
     → IsSteady base (replaced_lines own_line place (length window) new lines)
-steady_left base lines place window new w letters some few h =
+steady_left base lines place window new w in_window some few h =
     let b = before (length window) some in
     let n : ℕ = b.0 in
     let e : length window ≡ suc n = b.1 in
-    let ops = plain_of window (suc n) (drop place (places_of lines)) (sym e) (ap (λ c. take c (drop place (places_of lines))) (sym e) ∙ w.stands) (twos window w.letters) in
+    let ops = plain_of window (suc n) (drop place (places_of lines)) (sym e) (ap (λ c. take c (drop place (places_of lines))) (sym e) ∙ w.stands) (twos window w.in_window) in
     let outside = outside_of place (suc n) (labels_from 0 lines) (subst (λ c. (k : ℕ) (l : Label) → slice_get (labels_from 0 lines) k ≡ Some l → (l.place ≤ place) ⊎ (place + c ≤ l.place)) e w.unlabelled) in
-    let c = cut own_line place n new (omega arith) (twos new letters) lines 0 place (omega arith) outside ops in
+    let c = cut own_line place n new (omega arith) (twos new in_window) lines 0 place (omega arith) outside ops in
     subst (λ j. IsSteady base (replaced_lines own_line place j new lines)) (sym e) (cut_stays base lines (replaced_lines own_line place (suc n) new lines) c h)
 
 -- the choice may be made on the layout
@@ -251,7 +251,7 @@ allowed_here r g lines c place window new over near is at moves e f =
       moved = subst (λ (w : List Instr). Moves g w new c.moved) (sym e) (subst (λ (n : List Instr). Moves g c.window n c.moved) (sym f) moves);
       near = near;
       is_window = window_here s lines c place window is at e;
-      letters = keeps.new_letters;
+      in_window = keeps.new_in_window;
       some = keeps.some;
       no_longer = keeps.no_longer;
     }
@@ -265,7 +265,7 @@ still_over r g h lines now c place window new is at e f left same layout over =
     record {
       layable = leaves_layable s (choice_of c) lines now is.applies (leaves_here s lines now c place window new is at e f left);
       aligned = λ q. over.aligned (sym same ∙ q);
-      steady = λ q. subst (IsSteady r.base) (sym left) (steady_left r.base lines place window new (window_here s lines c place window is at e) keeps.new_letters keeps.some keeps.no_longer (over.steady (sym same ∙ q)));
+      steady = λ q. subst (IsSteady r.base) (sym left) (steady_left r.base lines place window new (window_here s lines c place window is at e) keeps.new_in_window keeps.some keeps.no_longer (over.steady (sym same ∙ q)));
       layout = subst (HasLayout r.base h) (sym left) layout;
     }
 

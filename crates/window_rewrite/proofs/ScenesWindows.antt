@@ -26,18 +26,18 @@ use Rattle.padded_code.proofs.Windows.{windows_stand}
 use Rattle.padded_code.proofs.Spread.{exchange_is_straight, spreads_end}
 use Rattle.liveness.specs.Window.{AreAscending, GivesWay}
 
--- ---- letters ----
+-- ---- instructions ----
 
 -- what may stand in a window is straight
-straight_letter : (i : Instr) → is_in_window i ≡ true → is_straight i ≡ true
-straight_letter (instr.Mov d m) h = refl
-straight_letter i h = cc
+straight_instr : (i : Instr) → is_in_window i ≡ true → is_straight i ≡ true
+straight_instr (instr.Mov d m) h = refl
+straight_instr i h = cc
 
-straight_letters : (is : List Instr) → list_all is_in_window is ≡ true → list_all is_straight is ≡ true
-straight_letters [] h = refl
-straight_letters (i ∷ is) h =
+straight_instrs : (is : List Instr) → list_all is_in_window is ≡ true → list_all is_straight is ≡ true
+straight_instrs [] h = refl
+straight_instrs (i ∷ is) h =
     let w = and_parts (is_in_window i) (list_all is_in_window is) h in
-    and_from (is_straight i) (list_all is_straight is) (straight_letter i w.0) (straight_letters is w.1)
+    and_from (is_straight i) (list_all is_straight is) (straight_instr i w.0) (straight_instrs is w.1)
 
 -- ---- kept places of ranks that follow one another ----
 
@@ -125,6 +125,6 @@ gives_way gone padded code s m r (p ∷ ps) window new a n k =
     record {
       as_many = sym n;
       few = omega arith;
-      exchange = exchange_is_straight gone padded code s m r p ps window new a (stands gone padded code s m r (p ∷ ps) window new a n k) (omega arith) (straight_letters window k.letters) (straight_letters new k.new_letters);
+      exchange = exchange_is_straight gone padded code s m r p ps window new a (stands gone padded code s m r (p ∷ ps) window new a n k) (omega arith) (straight_instrs window k.in_window) (straight_instrs new k.new_in_window);
       unlabelled = unlabelled_within gone padded code s r p ps window new a n k;
     }

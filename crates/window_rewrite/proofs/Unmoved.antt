@@ -33,22 +33,22 @@ lessened_none (suc k) (s ∷ ss) = ap (λ xs. s ∷ xs) (lessened_none k ss)
 -- a layout is still that of the lines
 pub still_lays : (k : KeptLayout) (lines : List ListingLine) (place : ℕ) (window new : List Instr) → Lays k lines → IsNear k place → IsWindow lines place window → 0 < length window → length new ≡ length window → list_all is_in_window new ≡ true
     → Lays k (replaced_lines own_line place (length window) new lines)
-still_lays k lines place window new lays near w some e letters =
+still_lays k lines place window new lays near w some e in_window =
     let footprints : List Footprint = footprints_of k.blocks.items in
     let left : List ListingLine = replaced_lines own_line place (length window) new lines in
     let none : length window - length new ≡ 0 = omega arith in
-    let cut : AreCut left (lessen k.here (2 * (length window - length new)) (length window - length new) footprints) = cut_after own_line k lines place window new (gives lays near w some (omega arith) letters) in
+    let cut : AreCut left (lessen k.here (2 * (length window - length new)) (length window - length new) footprints) = cut_after own_line k lines place window new (gives lays near w some (omega arith) in_window) in
     let same : AreCut left (lessen k.here 0 0 footprints) = subst (λ n. AreCut left (lessen k.here (2 * n) n footprints)) none cut in
     record { laid = lays.laid; cut = subst (AreCut left) (lessened_none k.here footprints) same }
 
 -- and so is one that is kept
 pub unmoved : (g : KnownLayout) (base : ℕ) (lines : List ListingLine) (place : ℕ) (window new : List Instr) → HasLayout base g lines → StandsNear g place → IsWindow lines place window → 0 < length window → length new ≡ length window → list_all is_in_window new ≡ true
     → HasLayout base g (replaced_lines own_line place (length window) new lines)
-unmoved g base lines place window new has near w some e letters = by g.kept has near
+unmoved g base lines place window new has near w some e in_window = by g.kept has near
   where
     by : (o : Option KeptLayout) → IfSome o (λ k. (k.base ≡ base) × Lays k lines) → IfSome o (λ k. IsNear k place) → IfSome o (λ k. (k.base ≡ base) × Lays k (replaced_lines own_line place (length window) new lines))
     by None h n = tt
-    by (Some k) h n = (h.0, still_lays k lines place window new h.1 n w some e letters)
+    by (Some k) h n = (h.0, still_lays k lines place window new h.1 n w some e in_window)
 
 -- lines that have a layout can be laid out
 pub lays_layable : (k : KeptLayout) (lines : List ListingLine) → Lays k lines → Layable k.base lines
@@ -57,7 +57,7 @@ lays_layable k lines lays = reaches_cut k.base lines (footprints_of k.blocks.ite
 -- so they can be where one is kept
 pub unmoved_layable : (g : KnownLayout) (base : ℕ) (lines : List ListingLine) (place : ℕ) (window new : List Instr) → is_steady g ≡ false → HasLayout base g lines → StandsNear g place → IsWindow lines place window → 0 < length window → length new ≡ length window
     → list_all is_in_window new ≡ true → Layable base (replaced_lines own_line place (length window) new lines)
-unmoved_layable g base lines place window new steady has near w some e letters = by g.kept (unmoved g base lines place window new has near w some e letters) steady
+unmoved_layable g base lines place window new steady has near w some e in_window = by g.kept (unmoved g base lines place window new has near w some e in_window) steady
   where
     left : List ListingLine
     left = replaced_lines own_line place (length window) new lines

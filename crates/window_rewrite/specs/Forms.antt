@@ -5,12 +5,12 @@ use Rattle.thumb_instr.specs.Parts.{parts_of}
 use Rattle.seq_enum.specs.Places.{rank}
 
 -- of an instruction of windows: one for each mnemonic and its registers and number, but for chance
-abbrev pub letter_number : Instr → ℕ
-letter_number i = 37 * ((parts_of i).first + 5 * (parts_of i).second + 25 * (parts_of i).third) + unwrap_or (rank (parts_of i).kind) 0
+abbrev pub instr_number : Instr → ℕ
+instr_number i = 37 * ((parts_of i).first + 5 * (parts_of i).second + 25 * (parts_of i).third) + unwrap_or (rank (parts_of i).kind) 0
 
 -- of instructions, where another stands behind those that have the number
 abbrev pub next_form : ℕ → Instr → ℕ
-next_form form i = (form * 1283 + letter_number i) % 65536
+next_form form i = (form * 1283 + instr_number i) % 65536
 
 abbrev pub form_from : ℕ → List Instr → ℕ
 form_from form [] = form

@@ -39,7 +39,7 @@ pub record Allows (g : KnownLayout) (window new : List Instr) (m : Move) : Type 
   pub moved : Moves g window new m
   pub near : StandsNear g place
   pub is_window : IsWindow lines place window
-  pub letters : list_all is_in_window new ≡ true
+  pub in_window : list_all is_in_window new ≡ true
   pub some : 0 < length window
   pub no_longer : length new ≤ length window
 

@@ -41,19 +41,19 @@ pub record IsOver (r : Rules) (s : Scene) : Type 0 where
 
 -- the run of instructions from a kept place on that may stand in a window, with at most so many
 pub record IsRun (most : ℕ) (s : Scene) (place : ℕ) (r : Run) : Type 0 where
-  pub letters : r.letters ≡ run true most (drop (rank (marks s.listing) place) (rows_from false (lines_of s)))
+  pub instrs : r.instrs ≡ run true most (drop (rank (marks s.listing) place) (rows_from false (lines_of s)))
   pub places : AreRanked (marks s.listing) (rank (marks s.listing) place) r.places.items
-  pub as_many : length r.places.items ≡ length r.letters
+  pub as_many : length r.places.items ≡ length r.instrs
 
 -- a kept place of it, as a window begins there, with its run
 pub record IsSite (most : ℕ) (s : Scene) (t : Site) : Type 0 where
   pub within : t.place < length s.listing.stands
   pub kept : is_gone (marks s.listing) t.place ≡ false
   pub number : t.number ≡ rank (marks s.listing) t.place
-  pub letters : t.run.letters ≡ run true most (drop t.number (rows_from false (lines_of s)))
+  pub instrs : t.run.instrs ≡ run true most (drop t.number (rows_from false (lines_of s)))
   pub places : AreRanked (marks s.listing) t.number t.run.places.items
-  pub as_many : length t.run.places.items ≡ length t.run.letters
-  pub vanishes : (t.may_vanish ≡ true) ↔ IsSettled (places_of (lines_of s)) (labels_from 0 (lines_of s)) t.number (length t.run.letters) []
+  pub as_many : length t.run.places.items ≡ length t.run.instrs
+  pub vanishes : (t.may_vanish ≡ true) ↔ IsSettled (places_of (lines_of s)) (labels_from 0 (lines_of s)) t.number (length t.run.instrs) []
 
 -- its layout, where one is kept, stands at the site
 abbrev pub IsNear : Scene → Site → Type 0
@@ -78,7 +78,7 @@ pub record IsLook (l : Look) : Type 0 where
 pub record IsSight (t : Sight) : Type 0 where
   pub look : IsLook t.look.now
   pub stands : StandsThere (lines_seen t.look.now) (number_seen t.look.now) t.window.now t.form.now.live.bits
-  pub within : length t.window.now ≤ length t.look.now.site.now.run.letters
+  pub within : length t.window.now ≤ length t.look.now.site.now.run.instrs
   pub form : IsForm t.window.now t.form.now
 
 -- the lines that are left where a window there gives way

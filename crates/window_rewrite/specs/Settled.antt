@@ -17,8 +17,8 @@ IsSettled places labels p count is = (0 < length is) ⊎ ((is_op_place (slice_ge
 -- the window stands from p on, and may give way to the new instructions, which are no more: no label stands within it, and each code label is still code
 pub record MayGiveWay (code : Code) (p : ℕ) (window new : List Instr) : Type 0 where
   pub stands : take (length window) (drop p code.places) ≡ map plain window
-  pub letters : list_all is_in_window window ≡ true
-  pub new_letters : list_all is_in_window new ≡ true
+  pub in_window : list_all is_in_window window ≡ true
+  pub new_in_window : list_all is_in_window new ≡ true
   pub some : 0 < length window
   pub no_longer : length new ≤ length window
   pub unlabelled : (k : ℕ) (l : Label) → slice_get code.labels k ≡ Some l → (l.place ≤ p) ⊎ (p + length window ≤ l.place)

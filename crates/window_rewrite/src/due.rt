@@ -159,8 +159,8 @@ impl Due {
         requires over { IsOver rules.now scene.old }
         requires site { IsSite rules.now.longest scene.old site.now }
         requires near { IsNear scene.old site.now }
-        requires reached { reached ≤ length site.now.run.letters }
-        requires none { NoneReaches rules.now.costs.now (table_in rules.now) site.now.run.letters reached }
+        requires reached { reached ≤ length site.now.run.instrs }
+        requires none { NoneReaches rules.now.costs.now (table_in rules.now) site.now.run.instrs reached }
         requires tried { AreTriedBut (setting_of rules.now) scene.old self.old site.now.place }
         requires least { (q : ℕ) → q < site.now.place → marked self.old.due q ≡ false }
         ensures over { OnOk result (IsOver rules.now scene.new) }
@@ -214,11 +214,11 @@ impl Due {
         ensures cost { steps.new ≤ steps.old + length (sides_of rules.now) }
         ensures rises { IfOk result (λ o. RisesByAtLeast steps.old steps.new (from_bool (is_some o))) }
     {
-        if !may_begin(rules, scene.listing.first_letter(place)) {
+        if !may_begin(rules, scene.listing.first_instr(place)) {
             return Ok(None);
         }
         let run = scene.run(rules, place);
-        let reached = reach(rules, run.letters.as_slice());
+        let reached = reach(rules, run.instrs.as_slice());
         if reached == 0 {
             return Ok(None);
         }

@@ -69,7 +69,7 @@ const MOST_LINES: usize = 262_144;
 fn has_room(look: &Look<'_>, window: &[Instr], new: &[Instr]) -> bool
     requires look { IsLook look.now }
     requires window { IsWindow (lines_seen look.now) (number_seen look.now) window.now }
-    requires within { length window.now ≤ length look.now.site.now.run.letters }
+    requires within { length window.now ≤ length look.now.site.now.run.instrs }
     requires some { 0 < length window.now }
     requires no_longer { length new.now ≤ length window.now }
     ensures { (result ≡ true) ↔ (length (lines_left look.now window.now new.now) ≤ max (length (lines_seen look.now)) most_lines) }
@@ -97,8 +97,8 @@ fn moved_layout(
 ) -> Result<Option<Move>, Memory>
     requires look { IsLook look.now }
     requires window { IsWindow (lines_seen look.now) (number_seen look.now) window.now }
-    requires within { length window.now ≤ length look.now.site.now.run.letters }
-    requires letters { list_all is_in_window new.now ≡ true }
+    requires within { length window.now ≤ length look.now.site.now.run.instrs }
+    requires in_window { list_all is_in_window new.now ≡ true }
     requires some { 0 < length window.now }
     requires no_longer { length new.now ≤ length window.now }
     ensures allowed { IfOk result (λ o. (is_some o ≡ true) ↔ MayBeLeft look.now window.now new.now) }
@@ -295,7 +295,7 @@ fn lowest<L: Ledger>(
 ) -> Result<Option<Choice>, Memory>
     requires look { IsLook look.now }
     requires stands { StandsThere (lines_seen look.now) (number_seen look.now) window.now live.bits }
-    requires within { length window.now ≤ length look.now.site.now.run.letters }
+    requires within { length window.now ≤ length look.now.site.now.run.instrs }
     ensures some { IfOk result (λ o. IfSome o (IsLowest (setting_of look.now.rules.now) (lines_seen look.now) (number_seen look.now) (length window.now))) }
     ensures moved { IfOk result (λ o. IfSome o (λ c. Moves look.now.scene.now.layout c.window c.new c.moved)) }
     ensures none { IfOk result (λ o. IfNone o (NoneOf refused.new (setting_of look.now.rules.now) (lines_seen look.now) (number_seen look.now) (length window.now))) }
@@ -329,8 +329,8 @@ pub(crate) fn best<L: Ledger>(
     steps: &mut Steps<L>,
 ) -> Result<Option<Choice>, Memory>
     requires look { IsLook look.now }
-    requires within { reached ≤ length look.now.site.now.run.letters }
-    requires none { NoneReaches look.now.rules.now.costs.now (table_in look.now.rules.now) look.now.site.now.run.letters reached }
+    requires within { reached ≤ length look.now.site.now.run.instrs }
+    requires none { NoneReaches look.now.rules.now.costs.now (table_in look.now.rules.now) look.now.site.now.run.instrs reached }
     ensures some { IfOk result (λ o. IfSome o (IsBest (setting_of look.now.rules.now) (lines_seen look.now) (number_seen look.now))) }
     ensures moved { IfOk result (λ o. IfSome o (λ c. Moves look.now.scene.now.layout c.window c.new c.moved)) }
     ensures none { IfOk result (λ o. IfNone o (NoneAt refused.new (setting_of look.now.rules.now) (lines_seen look.now) (number_seen look.now))) }
@@ -338,7 +338,7 @@ pub(crate) fn best<L: Ledger>(
     ensures cost { steps.new ≤ steps.old + length (sides_of look.now.rules.now) }
     ensures rises { IfOk result (λ o. RisesByAtLeast steps.old steps.new (from_bool (is_some o))) }
 {
-    let run = look.site.run.letters.as_slice();
+    let run = look.site.run.instrs.as_slice();
     let mut count = reached;
     while count > 0 {
         let live = look.scene.live_after(look.rules, look.site, count);

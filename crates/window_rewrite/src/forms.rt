@@ -8,7 +8,7 @@ ghost use Rattle.rule_table.specs.Views.{family_of, rule_of};
 ghost use Rattle.table_audit.specs.Families.{entry_at};
 ghost use Rattle.table_audit.specs.Shorter.{IsCanonicalSide};
 ghost use Rattle.window_rewrite.specs.Fitting.{IsForm, Stands};
-ghost use Rattle.window_rewrite.specs.Forms.{form_of, letter_number, next_form};
+ghost use Rattle.window_rewrite.specs.Forms.{form_of, instr_number, next_form};
 ghost use Rattle.window_rewrite.specs.Rules.{left_forms, raised_form, raised_forms, rules_in};
 
 use crate::hashes::{HASHES, blind_all};
@@ -36,8 +36,8 @@ pub(crate) struct Form {
 }
 
 /// The number of an instruction with its registers.
-fn letter_number(instr: &Instr) -> usize
-    ensures value { result ≡ letter_number instr.now }
+fn instr_number(instr: &Instr) -> usize
+    ensures value { result ≡ instr_number instr.now }
     ensures small { result < 4928494698496 }
 {
     let parts = parts(instr);
@@ -51,7 +51,7 @@ fn next_form(form: usize, instr: &Instr) -> usize
     ensures value { result ≡ next_form form instr.now }
     ensures small { result < 65536 }
 {
-    (form * 1283 + letter_number(instr)) % HASHES
+    (form * 1283 + instr_number(instr)) % HASHES
 }
 
 /// The number of instructions with their registers.

@@ -2,7 +2,7 @@
 //! families with 0 for 8-bit numbers too. Where a table has no families these aren't asked for.
 ghost use Rattle.std.specs.Prelude.{◌≡◌, ◌≤◌, ◌<◌, ℕ, List, length, map, true, false, Some, if◌then◌else◌};
 ghost use Rattle.window_runs.specs.declared.rows.WindowPlace.{WindowPlace};
-ghost use Rattle.window_runs.specs.Runs.{letter_at, run};
+ghost use Rattle.window_runs.specs.Runs.{instr_at, run};
 ghost use Rattle.rule_table.specs.Views.{family_of, rule_of};
 ghost use Rattle.window_rewrite.specs.Fitting.{NoneMarked, NoneReaches, NoneStands};
 ghost use Rattle.window_rewrite.specs.Rules.{families_in, is_marked, AreMany};
@@ -16,7 +16,7 @@ use thumb_instr::Instr;
 /// Whether a side that is marked may begin with an instruction.
 fn may_begin_in(marks: &Marks, hidden: bool, first: Instr) -> bool
     requires { AreMany marks.now }
-    ensures { result ≡ false → (rows : List WindowPlace) → Some first ≡ letter_at true rows → (most : ℕ) → NoneMarked marks.now hidden (run true most rows) 0 }
+    ensures { result ≡ false → (rows : List WindowPlace) → Some first ≡ instr_at true rows → (most : ℕ) → NoneMarked marks.now hidden (run true most rows) 0 }
 {
     marks.has_front(next_hash(0, &seen(hidden, first)))
 }
@@ -25,7 +25,7 @@ fn may_begin_in(marks: &Marks, hidden: bool, first: Instr) -> bool
 /// weighs less stands first in the run.
 pub(crate) fn may_begin(rules: &Rules<'_>, first: Option<Instr>) -> bool
     requires ready { AreReady rules.now }
-    ensures { result ≡ false → (rows : List WindowPlace) → first ≡ letter_at true rows → (most : ℕ) → NoneReaches rules.now.costs.now (table_in rules.now) (run true most rows) 0 }
+    ensures { result ≡ false → (rows : List WindowPlace) → first ≡ instr_at true rows → (most : ℕ) → NoneReaches rules.now.costs.now (table_in rules.now) (run true most rows) 0 }
 {
     match first {
         None => false,

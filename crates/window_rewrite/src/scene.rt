@@ -120,7 +120,7 @@ impl Scene {
         ensures live { self.new.live ≡ self.old.live }
     {
         let number = self.listing.number(place);
-        let count = run.letters.len() as u32;
+        let count = run.instrs.len() as u32;
         let may_vanish = may_vanish(&mut self.listing, place, count);
         self.layout.go_to(number as usize);
         Site {
@@ -136,7 +136,7 @@ impl Scene {
         requires kept { IsKept self.now }
         requires site { IsSite rules.now.longest self.now site.now }
         requires some { 0 < count }
-        requires few { count ≤ length site.now.run.letters }
+        requires few { count ≤ length site.now.run.instrs }
         ensures { (x : ℕ) → (has result.bits x ≡ true) ↔ LiveAfter (code_of (lines_of self.now)) (site.now.number + (count - 1)) x }
     {
         let end = self.listing.place_count();
@@ -157,13 +157,13 @@ impl Scene {
         new: &[Instr],
     ) -> bool
         requires site { IsSite rules.now.longest self.now site.now }
-        requires few { count ≤ length site.now.run.letters }
+        requires few { count ≤ length site.now.run.instrs }
         ensures { (result ≡ true) ↔ IsSettled (places_of (lines_of self.now)) (labels_from 0 (lines_of self.now)) site.now.number count new.now }
     {
         if !new.is_empty() {
             return true;
         }
-        if count < site.run.letters.len() {
+        if count < site.run.instrs.len() {
             return true;
         }
         site.may_vanish
@@ -184,7 +184,7 @@ impl Scene {
         requires here { (choice_of choice.now).place ≡ site.now.number }
         requires some { 0 < length choice.now.window }
         requires no_longer { length choice.now.new ≤ length choice.now.window }
-        requires within { length choice.now.window ≤ length site.now.run.letters }
+        requires within { length choice.now.window ≤ length site.now.run.instrs }
         requires moved { Moves self.old.layout choice.now.window choice.now.new choice.now.moved }
         requires room { length lost.old ≡ length self.old.listing.stands }
         ensures over { OnOk result (IsOver rules.now self.new) }

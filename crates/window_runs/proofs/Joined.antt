@@ -9,15 +9,15 @@ use Rattle.thumb_model.specs.Listing.{Name, Mention, Value, Statement, Nothing, 
 use Rattle.thumb_model.specs.Replaced.{is_op, is_align, are_joined, are_joined_from}
 use Rattle.window_runs.specs.declared.rows.WindowPlace.{WindowPlace}
 use Rattle.window_runs.specs.Windows.{IsWindow}
-use Rattle.window_runs.specs.Rows.{is_unlabelled, letter_of, rows_of, stays_joined, rows_from}
-use Rattle.window_runs.specs.Runs.{letter_at, before, run}
+use Rattle.window_runs.specs.Rows.{is_unlabelled, window_instr, rows_of, stays_joined, rows_from}
+use Rattle.window_runs.specs.Runs.{instr_at, before, run}
 use Rattle.thumb_model.proofs.Lists.{take_short as take_less, length_map as map_length}
 
 -- the instructions stand in the rows, joined; of the first it may not matter
 abbrev pub Fits : Bool → List Instr → List WindowPlace → Type 0
 Fits first [] rows = Unit {0}
 Fits first (i ∷ is) [] = ⊥
-Fits first (i ∷ is) (r ∷ rs) = ((first || r.is_joined) ≡ true) × (r.letter ≡ Some i) × Fits false is rs
+Fits first (i ∷ is) (r ∷ rs) = ((first || r.is_joined) ≡ true) × (r.instr ≡ Some i) × Fits false is rs
 
 -- ---- runs ----
 
@@ -28,9 +28,9 @@ run_fits first zero (suc k) rows = tt
 run_fits first (suc n) zero [] = tt
 run_fits first (suc n) (suc k) [] = tt
 run_fits first (suc n) zero (r ∷ rs) = tt
-run_fits first (suc n) (suc k) (r ∷ rs) = go (run_fits false n k rs) (first || r.is_joined) refl r.letter refl
+run_fits first (suc n) (suc k) (r ∷ rs) = go (run_fits false n k rs) (first || r.is_joined) refl r.instr refl
   where
-    go : Fits false (take k (run false n rs)) rs → (b : Bool) → (first || r.is_joined) ≡ b → (o : Option Instr) → r.letter ≡ o → Fits first (take (suc k) (before (if b then o else None) (run false n rs))) (r ∷ rs)
+    go : Fits false (take k (run false n rs)) rs → (b : Bool) → (first || r.is_joined) ≡ b → (o : Option Instr) → r.instr ≡ o → Fits first (take (suc k) (before (if b then o else None) (run false n rs))) (r ∷ rs)
     go h true e None f = tt
     go h true e (Some i) f = (e, f, h)
     go h false e o f = tt
@@ -43,23 +43,23 @@ fits_run first (suc n) (i ∷ is) [] h f = absurd f
 fits_run first (suc n) (i ∷ is) (r ∷ rs) h f =
     rw (f.0, f.1) (ap (λ (js : List Instr). i ∷ js) (fits_run false n is rs (omega arith) f.2))
 
--- a run ends where there is no letter
-run_none : (begins : Bool) (n : ℕ) (rows : List WindowPlace) → letter_at begins rows ≡ None → run begins n rows ≡ []
+-- a run ends where no instruction goes on with it
+run_none : (begins : Bool) (n : ℕ) (rows : List WindowPlace) → instr_at begins rows ≡ None → run begins n rows ≡ []
 run_none begins zero rows e = refl
 run_none begins (suc n) [] e = refl
 run_none begins (suc n) (r ∷ rs) e = ap (λ (o : Option Instr). before o (run false n rs)) e
 
-run_some : (begins : Bool) (n at : ℕ) (rows : List WindowPlace) (i : Instr) → letter_at begins (drop at rows) ≡ Some i → run begins (suc n) (drop at rows) ≡ i ∷ run false n (drop (at + 1) rows)
+run_some : (begins : Bool) (n at : ℕ) (rows : List WindowPlace) (i : Instr) → instr_at begins (drop at rows) ≡ Some i → run begins (suc n) (drop at rows) ≡ i ∷ run false n (drop (at + 1) rows)
 run_some begins n zero [] i e = absurd (cc)
 run_some begins n (suc at) [] i e = absurd (cc)
 run_some begins n zero (r ∷ rs) i e = ap (λ (o : Option Instr). before o (run false n rs)) e
 run_some begins n (suc at) (r ∷ rs) i e = run_some begins n at rs i e ∙ ap (λ k. i ∷ run false n (drop k (r ∷ rs))) (let f : suc (at + 1) ≡ suc at + 1 = omega arith in f)
 
-pub run_ends : (seq : List Instr) (begins : Bool) (n : ℕ) (rows : List WindowPlace) (all : List Instr) → letter_at begins rows ≡ None → seq ++ run begins n rows ≡ all → seq ≡ all
+pub run_ends : (seq : List Instr) (begins : Bool) (n : ℕ) (rows : List WindowPlace) (all : List Instr) → instr_at begins rows ≡ None → seq ++ run begins n rows ≡ all → seq ≡ all
 run_ends seq begins n rows all e f = sym (append-nil seq) ∙ ap (λ is. seq ++ is) (sym (run_none begins n rows e)) ∙ f
 
 -- one instruction more
-pub run_more : (seq : List Instr) (most place : ℕ) (rows : List WindowPlace) (i : Instr) → length seq < most → letter_at (nat_eq (length seq) 0) (drop (place + length seq) rows) ≡ Some i
+pub run_more : (seq : List Instr) (most place : ℕ) (rows : List WindowPlace) (i : Instr) → length seq < most → instr_at (nat_eq (length seq) 0) (drop (place + length seq) rows) ≡ Some i
     → (seq ++ i ∷ []) ++ run (nat_eq (length (seq ++ i ∷ [])) 0) (most - length (seq ++ i ∷ [])) (drop (place + length (seq ++ i ∷ [])) rows)
     ≡ seq ++ run (nat_eq (length seq) 0) (most - length seq) (drop (place + length seq) rows)
 run_more seq most place rows i h e =
@@ -96,7 +96,7 @@ all_from c m (l ∷ ls) h = from_append m (labels_at c l.names) _ (at_from c m l
 -- the instructions stand at the head of the lines, joined to what stands before them
 record Tail (c high : ℕ) (lines : List ListingLine) (is : List Instr) : Type 0 where
   stands : take (length is) (places_of lines) ≡ map plain is
-  letters : list_all is_in_window is ≡ true
+  in_window : list_all is_in_window is ≡ true
   free : AreFrom high (labels_from c lines)
   joined : are_joined (length is) lines ≡ true
 
@@ -113,23 +113,23 @@ broken (l ∷ ls) i is f = by (broken ls i is) l.statement f
     by on (Aligns size most) f = on f
     by on (Sets name address) f = on f
 
--- the letter of an instruction
-letter_is : (i j : Instr) (m : Option Mention) → letter_of j m ≡ Some i → (let p : Place = Op j m in p ≡ plain i) × (is_in_window i ≡ true)
-letter_is i j (Some m) e = absurd (cc)
-letter_is i j None e = go (is_in_window j) refl e
+-- an instruction that may stand in a window
+window_instr_is : (i j : Instr) (m : Option Mention) → window_instr j m ≡ Some i → (let p : Place = Op j m in p ≡ plain i) × (is_in_window i ≡ true)
+window_instr_is i j (Some m) e = absurd (cc)
+window_instr_is i j None e = go (is_in_window j) refl e
   where
     go : (b : Bool) → is_in_window j ≡ b → (if b then Some j else None) ≡ Some i → (let p : Place = Op j None in p ≡ plain i) × (is_in_window i ≡ true)
     go true w e = let s : j ≡ i = cc in (ap plain s, ap is_in_window (sym s) ∙ w)
     go false w e = absurd (cc)
 
-is_letter : (i j : Instr) (m : Option Mention) → (let p : Place = Op j m in p) ≡ plain i → is_in_window i ≡ true → letter_of j m ≡ Some i
-is_letter i j None e w = let s : j ≡ i = cc in ap (λ (k : Instr). letter_of k None) s ∙ rw w refl
-is_letter i j (Some m) e w = absurd (cc)
+is_window_instr : (i j : Instr) (m : Option Mention) → (let p : Place = Op j m in p) ≡ plain i → is_in_window i ≡ true → window_instr j m ≡ Some i
+is_window_instr i j None e w = let s : j ≡ i = cc in ap (λ (k : Instr). window_instr k None) s ∙ rw w refl
+is_window_instr i j (Some m) e w = absurd (cc)
 
 -- the same of a line with these names and this statement, and the lines behind it
 record TailAt (c high : ℕ) (names : List Name) (s : Statement) (ls : List ListingLine) (i : Instr) (is : List Instr) : Type 0 where
   stands : take (suc (length is)) (places_in s ++ places_of ls) ≡ plain i ∷ map plain is
-  letters : (is_in_window i && list_all is_in_window is) ≡ true
+  in_window : (is_in_window i && list_all is_in_window is) ≡ true
   free : AreFrom high (labels_at c names ++ labels_from (c + length (places_in s)) ls)
   joined : (if is_op s then are_joined (length is) ls else (if is_align s then false else are_joined (suc (length is)) ls)) ≡ true
 
@@ -137,11 +137,11 @@ two_heads : (p q : Place) (ps qs : List Place) → p ≡ q → ps ≡ qs → (le
 two_heads p q ps qs e f = cc
 
 fits_tail : (lines : List ListingLine) (c high : ℕ) (is : List Instr) → high ≡ c + length is → Fits false is (rows_from true lines) → Tail c high lines is
-fits_tail lines c high [] e f = record { stands = refl; letters = refl; free = all_from c high lines (omega arith); joined = refl }
+fits_tail lines c high [] e f = record { stands = refl; in_window = refl; free = all_from c high lines (omega arith); joined = refl }
 fits_tail [] c high (i ∷ is) e f = absurd f
 fits_tail (l ∷ ls) c high (i ∷ is) e f =
     let t = by (λ g. fits_tail ls (c + 0) high (i ∷ is) (omega arith) g) (λ g. fits_tail ls (c + 1) high is (omega arith) g) l.names l.statement f in
-    record { stands = t.stands; letters = t.letters; free = t.free; joined = t.joined }
+    record { stands = t.stands; in_window = t.in_window; free = t.free; joined = t.joined }
   where
     -- a row: what the line says
     by : (Fits false (i ∷ is) (rows_from true ls) → Tail (c + 0) high ls (i ∷ is)) → (Fits false is (rows_from true ls) → Tail (c + 1) high ls is)
@@ -152,15 +152,15 @@ fits_tail (l ∷ ls) c high (i ∷ is) e f =
     by same next (n ∷ ns) (Words (v ∷ vs)) f = let g = f.0 in absurd (cc)
     by same next (n ∷ ns) (Aligns size most) f = absurd (broken ls i is f)
     by same next (n ∷ ns) (Sets name address) f = absurd (broken ls i is f)
-    by same next [] Nothing f = let t = same f in record { stands = t.stands; letters = t.letters; free = t.free; joined = t.joined }
-    by same next [] (Words []) f = let t = same f in record { stands = t.stands; letters = t.letters; free = t.free; joined = t.joined }
-    by same next [] (Sets name address) f = let t = same f in record { stands = t.stands; letters = t.letters; free = t.free; joined = t.joined }
+    by same next [] Nothing f = let t = same f in record { stands = t.stands; in_window = t.in_window; free = t.free; joined = t.joined }
+    by same next [] (Words []) f = let t = same f in record { stands = t.stands; in_window = t.in_window; free = t.free; joined = t.joined }
+    by same next [] (Sets name address) f = let t = same f in record { stands = t.stands; in_window = t.in_window; free = t.free; joined = t.joined }
     by same next [] (Words (v ∷ vs)) f = let g = f.0 in absurd (cc)
     by same next [] (Aligns size most) f = absurd (broken ls i is f)
     by same next [] (Instruction j m) f =
         let t = next f.2 in
-        let w = letter_is i j m f.1 in
-        record { stands = two_heads (Op j m) (plain i) (take (length is) (places_of ls)) (map plain is) w.0 t.stands; letters = and_from (is_in_window i) (list_all is_in_window is) w.1 t.letters; free = t.free; joined = t.joined }
+        let w = window_instr_is i j m f.1 in
+        record { stands = two_heads (Op j m) (plain i) (take (length is) (places_of ls)) (map plain is) w.0 t.stands; in_window = and_from (is_in_window i) (list_all is_in_window is) w.1 t.in_window; free = t.free; joined = t.joined }
 
 head_of : (p q : Place) (ps qs : List Place) → (let xs : List Place = p ∷ ps in xs) ≡ q ∷ qs → (p ≡ q) × (ps ≡ qs)
 head_of p q ps qs e = (cc, cc)
@@ -169,21 +169,21 @@ tail_fits : (lines : List ListingLine) (c high : ℕ) (is : List Instr) → high
 tail_fits lines c high [] e t = tt
 tail_fits [] c high (i ∷ is) e t = let s = t.stands in absurd (cc)
 tail_fits (l ∷ ls) c high (i ∷ is) e t =
-    by (λ u. tail_fits ls (c + 0) high (i ∷ is) (omega arith) u) (λ u. tail_fits ls (c + 1) high is (omega arith) u) l.names l.statement (record { stands = t.stands; letters = t.letters; free = t.free; joined = t.joined })
+    by (λ u. tail_fits ls (c + 0) high (i ∷ is) (omega arith) u) (λ u. tail_fits ls (c + 1) high is (omega arith) u) l.names l.statement (record { stands = t.stands; in_window = t.in_window; free = t.free; joined = t.joined })
   where
     -- a row: what the line says
     by : (Tail (c + 0) high ls (i ∷ is) → Fits false (i ∷ is) (rows_from true ls)) → (Tail (c + 1) high ls is → Fits false is (rows_from true ls))
         → (names : List Name) (s : Statement) → TailAt c high names s ls i is → Fits false (i ∷ is) (rows_of (true && is_unlabelled names) s ++ rows_from (stays_joined (true && is_unlabelled names) s) ls)
     by same next (n ∷ ns) s t = absurd (let h = t.free.0 in omega arith)
-    by same next [] Nothing t = same (record { stands = t.stands; letters = t.letters; free = t.free; joined = t.joined })
-    by same next [] (Words []) t = same (record { stands = t.stands; letters = t.letters; free = t.free; joined = t.joined })
-    by same next [] (Sets name address) t = same (record { stands = t.stands; letters = t.letters; free = t.free; joined = t.joined })
+    by same next [] Nothing t = same (record { stands = t.stands; in_window = t.in_window; free = t.free; joined = t.joined })
+    by same next [] (Words []) t = same (record { stands = t.stands; in_window = t.in_window; free = t.free; joined = t.joined })
+    by same next [] (Sets name address) t = same (record { stands = t.stands; in_window = t.in_window; free = t.free; joined = t.joined })
     by same next [] (Words (v ∷ vs)) t = let h = head_of (Word v) (plain i) _ _ t.stands in let g = h.0 in absurd (cc)
     by same next [] (Aligns size most) t = let j = t.joined in absurd (cc)
     by same next [] (Instruction j m) t =
         let h = head_of (Op j m) (plain i) (take (length is) (places_of ls)) (map plain is) t.stands in
-        let w = and_parts (is_in_window i) (list_all is_in_window is) t.letters in
-        (refl, is_letter i j m h.0 w.0, next (record { stands = h.1; letters = w.1; free = t.free; joined = t.joined }))
+        let w = and_parts (is_in_window i) (list_all is_in_window is) t.in_window in
+        (refl, is_window_instr i j m h.0 w.0, next (record { stands = h.1; in_window = w.1; free = t.free; joined = t.joined }))
 
 -- ---- from a place on ----
 
@@ -224,13 +224,13 @@ all_clear low high (l ∷ ls) h = (h 0 l refl, all_clear low high ls (λ k. h (s
 -- the instructions stand in the lines from place p on, of which the first has the number c
 record Span (c p low high : ℕ) (lines : List ListingLine) (is : List Instr) : Type 0 where
   stands : take (length is) (drop p (places_of lines)) ≡ map plain is
-  letters : list_all is_in_window is ≡ true
+  in_window : list_all is_in_window is ≡ true
   free : AreClear low high (labels_from c lines)
   joined : are_joined_from p (length is) lines ≡ true
 
 record SpanAt (c p low high : ℕ) (names : List Name) (s : Statement) (ls : List ListingLine) (i : Instr) (is : List Instr) : Type 0 where
   stands : take (suc (length is)) (drop p (places_in s ++ places_of ls)) ≡ plain i ∷ map plain is
-  letters : (is_in_window i && list_all is_in_window is) ≡ true
+  in_window : (is_in_window i && list_all is_in_window is) ≡ true
   free : AreClear low high (labels_at c names ++ labels_from (c + length (places_in s)) ls)
   joined : (if is_op s && (p == 0) then are_joined (suc (length is) - 1) ls else are_joined_from (p - length (places_in s)) (suc (length is)) ls) ≡ true
 
@@ -243,9 +243,9 @@ drop_past [] ys p h = ap (λ n. drop n ys) (let e : p ≡ p - 0 = omega arith in
 drop_past (x ∷ xs) ys zero h = absurd (omega arith)
 drop_past (x ∷ xs) ys (suc p) h = drop_past xs ys p (omega arith) ∙ ap (λ n. drop n ys) (let e : p - length xs ≡ suc p - suc (length xs) = omega arith in e)
 
--- a data word has no letter
+-- a data word has no instruction
 abbrev word_row : Value → WindowPlace
-word_row v = record { letter = None; is_joined = false }
+word_row v = record { instr = None; is_joined = false }
 
 word_fits_not : (vs : List Value) (p : ℕ) (rows : List WindowPlace) (i : Instr) (is : List Instr) → p < length vs → Fits true (i ∷ is) (drop p (map word_row vs ++ rows)) → ⊥
 word_fits_not [] p rows i is h f = omega arith
@@ -264,7 +264,7 @@ fits_span : (lines : List ListingLine) (b : Bool) (c p low high : ℕ) (i : Inst
 fits_span [] b c p low high i is e g f = absurd (subst (λ (rs : List WindowPlace). Fits true (i ∷ is) rs) (drop_none p) f)
 fits_span (l ∷ ls) b c p low high i is e g f =
     let t = by (λ a k q h. fits_span ls a (c + k) q low high i is h g) l.names l.statement p e f in
-    record { stands = t.stands; letters = t.letters; free = t.free; joined = t.joined }
+    record { stands = t.stands; in_window = t.in_window; free = t.free; joined = t.joined }
   where
     below : (names : List Name) (q : ℕ) → low ≡ c + q → AreClear low high (labels_at c names)
     below names q h = clear_at c low high names (omega arith)
@@ -273,7 +273,7 @@ fits_span (l ∷ ls) b c p low high i is e g f =
     on : (names : List Name) (q : ℕ) → low ≡ c + q → Span (c + 0) q low high ls (i ∷ is) → SpanAt c q low high names Nothing ls i is
     on names q h t = record {
       stands = t.stands;
-      letters = t.letters;
+      in_window = t.in_window;
       free = clear_append low high (labels_at c names) (labels_from (c + 0) ls) (below names q h) t.free;
       joined = ap (λ n. are_joined_from n (suc (length is)) ls) (let z : q - 0 ≡ q = omega arith in z) ∙ t.joined;
     }
@@ -282,8 +282,8 @@ fits_span (l ∷ ls) b c p low high i is e g f =
     by : ((a : Bool) (k q : ℕ) → low ≡ c + k + q → Fits true (i ∷ is) (drop q (rows_from a ls)) → Span (c + k) q low high ls (i ∷ is))
         → (names : List Name) (s : Statement) (q : ℕ) → low ≡ c + q → Fits true (i ∷ is) (drop q (rows_of (b && is_unlabelled names) s ++ rows_from (stays_joined (b && is_unlabelled names) s) ls)) → SpanAt c q low high names s ls i is
     by rec names Nothing q h f = on names q h (rec _ 0 q (omega arith) f)
-    by rec names (Sets name address) q h f = let t = on names q h (rec _ 0 q (omega arith) f) in record { stands = t.stands; letters = t.letters; free = t.free; joined = t.joined }
-    by rec names (Aligns size most) q h f = let t = on names q h (rec _ 0 q (omega arith) f) in record { stands = t.stands; letters = t.letters; free = t.free; joined = t.joined }
+    by rec names (Sets name address) q h f = let t = on names q h (rec _ 0 q (omega arith) f) in record { stands = t.stands; in_window = t.in_window; free = t.free; joined = t.joined }
+    by rec names (Aligns size most) q h f = let t = on names q h (rec _ 0 q (omega arith) f) in record { stands = t.stands; in_window = t.in_window; free = t.free; joined = t.joined }
     by rec names (Words vs) q h f =
         elim (cases_lt q (length vs)) [
           | inl lt ↦ absurd (word_fits_not vs q _ i is lt f)
@@ -294,17 +294,17 @@ fits_span (l ∷ ls) b c p low high i is e g f =
               let places : drop q (map Word vs ++ places_of ls) ≡ drop (q - length vs) (places_of ls) = drop_past (map Word vs) (places_of ls) q (omega (arith, map_length Word vs)) ∙ ap (λ n. drop (q - n) (places_of ls)) (map_length Word vs) in
               record {
                 stands = ap (take (suc (length is))) places ∙ t.stands;
-                letters = t.letters;
+                in_window = t.in_window;
                 free = clear_append low high (labels_at c names) (labels_from (c + length (map Word vs)) ls) (below names q h) (subst (λ n. AreClear low high (labels_from (c + n) ls)) (sym (map_length Word vs)) t.free);
                 joined = ap (λ n. are_joined_from (q - n) (suc (length is)) ls) (map_length Word vs) ∙ t.joined;
               }
         ]
     by rec names (Instruction j m) zero h f =
         let t = fits_tail ls (c + 1) high is (omega arith) f.2 in
-        let w = letter_is i j m f.1 in
+        let w = window_instr_is i j m f.1 in
         record {
           stands = two_heads (Op j m) (plain i) (take (length is) (places_of ls)) (map plain is) w.0 t.stands;
-          letters = and_from (is_in_window i) (list_all is_in_window is) w.1 t.letters;
+          in_window = and_from (is_in_window i) (list_all is_in_window is) w.1 t.in_window;
           free = clear_append low high (labels_at c names) (labels_from (c + 1) ls) (below names 0 h) (clear_from low high (labels_from (c + 1) ls) t.free);
           joined = ap (λ n. are_joined n ls) (let z : suc (length is) - 1 ≡ length is = omega arith in z) ∙ t.joined;
         }
@@ -312,7 +312,7 @@ fits_span (l ∷ ls) b c p low high i is e g f =
         let t = rec true 1 q (omega arith) f in
         record {
           stands = t.stands;
-          letters = t.letters;
+          in_window = t.in_window;
           free = clear_append low high (labels_at c names) (labels_from (c + 1) ls) (below names (suc q) h) t.free;
           joined = rw (no_place q) (ap (λ n. are_joined_from n (suc (length is)) ls) (let z : suc q - 1 ≡ q = omega arith in z) ∙ t.joined);
         }
@@ -320,13 +320,13 @@ fits_span (l ∷ ls) b c p low high i is e g f =
 span_fits : (lines : List ListingLine) (b : Bool) (c p low high : ℕ) (i : Instr) (is : List Instr) → low ≡ c + p → high ≡ low + suc (length is) → Span c p low high lines (i ∷ is) → Fits true (i ∷ is) (drop p (rows_from b lines))
 span_fits [] b c p low high i is e g t = absurd (let s : take (suc (length is)) [] ≡ plain i ∷ map plain is = ap (take (suc (length is))) (sym (drop_none p)) ∙ t.stands in cc)
 span_fits (l ∷ ls) b c p low high i is e g t =
-    by (λ a k q h. span_fits ls a (c + k) q low high i is h g) l.names l.statement p e (record { stands = t.stands; letters = t.letters; free = t.free; joined = t.joined })
+    by (λ a k q h. span_fits ls a (c + k) q low high i is h g) l.names l.statement p e (record { stands = t.stands; in_window = t.in_window; free = t.free; joined = t.joined })
   where
     -- what says nothing of places
     on : (names : List Name) (q : ℕ) → SpanAt c q low high names Nothing ls i is → Span (c + 0) q low high ls (i ∷ is)
     on names q t = record {
       stands = t.stands;
-      letters = t.letters;
+      in_window = t.in_window;
       free = (clear_parts low high (labels_at c names) (labels_from (c + 0) ls) t.free).1;
       joined = ap (λ n. are_joined_from n (suc (length is)) ls) (let z : q ≡ q - 0 = omega arith in z) ∙ t.joined;
     }
@@ -335,8 +335,8 @@ span_fits (l ∷ ls) b c p low high i is e g t =
     by : ((a : Bool) (k q : ℕ) → low ≡ c + k + q → Span (c + k) q low high ls (i ∷ is) → Fits true (i ∷ is) (drop q (rows_from a ls)))
         → (names : List Name) (s : Statement) (q : ℕ) → low ≡ c + q → SpanAt c q low high names s ls i is → Fits true (i ∷ is) (drop q (rows_of (b && is_unlabelled names) s ++ rows_from (stays_joined (b && is_unlabelled names) s) ls))
     by rec names Nothing q h t = rec _ 0 q (omega arith) (on names q t)
-    by rec names (Sets name address) q h t = rec _ 0 q (omega arith) (on names q (record { stands = t.stands; letters = t.letters; free = t.free; joined = t.joined }))
-    by rec names (Aligns size most) q h t = rec _ 0 q (omega arith) (on names q (record { stands = t.stands; letters = t.letters; free = t.free; joined = t.joined }))
+    by rec names (Sets name address) q h t = rec _ 0 q (omega arith) (on names q (record { stands = t.stands; in_window = t.in_window; free = t.free; joined = t.joined }))
+    by rec names (Aligns size most) q h t = rec _ 0 q (omega arith) (on names q (record { stands = t.stands; in_window = t.in_window; free = t.free; joined = t.joined }))
     by rec names (Words vs) q h t =
         elim (cases_lt q (length vs)) [
           | inl lt ↦ absurd (word_stands_not vs q (places_of ls) (map plain is) (length is) i lt t.stands)
@@ -346,20 +346,20 @@ span_fits (l ∷ ls) b c p low high i is e g t =
               let places : drop q (map Word vs ++ places_of ls) ≡ drop (q - length vs) (places_of ls) = drop_past (map Word vs) (places_of ls) q (omega (arith, map_length Word vs)) ∙ ap (λ n. drop (q - n) (places_of ls)) (map_length Word vs) in
               subst (λ (rs : List WindowPlace). Fits true (i ∷ is) rs) (sym past) (rec (b && is_unlabelled names) (length vs) (q - length vs) (omega arith) (record {
                 stands = ap (take (suc (length is))) (sym places) ∙ t.stands;
-                letters = t.letters;
+                in_window = t.in_window;
                 free = subst (λ n. AreClear low high (labels_from (c + n) ls)) (map_length Word vs) (clear_parts low high (labels_at c names) (labels_from (c + length (map Word vs)) ls) t.free).1;
                 joined = ap (λ n. are_joined_from (q - n) (suc (length is)) ls) (sym (map_length Word vs)) ∙ t.joined;
               }))
         ]
     by rec names (Instruction j m) zero h t =
         let s = head_of (Op j m) (plain i) (take (length is) (places_of ls)) (map plain is) t.stands in
-        let w = and_parts (is_in_window i) (list_all is_in_window is) t.letters in
+        let w = and_parts (is_in_window i) (list_all is_in_window is) t.in_window in
         let clear = (clear_parts low high (labels_at c names) (labels_from (c + 1) ls) t.free).1 in (
           refl,
-          is_letter i j m s.0 w.0,
+          is_window_instr i j m s.0 w.0,
           tail_fits ls (c + 1) high is (omega arith) (record {
             stands = s.1;
-            letters = w.1;
+            in_window = w.1;
             free = from_clear low high (labels_from (c + 1) ls) (all_from (c + 1) (low + 1) ls (omega arith)) clear;
             joined = ap (λ n. are_joined n ls) (let z : length is ≡ suc (length is) - 1 = omega arith in z) ∙ t.joined;
           }),
@@ -368,7 +368,7 @@ span_fits (l ∷ ls) b c p low high i is e g t =
         let joined : are_joined_from (suc q - 1) (suc (length is)) ls ≡ true = rw (no_place q) at t.joined in
         rec true 1 q (omega arith) (record {
           stands = t.stands;
-          letters = t.letters;
+          in_window = t.in_window;
           free = (clear_parts low high (labels_at c names) (labels_from (c + 1) ls) t.free).1;
           joined = ap (λ n. are_joined_from n (suc (length is)) ls) (let z : q ≡ suc q - 1 = omega arith in z) ∙ joined;
         })
@@ -379,14 +379,14 @@ pub fits_window : (lines : List ListingLine) (p : ℕ) (w : List Instr) → 1 �
 fits_window lines p [] h f = absurd (omega arith)
 fits_window lines p (i ∷ is) h f =
     let t = fits_span lines false 0 p p (p + suc (length is)) i is (omega arith) refl f in
-    record { stands = t.stands; letters = t.letters; unlabelled = clear_all p (p + suc (length is)) (labels_from 0 lines) t.free; joined = t.joined }
+    record { stands = t.stands; in_window = t.in_window; unlabelled = clear_all p (p + suc (length is)) (labels_from 0 lines) t.free; joined = t.joined }
 
 pub window_fits : (lines : List ListingLine) (p : ℕ) (w : List Instr) → 1 ≤ length w → IsWindow lines p w → Fits true w (drop p (rows_from false lines))
 window_fits lines p [] h f = absurd (omega arith)
 window_fits lines p (i ∷ is) h f =
     span_fits lines false 0 p p (p + suc (length is)) i is (omega arith) refl (record {
       stands = f.stands;
-      letters = f.letters;
+      in_window = f.in_window;
       free = all_clear p (p + suc (length is)) (labels_from 0 lines) f.unlabelled;
       joined = f.joined;
     })

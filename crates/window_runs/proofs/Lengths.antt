@@ -4,14 +4,14 @@ use Rattle.thumb_instr.specs.declared.instr.Instr.{Instr}
 use Rattle.thumb_model.specs.Listing.{Statement, Nothing, Instruction, Words, Aligns, Sets, ListingLine, Word, places_in, places_of}
 use Rattle.window_runs.specs.declared.rows.WindowPlace.{WindowPlace}
 use Rattle.window_runs.specs.Rows.{is_unlabelled, rows_of, stays_joined, rows_from}
-use Rattle.window_runs.specs.Runs.{letter_at, before, run}
+use Rattle.window_runs.specs.Runs.{instr_at, before, run}
 use Rattle.thumb_model.proofs.Lists.{length_drop as length-drop, length_map as map_length}
 
 -- a run is no longer than the rows
 run_less : (begins : Bool) (n : ℕ) (rows : List WindowPlace) → length (run begins n rows) ≤ length rows
 run_less begins zero rows = omega arith
 run_less begins (suc n) [] = omega arith
-run_less begins (suc n) (r ∷ rs) = go (letter_at begins (r ∷ rs)) (run_less false n rs)
+run_less begins (suc n) (r ∷ rs) = go (instr_at begins (r ∷ rs)) (run_less false n rs)
   where
     go : (o : Option Instr) → length (run false n rs) ≤ length rs → length (before o (run false n rs)) ≤ suc (length rs)
     go None h = omega arith
@@ -21,7 +21,7 @@ run_less begins (suc n) (r ∷ rs) = go (letter_at begins (r ∷ rs)) (run_less 
 pub run_short : (begins : Bool) (n : ℕ) (rows : List WindowPlace) → length (run begins n rows) ≤ n
 run_short begins zero rows = omega arith
 run_short begins (suc n) [] = omega arith
-run_short begins (suc n) (r ∷ rs) = go (letter_at begins (r ∷ rs)) (run_short false n rs)
+run_short begins (suc n) (r ∷ rs) = go (instr_at begins (r ∷ rs)) (run_short false n rs)
   where
     go : (o : Option Instr) → length (run false n rs) ≤ n → length (before o (run false n rs)) ≤ suc n
     go None h = omega arith

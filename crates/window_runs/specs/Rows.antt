@@ -10,15 +10,15 @@ is_unlabelled [] = true
 is_unlabelled (n ∷ ns) = false
 
 -- the instruction, where it mentions nothing and may stand in a window
-abbrev pub letter_of : Instr → Option Mention → Option Instr
-letter_of i None = if is_in_window i then Some i else None
-letter_of i (Some m) = None
+abbrev pub window_instr : Instr → Option Mention → Option Instr
+window_instr i None = if is_in_window i then Some i else None
+window_instr i (Some m) = None
 
--- of each place, its letter, and whether neither a label nor an alignment line stands between it and the place before
+-- of each place, its instruction, where it may stand in a window, and whether neither a label nor an alignment line stands between it and the place before
 abbrev pub rows_of : Bool → Statement → List WindowPlace
 rows_of joined Nothing = []
-rows_of joined (Instruction i m) = record { letter = letter_of i m; is_joined = joined } ∷ []
-rows_of joined (Words vs) = map (λ v. record { letter = None; is_joined = false }) vs
+rows_of joined (Instruction i m) = record { instr = window_instr i m; is_joined = joined } ∷ []
+rows_of joined (Words vs) = map (λ v. record { instr = None; is_joined = false }) vs
 rows_of joined (Aligns size most) = []
 rows_of joined (Sets name address) = []
 

@@ -3,17 +3,17 @@ use Rattle.std.specs.Prelude.{ℕ, zero, suc, ◌||◌, Bool, false, List, [], �
 use Rattle.thumb_instr.specs.declared.instr.Instr.{Instr}
 use Rattle.window_runs.specs.declared.rows.WindowPlace.{WindowPlace}
 
--- the letter of the first row, where a run begins there or it is joined to the row before
-abbrev pub letter_at : Bool → List WindowPlace → Option Instr
-letter_at begins [] = None
-letter_at begins (r ∷ rs) = if begins || r.is_joined then r.letter else None
+-- the instruction of the first row, where a run begins there or it is joined to the row before
+abbrev pub instr_at : Bool → List WindowPlace → Option Instr
+instr_at begins [] = None
+instr_at begins (r ∷ rs) = if begins || r.is_joined then r.instr else None
 
 abbrev pub before : Option Instr → List Instr → List Instr
 before None is = []
 before (Some i) is = i ∷ is
 
--- the letters of rows, each joined to the one before, up to the first row that has none, and at most so many
+-- the instructions of rows, each joined to the one before, up to the first row that has none, and at most so many
 abbrev pub run : Bool → ℕ → List WindowPlace → List Instr
 run begins zero rows = []
 run begins (suc n) [] = []
-run begins (suc n) (r ∷ rs) = before (letter_at begins (r ∷ rs)) (run false n rs)
+run begins (suc n) (r ∷ rs) = before (instr_at begins (r ∷ rs)) (run false n rs)

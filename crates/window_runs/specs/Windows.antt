@@ -9,6 +9,6 @@ use Rattle.thumb_model.specs.Replaced.{are_joined_from}
 -- consecutive instructions from a place on that may stand in a window, with no label and no alignment line between them
 pub record IsWindow (lines : List ListingLine) (place : ℕ) (window : List Instr) : Type 0 where
   pub stands : take (length window) (drop place (places_of lines)) ≡ map plain window
-  pub letters : list_all is_in_window window ≡ true
+  pub in_window : list_all is_in_window window ≡ true
   pub unlabelled : (k : ℕ) (l : Label) → slice_get (labels_from 0 lines) k ≡ Some l → (l.place ≤ place) ⊎ (place + length window ≤ l.place)
   pub joined : are_joined_from place (length window) lines ≡ true

@@ -2,7 +2,7 @@
 ghost use Rattle.std.specs.Prelude.{◌≡◌, ◌++◌, ◌&&◌, false, map, IfOk, OnOk, option_map};
 ghost use Rattle.thumb_model.specs.Listing.{Words};
 ghost use Rattle.listing_parser.specs.Views.{line_view, mention_view, statement_view, value_view};
-ghost use Rattle.window_runs.specs.Rows.{is_unlabelled, letter_of, rows_from, rows_of, stays_joined};
+ghost use Rattle.window_runs.specs.Rows.{is_unlabelled, rows_from, rows_of, stays_joined, window_instr};
 
 use listing_parser::{ListingLine, Mention, Statement, Value};
 use std::alloc::{AllocError, Global};
@@ -12,7 +12,7 @@ use thumb_instr::{Instr, in_window};
 #[derive(Clone, Copy)]
 pub struct WindowPlace {
     /// The instruction that stands there, where it may stand in a window.
-    pub letter: Option<Instr>,
+    pub instr: Option<Instr>,
     /// Whether neither a label nor an alignment line stands between it and the place before.
     pub is_joined: bool,
 }
@@ -53,8 +53,8 @@ fn add_places(
 {
     match statement {
         Statement::Instruction { instr, mention } => {
-            let letter = letter(instr, mention.as_ref());
-            rows.push(WindowPlace { letter, is_joined })?;
+            let instr = window_instr(instr, mention.as_ref());
+            rows.push(WindowPlace { instr, is_joined })?;
             Ok(())
         }
         Statement::Words(values) => add_words(rows, values),
@@ -68,7 +68,7 @@ fn add_words(rows: &mut Vec<WindowPlace>, values: &[Value]) -> Result<(), AllocE
 {
     for _ in values {
         rows.push(WindowPlace {
-            letter: None,
+            instr: None,
             is_joined: false,
         })?;
     }
@@ -87,8 +87,8 @@ fn stays_joined(statement: &Statement, joined: bool) -> bool
 }
 
 /// An instruction that mentions nothing and may stand in a window.
-pub fn letter(instr: &Instr, mention: Option<&Mention>) -> Option<Instr>
-    ensures { result ≡ letter_of instr.now (option_map (λ r. mention_view r.now) mention.entry) }
+pub fn window_instr(instr: &Instr, mention: Option<&Mention>) -> Option<Instr>
+    ensures { result ≡ window_instr instr.now (option_map (λ r. mention_view r.now) mention.entry) }
 {
     match mention {
         Some(_) => None,

@@ -1,19 +1,19 @@
 //! Runs of instructions that may stand in a window.
 ghost use Rattle.std.specs.Prelude.{◌≡◌, ◌≤◌, ◌<◌, ◌^◌, drop, true};
-ghost use Rattle.window_runs.specs.Runs.{letter_at, run};
+ghost use Rattle.window_runs.specs.Runs.{instr_at, run};
 
 use crate::rows::WindowPlace;
 use thumb_instr::{Instr, Seq};
 
 /// The instruction of a place that a run goes on with, or begins with.
-fn letter_at(rows: &[WindowPlace], at: usize, begins: bool) -> Option<Instr>
-    ensures { result ≡ letter_at begins (drop at rows.now) }
+fn instr_at(rows: &[WindowPlace], at: usize, begins: bool) -> Option<Instr>
+    ensures { result ≡ instr_at begins (drop at rows.now) }
 {
     match rows.get(at) {
         None => None,
         Some(row) => {
             if begins || row.is_joined {
-                row.letter
+                row.instr
             } else {
                 None
             }
@@ -31,7 +31,7 @@ pub fn run(rows: &[WindowPlace], place: usize, most: usize) -> Seq
     let mut seq = Seq::new();
     while seq.len() < most {
         let count = seq.len();
-        match letter_at(rows, place + count, count == 0) {
+        match instr_at(rows, place + count, count == 0) {
             None => return seq,
             Some(instr) => seq.push(instr),
         }

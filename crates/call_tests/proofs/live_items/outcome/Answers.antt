@@ -5,4 +5,4 @@ pub change-requires : goal.change-requires
 change-requires c =
     was_live c.in_ok-listing.listing c.args.place c.uxtb.result c.in-Some.changed c.in_ok-sets.sets
     (found_gave_way c.in_ok-listing.listing c.args.place c.uxtb.result c.in_ok-changed.field-0 c.in-Some.changed c.in-Some.is c.in_ok-changed.ensures)
-    c.uxtb.ensures.letter c.in_ok-sets.ensures.live
+    c.uxtb.ensures.in_window c.in_ok-sets.ensures.live

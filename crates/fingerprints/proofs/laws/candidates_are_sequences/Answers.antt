@@ -2,4 +2,4 @@ use Rattle.fingerprints.proofs.PrintCandidates.{candidate_is_sequence, sequence_
 use Rattle.fingerprints.proofs.laws.candidates_are_sequences.Goals as goal
 
 pub returns : goal.returns
-returns c = λ mask longest print number states letters h. (candidate_is_sequence mask longest print number states letters h, sequence_is_candidate mask longest print number states letters h)
+returns c = λ mask longest print number states alphabet h. (candidate_is_sequence mask longest print number states alphabet h, sequence_is_candidate mask longest print number states alphabet h)

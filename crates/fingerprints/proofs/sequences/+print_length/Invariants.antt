@@ -8,11 +8,11 @@ use Rattle.fingerprints.proofs.sequences.+print_length.Given as goal
 abbrev pub decreases-print_length : goal.decreases-print_length
 decreases-print_length l = l.length
 
--- the letters that are left complete the prints of the length
-abbrev pub invariant-loop-letter : goal.invariant-loop-letter
-invariant-loop-letter l = record {
-  over : AreOver 4 (drop l.letter-index l.letters);
+-- the instructions that are left complete the prints of the length
+abbrev pub invariant-loop-instr : goal.invariant-loop-instr
+invariant-loop-instr l = record {
+  over : AreOver 4 (drop l.instr-index l.alphabet);
   some : 1 ≤ l.length;
-  printed : l.prints.items ++ prints_behind l.mask.items.bits (states_in l.columns) l.letters (l.length - 1) (drop l.letter-index l.letters)
-      ≡ l.fn.prints.items ++ prints_of l.mask.items.bits (states_in l.columns) l.letters l.length;
+  printed : l.prints.items ++ prints_behind l.mask.items.bits (states_in l.columns) l.alphabet (l.length - 1) (drop l.instr-index l.alphabet)
+      ≡ l.fn.prints.items ++ prints_of l.mask.items.bits (states_in l.columns) l.alphabet l.length;
 }

@@ -7,5 +7,5 @@ use Rattle.fingerprints.proofs.sequences.prints_within.Given as goal
 -- the lengths that are left complete the prints
 abbrev pub invariant-loop-length : goal.invariant-loop-length
 invariant-loop-length l =
-    l.prints.items ++ prints_between l.mask.items.bits (states_in l.columns) l.letters l.length (l.longest + 1 - l.length)
-    ≡ prints_within l.mask.items.bits (states_in l.columns) l.letters l.longest
+    l.prints.items ++ prints_between l.mask.items.bits (states_in l.columns) l.alphabet l.length (l.longest + 1 - l.length)
+    ≡ prints_within l.mask.items.bits (states_in l.columns) l.alphabet l.longest

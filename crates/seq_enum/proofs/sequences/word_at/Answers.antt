@@ -25,10 +25,10 @@ loop-turn-preserved c =
     let next : suc (c.args.count - (c.loop-turn._turn + 1)) ≡ c.args.count - c.loop-turn._turn = omega arith in
     record {
       front = λ w e.
-          let letter : slice_get (alphabet c.args.k c.args.pool.now) (c.loop-turn.left % c.args.size) ≡ Some c.in-Some.instr = sym c.instr_at.ensures ∙ c.in-Some.is in
+          let member : slice_get (alphabet c.args.k c.args.pool.now) (c.loop-turn.left % c.args.size) ≡ Some c.in-Some.instr = sym c.instr_at.ensures ∙ c.in-Some.is in
           let more : slice_get (words (alphabet c.args.k c.args.pool.now) (suc (c.args.count - (c.loop-turn._turn + 1)))) c.loop-turn.left ≡ Some (w ++ c.in-Some.instr ∷ []) =
           word_more (alphabet c.args.k c.args.pool.now) (c.args.count - (c.loop-turn._turn + 1)) c.loop-turn.left w c.in-Some.instr (omega arith)
-          (rw (← c.requires.size) e) (rw (← c.requires.size) letter) in
+          (rw (← c.requires.size) e) (rw (← c.requires.size) member) in
           c.loop-turn.invariant.front (w ++ c.in-Some.instr ∷ []) (rw (← next) more)
           ∙ ap Some (append_assoc w (c.in-Some.instr ∷ []) c.loop-turn.instrs.items ∙ ap (λ xs. w ++ xs) (sym c.insert.ensures.items));
       within = digit_left c.args.size (c.args.count - (c.loop-turn._turn + 1)) c.loop-turn.left some (rw next c.loop-turn.invariant.within);

@@ -6,6 +6,6 @@ use Rattle.seq_enum.proofs.walk.word_of.Given as goal
 
 abbrev pub invariant-loop-n : goal.invariant-loop-n
 invariant-loop-n l = record {
-  number : shorter l.letters l.n + l.left ≡ l.number;
-  rest : slice_get (flat_map (words l.letters) (drop l.n (numbers_from 0 6))) l.left ≡ slice_get (sequences_of l.letters) l.number;
+  number : shorter l.alphabet l.n + l.left ≡ l.number;
+  rest : slice_get (flat_map (words l.alphabet) (drop l.n (numbers_from 0 6))) l.left ≡ slice_get (sequences_of l.alphabet) l.number;
 }

@@ -21,13 +21,13 @@ push_longer-requires-clause-small c =
 
 pub loop-turn-preserved : goal.loop-turn-preserved
 loop-turn-preserved c =
-    let letters = alphabet c.args.k c.args.pool.now in
-    let of_letters : c.deref-in-loop-turn.result.now ≡ map (cost_in c.args.costs.now) letters =
-    c.deref-in-loop-turn.ensures.value ∙ c.in_ok-letters-2.ensures.value ∙ ap (map (cost_in c.args.costs.now)) (c.deref.ensures.value ∙ c.in_ok-letters.ensures.value) in
+    let instrs = alphabet c.args.k c.args.pool.now in
+    let as_costs : c.deref-in-loop-turn.result.now ≡ map (cost_in c.args.costs.now) instrs =
+    c.deref-in-loop-turn.ensures.value ∙ c.in_ok-instr_costs.ensures.value ∙ ap (map (cost_in c.args.costs.now)) (c.deref.ensures.value ∙ c.in_ok-alphabet.ensures.value) in
     record {
-      value = grown c.args.costs.now letters c.deref-in-loop-turn.result.now c.loop-turn._turn c.loop-turn.first c.loop-turn.weights.items c.push_longer.new.weights.items of_letters c.loop-turn.invariant.value
+      value = grown c.args.costs.now instrs c.deref-in-loop-turn.result.now c.loop-turn._turn c.loop-turn.first c.loop-turn.weights.items c.push_longer.new.weights.items as_costs c.loop-turn.invariant.value
           c.loop-turn.invariant.first c.in_ok-push_longer.ensures;
-      first = omega (arith, c.len-next.ensures, ap length c.loop-turn.invariant.value, length-map (up_to letters (c.loop-turn._turn + 1)) (weight_under (Some c.args.costs.now)));
+      first = omega (arith, c.len-next.ensures, ap length c.loop-turn.invariant.value, length-map (up_to instrs (c.loop-turn._turn + 1)) (weight_under (Some c.args.costs.now)));
     }
 
 pub returns-clause-small : goal.returns-clause-small

@@ -7,10 +7,10 @@ use Rattle.table_audit.specs.Naming.{first_of}
 use Rattle.table_audit.proofs.Settling.{is_for_own}
 use Rattle.table_audit.proofs.told.check_told.Goals as goal
 
-pub first_untold-untold-requires-clause-letters : goal.first_untold-untold-requires-clause-letters
-first_untold-untold-requires-clause-letters g c =
+pub first_untold-untold-requires-clause-alphabet : goal.first_untold-untold-requires-clause-alphabet
+first_untold-untold-requires-clause-alphabet g c =
     let now = c.in_ok-numbers.ensures.same c.alphabet_registers-k.result c.args.table.now.pool c.first_of-start.result c.in_ok-outcomes.ensures.taken in
-    now.letters ∙ ap (λ j. alphabet j c.args.table.now.pool) c.alphabet_registers-k.ensures.value
+    now.alphabet ∙ ap (λ j. alphabet j c.args.table.now.pool) c.alphabet_registers-k.ensures.value
 
 pub returns-in-None-clause-kept : goal.returns-in-None-clause-kept
 returns-in-None-clause-kept g c =

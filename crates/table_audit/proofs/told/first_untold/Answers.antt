@@ -18,12 +18,12 @@ use Rattle.rule_model.proofs.Table.{over_wider}
 
 pub unreachable-requires : goal.unreachable-requires
 unreachable-requires g c =
-    cover_there (table_of c.args.table.now) (rule_of c.args.entry.now) c.args.numbers.now c.loop-number.number-index c.loop-number-test.true c.requires.numbers c.args.outcomes.now.letters c.requires.letters c.sequence_at.result c.sequence_at.ensures c.in_default.is
+    cover_there (table_of c.args.table.now) (rule_of c.args.entry.now) c.args.numbers.now c.loop-number.number-index c.loop-number-test.true c.requires.numbers c.args.outcomes.now.alphabet c.requires.alphabet c.sequence_at.result c.sequence_at.ensures c.in_default.is
 
 pub is_untold-requires-clause-over : goal.is_untold-requires-clause-over
 is_untold-requires-clause-over g c =
     let k = alphabet_registers (header_in c.args.table.now) c.args.entry.now.left in
-    let at = cover_at (table_of c.args.table.now) (rule_of c.args.entry.now) c.args.numbers.now c.loop-number.number-index c.loop-number-test.true c.requires.numbers c.args.outcomes.now.letters c.requires.letters c.sequence_at.result c.sequence_at.ensures c.in-Some.seq c.in-Some.is in
+    let at = cover_at (table_of c.args.table.now) (rule_of c.args.entry.now) c.args.numbers.now c.loop-number.number-index c.loop-number-test.true c.requires.numbers c.args.outcomes.now.alphabet c.requires.alphabet c.sequence_at.result c.sequence_at.ensures c.in-Some.seq c.in-Some.is in
     over_wider k 4 c.in-Some.seq (omega arith) (numbered_over k c.args.table.now.pool _ c.in-Some.seq (omega arith) at.0)
 
 pub loop-number-preserved : goal.loop-number-preserved
@@ -34,7 +34,7 @@ loop-number-preserved g c =
     let numbers = c.args.numbers.now in
     let low : i < length numbers = c.loop-number-test.true in
     let seq = c.in-Some.seq in
-    let at = cover_at t e numbers i low c.requires.numbers c.args.outcomes.now.letters c.requires.letters c.sequence_at.result c.sequence_at.ensures seq c.in-Some.is in
+    let at = cover_at t e numbers i low c.requires.numbers c.args.outcomes.now.alphabet c.requires.alphabet c.sequence_at.result c.sequence_at.ensures seq c.in-Some.is in
     let weight : c.weight-weight.result ≡ weight_in t.header seq = c.weight-weight.ensures.value in
     let before = c.loop-number.invariant.settled in
     let stands = slice_get-get_or numbers i 0 low in

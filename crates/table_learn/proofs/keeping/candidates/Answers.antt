@@ -28,7 +28,7 @@ returns-in_err-found-clause-cost g c =
     let e = c.in_ok-outcomes.outcomes in
     let taken = c.in_ok-outcomes.ensures.taken in
     let n : ℕ = c.longest_below-longest.result + 1 in
-    let seqs = table_below (settings_of c.args.settings.now) (window_in w) w.k n e.letters c.requires.counted taken.letters in
+    let seqs = table_below (settings_of c.args.settings.now) (window_in w) w.k n e.alphabet c.requires.counted taken.alphabet in
     let short : n ≤ lengths_below c.args.settings.now.costs (length w.left) = (let l = longest_short c.args.settings.now.costs w.left c.requires.window.canonical.renamable.some in let is = c.longest_below-longest.ensures in omega (arith, l, is)) in
     let within = table_within (settings_of c.args.settings.now) (window_in w) n c.requires.window short in
     omega (arith, c.candidates.ensures.most, few_added e c.longest_below-longest.result, ap length seqs, within)
@@ -39,7 +39,7 @@ returns-in_err-numbers-clause-cost g c =
     let e = c.in_ok-outcomes.outcomes in
     let taken = c.in_ok-outcomes.ensures.taken in
     let n : ℕ = c.longest_below-longest.result + 1 in
-    let seqs = table_below (settings_of c.args.settings.now) (window_in w) w.k n e.letters c.requires.counted taken.letters in
+    let seqs = table_below (settings_of c.args.settings.now) (window_in w) w.k n e.alphabet c.requires.counted taken.alphabet in
     let short : n ≤ lengths_below c.args.settings.now.costs (length w.left) = (let l = longest_short c.args.settings.now.costs w.left c.requires.window.canonical.renamable.some in let is = c.longest_below-longest.ensures in omega (arith, l, is)) in
     let within = table_within (settings_of c.args.settings.now) (window_in w) n c.requires.window short in
     omega (arith, c.candidates.ensures.most, few_added e c.longest_below-longest.result, ap length seqs, within)
@@ -64,8 +64,8 @@ in_order-requires g c =
     let w = window_in c.args.window.now in
     let e = c.in_ok-outcomes.outcomes in
     let trial : Trial = record { start = get_or c.args.states.now 0 zeros; end = c.run_seq.result } in
-    all_there s w (table.sequences_below e.letters (c.longest_below-longest.result + 1)) c.candidates.new.outcomes.letters trial c.in_ok-found.found.items
-    (are_left s w c.args.window.now.k c.longest_below-longest.result e c.candidates.new.outcomes trial c.in_ok-found.found.items c.requires.window c.hold.ensures.costs c.requires.short c.requires.counted c.in_ok-outcomes.ensures.taken.letters c.longest_below-longest.ensures c.in_ok-found.ensures.grown c.in_ok-found.ensures.candidates)
+    all_there s w (table.sequences_below e.alphabet (c.longest_below-longest.result + 1)) c.candidates.new.outcomes.alphabet trial c.in_ok-found.found.items
+    (are_left s w c.args.window.now.k c.longest_below-longest.result e c.candidates.new.outcomes trial c.in_ok-found.found.items c.requires.window c.hold.ensures.costs c.requires.short c.requires.counted c.in_ok-outcomes.ensures.taken.alphabet c.longest_below-longest.ensures c.in_ok-found.ensures.grown c.in_ok-found.ensures.candidates)
 
 pub returns-clause-candidates : goal.returns-clause-candidates
 returns-clause-candidates g c =
@@ -74,8 +74,8 @@ returns-clause-candidates g c =
     let e = c.in_ok-outcomes.outcomes in
     let here : WState = get_or c.args.states.now 0 zeros in
     let trial : Trial = record { start = here; end = c.run_seq.result } in
-    let left = are_left s w c.args.window.now.k c.longest_below-longest.result e c.candidates.new.outcomes trial c.in_ok-found.found.items c.requires.window c.hold.ensures.costs c.requires.short c.requires.counted c.in_ok-outcomes.ensures.taken.letters c.longest_below-longest.ensures c.in_ok-found.ensures.grown c.in_ok-found.ensures.candidates in
-    candidates_are s c.args.states.now w (table.sequences_below e.letters (c.longest_below-longest.result + 1)) c.candidates.new.outcomes.letters here trial c.in_ok-found.found.items c.in_ok-numbers.numbers.items c.args.window.now.mask.in_masks left
+    let left = are_left s w c.args.window.now.k c.longest_below-longest.result e c.candidates.new.outcomes trial c.in_ok-found.found.items c.requires.window c.hold.ensures.costs c.requires.short c.requires.counted c.in_ok-outcomes.ensures.taken.alphabet c.longest_below-longest.ensures c.in_ok-found.ensures.grown c.in_ok-found.ensures.candidates in
+    candidates_are s c.args.states.now w (table.sequences_below e.alphabet (c.longest_below-longest.result + 1)) c.candidates.new.outcomes.alphabet here trial c.in_ok-found.found.items c.in_ok-numbers.numbers.items c.args.window.now.mask.in_masks left
     (first_seen c.args.states.now zeros c.requires.states) refl c.run_seq.ensures.values c.in_ok-numbers.ensures
 
 pub returns-clause-cost : goal.returns-clause-cost
@@ -84,7 +84,7 @@ returns-clause-cost g c =
     let e = c.in_ok-outcomes.outcomes in
     let taken = c.in_ok-outcomes.ensures.taken in
     let n : ℕ = c.longest_below-longest.result + 1 in
-    let seqs = table_below (settings_of c.args.settings.now) (window_in w) w.k n e.letters c.requires.counted taken.letters in
+    let seqs = table_below (settings_of c.args.settings.now) (window_in w) w.k n e.alphabet c.requires.counted taken.alphabet in
     let short : n ≤ lengths_below c.args.settings.now.costs (length w.left) = (let l = longest_short c.args.settings.now.costs w.left c.requires.window.canonical.renamable.some in let is = c.longest_below-longest.ensures in omega (arith, l, is)) in
     let within = table_within (settings_of c.args.settings.now) (window_in w) n c.requires.window short in
     omega (arith, c.candidates.ensures.most, few_added e c.longest_below-longest.result, ap length seqs, within)

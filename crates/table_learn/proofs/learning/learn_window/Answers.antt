@@ -12,7 +12,7 @@ use Rattle.table_learn.specs.Lengths.{lines_length}
 use Rattle.table_learn.specs.Searching.{AreCandidates}
 use Rattle.table_learn.specs.Keeping.{AreKept, IsOfFirst}
 use Rattle.table_learn.proofs.Below.{narrow_lengths}
-use Rattle.table_learn.proofs.Rounds.{side_over, grown_length, all_sided, after_window, kept_later, table_letters, put_back, window_cost}
+use Rattle.table_learn.proofs.Rounds.{side_over, grown_length, all_sided, after_window, kept_later, table_alphabet, put_back, window_cost}
 use Rattle.table_learn.proofs.learning.learn_window.Goals as goal
 
 pub candidates-requires-clause-left : goal.candidates-requires-clause-left
@@ -28,12 +28,12 @@ candidates-requires-clause-states g c =
     let listed = ap (λ (ss : List WState). length ss) c.deref.ensures.value in
     omega (arith, known, many, listed)
 
-pub search-requires-clause-letters : goal.search-requires-clause-letters
-search-requires-clause-letters g c =
+pub search-requires-clause-alphabet : goal.search-requires-clause-alphabet
+search-requires-clause-alphabet g c =
     let known = c.requires.before.1.progress.long in
     let many = length-map c.args.learner.states.items seen in
     let of_first : IsOfFirst c.args.window.k c.args.settings.now.pool (map seen c.args.learner.states.items) c.in_ok-list.list.outcomes = subst (λ (ss : List WState). IsOfFirst c.args.window.k c.args.settings.now.pool (map seen ss) c.in_ok-list.list.outcomes) c.deref.ensures.value c.in_ok-list.ensures.outcomes in
-    table_letters c.args.window.k c.args.settings.now.pool c.args.learner.states.items c.in_ok-list.list.outcomes (omega (arith, known, many)) of_first
+    table_alphabet c.args.window.k c.args.settings.now.pool c.args.learner.states.items c.in_ok-list.list.outcomes (omega (arith, known, many)) of_first
 
 pub behind-found-requires : goal.behind-found-requires
 behind-found-requires g c =

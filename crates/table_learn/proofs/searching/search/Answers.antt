@@ -16,9 +16,9 @@ use Rattle.table_learn.proofs.Searched.{search_next, right_found, none_found}
 use Rattle.table_learn.proofs.Steps.{search_begins}
 use Rattle.table_learn.proofs.searching.search.Goals as goal
 
--- the letters are those of the window's registers
-letters_of : (s : Settings) (w : Window) (k : ℕ) (letters : List Instr) → k ≡ alphabet_registers s w.seq → letters ≡ alphabet k s.pool → letters ≡ alphabet (alphabet_registers s w.seq) s.pool
-letters_of s w k letters named is = is ∙ ap (λ j. alphabet j s.pool) named
+-- the alphabet is that of the window's registers
+alphabet_of : (s : Settings) (w : Window) (k : ℕ) (instrs : List Instr) → k ≡ alphabet_registers s w.seq → instrs ≡ alphabet k s.pool → instrs ≡ alphabet (alphabet_registers s w.seq) s.pool
+alphabet_of s w k instrs named is = is ∙ ap (λ j. alphabet j s.pool) named
 
 none_there : {X : Type 0} (o : Option X) (x : X) → o ≡ Some x → o ≡ None → ⊥
 none_there o x some none = let e : Some x ≡ None = sym some ∙ none in cc
@@ -37,18 +37,18 @@ pub unreachable-requires : goal.unreachable-requires
 unreachable-requires g c =
     let s = settings_of c.args.settings.now in
     let w = window_in c.args.window in
-    let letters = letters_of s w c.args.window.k c.args.list.now.outcomes.letters c.requires.counted c.requires.letters in
+    let instrs = alphabet_of s w c.args.window.k c.args.list.now.outcomes.alphabet c.requires.counted c.requires.alphabet in
     let candidate = candidate_at s (map seen c.args.states.now.items) w c.args.list.now.numbers.items c.deref-number-items.result.now c.loop-number.number-index c.requires.candidates c.deref-number-items.ensures.value c.loop-number-test.true in
-    let there : c.sequence_at.result ≡ Some candidate.0 = c.sequence_at.ensures ∙ ap (λ ls. slice_get (sequences_of ls) (get_or c.deref-number-items.result.now c.loop-number.number-index 0)) letters ∙ candidate.1.at in
+    let there : c.sequence_at.result ≡ Some candidate.0 = c.sequence_at.ensures ∙ ap (λ ls. slice_get (sequences_of ls) (get_or c.deref-number-items.result.now c.loop-number.number-index 0)) instrs ∙ candidate.1.at in
     none_there c.sequence_at.result candidate.0 there c.in_default.is
 
 pub try_candidate-requires-clause-candidate : goal.try_candidate-requires-clause-candidate
 try_candidate-requires-clause-candidate g c =
     let s = settings_of c.args.settings.now in
     let w = window_in c.args.window in
-    let letters = letters_of s w c.args.window.k c.args.list.now.outcomes.letters c.requires.counted c.requires.letters in
+    let instrs = alphabet_of s w c.args.window.k c.args.list.now.outcomes.alphabet c.requires.counted c.requires.alphabet in
     let candidate = candidate_at s (map seen c.args.states.now.items) w c.args.list.now.numbers.items c.deref-number-items.result.now c.loop-number.number-index c.requires.candidates c.deref-number-items.ensures.value c.loop-number-test.true in
-    let there : c.sequence_at.result ≡ Some candidate.0 = c.sequence_at.ensures ∙ ap (λ ls. slice_get (sequences_of ls) (get_or c.deref-number-items.result.now c.loop-number.number-index 0)) letters ∙ candidate.1.at in
+    let there : c.sequence_at.result ≡ Some candidate.0 = c.sequence_at.ensures ∙ ap (λ ls. slice_get (sequences_of ls) (get_or c.deref-number-items.result.now c.loop-number.number-index 0)) instrs ∙ candidate.1.at in
     let same : candidate.0 ≡ c.in-Some.seq = same_Some candidate.0 c.in-Some.seq (sym there ∙ c.in-Some.is) in
     subst (λ z. IsBelow s w.seq w.seq (get_or c.deref-number-items.result.now c.loop-number.number-index 0) z) same candidate.1
 

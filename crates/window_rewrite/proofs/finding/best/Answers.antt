@@ -12,7 +12,7 @@ loop-count-init g c = record {
   within = c.requires.within;
   none =
       none_reached _ c.args.look.now.rules.now.costs.now c.args.look.now.rules.now.base c.args.look.now.rules.now.longest (table_in c.args.look.now.rules.now) (lines_seen c.args.look.now) (number_seen c.args.look.now) c.args.reached
-      c.args.look.now.site.now.run.letters c.args.look.now.site.now.run.letters c.requires.look.ready.fit c.requires.look.site.letters refl c.requires.none;
+      c.args.look.now.site.now.run.instrs c.args.look.now.site.now.run.instrs c.requires.look.ready.fit c.requires.look.site.instrs refl c.requires.none;
   stays = λ e. e;
   rises = at_least-stays c.args.steps.now;
   cost = omega arith;
@@ -20,8 +20,8 @@ loop-count-init g c = record {
 
 pub lowest-requires-clause-stands : goal.lowest-requires-clause-stands
 lowest-requires-clause-stands g c =
-    front_stands (lines_seen c.args.look.now) (number_seen c.args.look.now) c.args.look.now.rules.now.longest c.loop-count.count c.live_after-live.result.bits c.args.look.now.site.now.run.letters c.as_slice-run.result.now
-    c.requires.look.site.letters c.as_slice-run.ensures.value c.loop-count-test.true c.loop-count.invariant.within c.live_after-live.ensures
+    front_stands (lines_seen c.args.look.now) (number_seen c.args.look.now) c.args.look.now.rules.now.longest c.loop-count.count c.live_after-live.result.bits c.args.look.now.site.now.run.instrs c.as_slice-run.result.now
+    c.requires.look.site.instrs c.as_slice-run.ensures.value c.loop-count-test.true c.loop-count.invariant.within c.live_after-live.ensures
 
 pub returns-in_err-choice-clause-cost : goal.returns-in_err-choice-clause-cost
 returns-in_err-choice-clause-cost g c =

@@ -7,7 +7,7 @@ use Rattle.window_rewrite.proofs.finding.best.Given as goal
 
 abbrev pub invariant-loop-count : goal.invariant-loop-count
 invariant-loop-count g l = record {
-  within : l.count ≤ length l.look.site.now.run.letters;
+  within : l.count ≤ length l.look.site.now.run.instrs;
   none : NoneLonger l.refused (setting_of l.look.rules.now) (lines_seen l.look) (number_seen l.look) l.count;
   stays : l.initial.refused ≡ true → l.refused ≡ true;
   rises : RisesByAtLeast l.initial.steps l.steps 0;

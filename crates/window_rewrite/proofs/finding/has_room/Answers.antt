@@ -14,7 +14,7 @@ pub lines_after-after-requires-clause-window : goal.lines_after-after-requires-c
 lines_after-after-requires-clause-window c = λ k h.
     let look = c.args.look.now in
     let site = look.site.now in
-    let there = run_stands (lines_seen look) look.rules.now.longest site.number k site.run.letters c.requires.look.site.letters (omega (arith, h, c.requires.within)) in
+    let there = run_stands (lines_seen look) look.rules.now.longest site.number k site.run.instrs c.requires.look.site.instrs (omega (arith, h, c.requires.within)) in
     ap (λ p. is_op_place (slice_get (places_of (lines_seen look)) (p + k))) (sym c.requires.look.site.number) ∙ ap is_op_place there.stands
 
 pub lines_after-after-requires-clause-unlabelled : goal.lines_after-after-requires-clause-unlabelled
@@ -36,7 +36,7 @@ pub overflow_cast-window : goal.overflow_cast-window
 overflow_cast-window c =
     let look = c.args.look.now in
     let short = run_short true look.rules.now.longest (drop look.site.now.number (rows_from false (lines_seen look))) in
-    let letters = ap (λ (is : List Instr). length is) c.requires.look.site.letters in
+    let as_many = ap (λ (is : List Instr). length is) c.requires.look.site.instrs in
     let few = c.requires.look.ready.few in
     let within = c.requires.within in
     omega arith

@@ -11,7 +11,7 @@ returns-then-not-may_stand-clause-none g c =
     none_in _ c.args.look.now.rules.now.costs.now c.args.look.now.rules.now.base c.args.look.now.rules.now.longest (table_in c.args.look.now.rules.now) (lines_seen c.args.look.now) (number_seen c.args.look.now) c.args.window.now c.requires.look.ready.fit c.requires.stands.is_window (c.may_stand.ensures c.if-not-may_stand.true)
 
 pub of-requires : goal.of-requires
-of-requires g c = c.requires.stands.is_window.letters
+of-requires g c = c.requires.stands.is_window.in_window
 
 pub returns-in-None-clause-none : goal.returns-in-None-clause-none
 returns-in-None-clause-none g c = none_formed _ c.args.look.now.rules.now.costs.now c.args.look.now.rules.now.base c.args.look.now.rules.now.longest (table_in c.args.look.now.rules.now) (lines_seen c.args.look.now) (number_seen c.args.look.now) c.args.window.now c.requires.look.ready.fit c.requires.stands.is_window c.in-None.ensures.none

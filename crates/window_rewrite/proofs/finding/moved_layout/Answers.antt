@@ -26,7 +26,7 @@ returns-then-new-window-clause-allowed c = (
   λ _. record {
     few = c.has_room.ensures.0 c.if-not-has_room.false;
     layable = λ f. unmoved_layable c.args.look.now.scene.now.layout c.args.look.now.rules.now.base (lines_seen c.args.look.now) (number_seen c.args.look.now) c.args.window.now c.args.new.now
-        f c.requires.look.over.over.layout c.requires.look.near c.requires.window c.requires.some c.if-new-window.true c.requires.letters;
+        f c.requires.look.over.over.layout c.requires.look.near c.requires.window c.requires.some c.if-new-window.true c.requires.in_window;
   },
   λ _. refl,
 )

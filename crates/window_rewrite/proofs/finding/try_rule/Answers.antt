@@ -18,7 +18,7 @@ use Rattle.window_rewrite.specs.TableRewriting.{map_of, registers_of, setting_by
 use Rattle.window_rewrite.specs.Rules.{entry_rule, with_open}
 use Rattle.window_rewrite.specs.Scenes.{lines_left, lines_seen, number_seen, MayBeLeft}
 use Rattle.window_rewrite.proofs.Maps.{map_registers}
-use Rattle.window_rewrite.proofs.Applied.{applied, laid, letters_all, used_lighter, IsLeft, IsMade}
+use Rattle.window_rewrite.proofs.Applied.{all_in_window, applied, laid, used_lighter, IsLeft, IsMade}
 use Rattle.window_rewrite.proofs.Alike.{left_under, settled_under}
 use Rattle.window_rewrite.proofs.Opened.{fitted_by, laid_by, sound_open, whole_open}
 use Rattle.window_rewrite.specs.declared.choice.Choice.{Choice}
@@ -61,13 +61,13 @@ returns-then-not-is_settled-clause-none g c = λ table numbers o used here m.
     let never : true ≡ false = sym settled ∙ c.if-not-is_settled.true in
     absurd (true≢false never)
 
-pub moved_layout-requires-clause-letters : goal.moved_layout-requires-clause-letters
-moved_layout-requires-clause-letters g c =
+pub moved_layout-requires-clause-in_window : goal.moved_layout-requires-clause-in_window
+moved_layout-requires-clause-in_window g c =
     let rule : Rule = entry_rule c.args.rule.now in
     let registers : List Low = c.in-Some.registers.items in
     let new : c.renamed_all-new.result ≡ map (renamed registers) rule.right =
     c.renamed_all-new.ensures ∙ ap (λ (rs : List Low). map (renamed rs) c.as_slice.result.now) c.deref.ensures.0 ∙ ap (map (renamed registers)) c.as_slice.ensures.value in
-    subst (λ (is : List Instr). list_all is_in_window is ≡ true) (sym (c.as_slice-3.ensures.value ∙ new)) (letters_all (rule_registers rule) registers rule.right c.requires.fit.sound.right)
+    subst (λ (is : List Instr). list_all is_in_window is ≡ true) (sym (c.as_slice-3.ensures.value ∙ new)) (all_in_window (rule_registers rule) registers rule.right c.requires.fit.sound.right)
 
 pub moved_layout-requires-clause-some : goal.moved_layout-requires-clause-some
 moved_layout-requires-clause-some g c =

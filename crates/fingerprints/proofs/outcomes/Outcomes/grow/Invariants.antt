@@ -8,7 +8,7 @@ use Rattle.fingerprints.proofs.outcomes.Outcomes.grow.Given as goal
 -- so long are the sequences by now
 abbrev pub invariant-loop-length : goal.invariant-loop-length
 invariant-loop-length g l = record {
-  grown : IsGrown l.self-inside.k l.self-inside.letters.items l.self-inside.start l._length l.first l.columns;
-  room : HaveRoom l.self-inside.k (length (sequences_below l.self-inside.letters.items (l.longest + 1)) - length (sequences_below l.self-inside.letters.items (l._length + 1))) l.columns;
-  count : RisesBy l.initial.steps l.steps (length (sequences_below l.self-inside.letters.items (l._length + 1)) - length (sequences_below l.self-inside.letters.items (l.self-inside.longest + 1)));
+  grown : IsGrown l.self-inside.k l.self-inside.alphabet.items l.self-inside.start l._length l.first l.columns;
+  room : HaveRoom l.self-inside.k (length (sequences_below l.self-inside.alphabet.items (l.longest + 1)) - length (sequences_below l.self-inside.alphabet.items (l._length + 1))) l.columns;
+  count : RisesBy l.initial.steps l.steps (length (sequences_below l.self-inside.alphabet.items (l._length + 1)) - length (sequences_below l.self-inside.alphabet.items (l.self-inside.longest + 1)));
 }

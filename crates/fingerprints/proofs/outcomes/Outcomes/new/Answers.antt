@@ -6,5 +6,5 @@ pub invariant_of-result : goal.invariant_of-result
 invariant_of-result c =
     let four : length c.args.start.r ≡ 4 = search rules in
     let none = c.in_ok-columns.ensures in
-    begun c.args.k c.args.pool.now c.in_ok-letters.letters.items c.args.start c.in_ok-columns.columns c.push.new.self c.requires.some c.requires.few c.in_ok-letters.ensures.value c.in_ok-letters.ensures.some c.in_ok-letters.ensures.few four
+    begun c.args.k c.args.pool.now c.in_ok-alphabet.alphabet.items c.args.start c.in_ok-columns.columns c.push.new.self c.requires.some c.requires.few c.in_ok-alphabet.ensures.value c.in_ok-alphabet.ensures.some c.in_ok-alphabet.ensures.few four
     none.r0 none.r1 none.r2 none.r3 none.flags c.push.ensures.after

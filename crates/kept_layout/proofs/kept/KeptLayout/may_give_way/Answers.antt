@@ -19,12 +19,12 @@ use Rattle.kept_layout.proofs.kept.KeptLayout.may_give_way.Goals as goal
 pub bytes_gone-bytes-requires-clause-few : goal.bytes_gone-bytes-requires-clause-few
 bytes_gone-bytes-requires-clause-few c =
     let r = c.requires in
-    bytes_few _ _ _ _ _ (gives_way r.stands r.some r.fewer r.letters)
+    bytes_few _ _ _ _ _ (gives_way r.stands r.some r.fewer r.in_window)
 
 pub move_within_reach-requires-clause-few : goal.move_within_reach-requires-clause-few
 move_within_reach-requires-clause-few c = λ s e.
     let r = c.requires in
-    subst (λ n. n ≤ s.bytes) (sym c.bytes_gone-bytes.ensures) (bytes_within _ _ _ _ _ s e (gives_way r.stands r.some r.fewer r.letters))
+    subst (λ n. n ≤ s.bytes) (sym c.bytes_gone-bytes.ensures) (bytes_within _ _ _ _ _ s e (gives_way r.stands r.some r.fewer r.in_window))
 
 -- what is told of a block that shrinks, told of lines
 told : (k : KeptLayout) (lines : List ListingLine) (place : ℕ) (window new : List Instr) (bytes : ℕ) (b : Bool) → GivesWay k lines place window new → bytes ≡ 2 * (length window - length new)
@@ -39,12 +39,12 @@ told k lines place window new bytes b g e h =
 told_all : (k : KeptLayout) (window new : List Instr) (bytes : ℕ) (b : Bool) → 0 < length window → length new ≤ length window → list_all is_in_window new ≡ true → bytes ≡ 2 * (length window - length new)
     → ((gone : ℕ) → (b ≡ true) ↔ AllReach k.base (lessen k.here bytes gone (footprints_of k.blocks.items)))
     → (lines : List ListingLine) (place : ℕ) → Lays k lines → IsNear k place → IsWindow lines place window → (b ≡ true) ↔ Layable k.base (replaced_lines own_line place (length window) new lines)
-told_all k window new bytes b some fewer letters e h lines place lays near is_window = told k lines place window new bytes b (gives lays near is_window some fewer letters) e h
+told_all k window new bytes b some fewer in_window e h lines place lays near is_window = told k lines place window new bytes b (gives lays near is_window some fewer in_window) e h
 
 pub returns-clause-layable : goal.returns-clause-layable
 returns-clause-layable c =
     let r = c.requires in
-    IfOk-weaker _ _ _ (λ o h. told_all c.args.self.now c.args.window.now c.args.new.now c.bytes_gone-bytes.result (is_some o) r.some r.fewer r.letters c.bytes_gone-bytes.ensures h) c.move_within_reach.ensures.reach
+    IfOk-weaker _ _ _ (λ o h. told_all c.args.self.now c.args.window.now c.args.new.now c.bytes_gone-bytes.result (is_some o) r.some r.fewer r.in_window c.bytes_gone-bytes.ensures h) c.move_within_reach.ensures.reach
 
 pub move_within_reach-requires-clause-wide : goal.move_within_reach-requires-clause-wide
 move_within_reach-requires-clause-wide c = cut_wide _ _ c.requires.stands.lays.cut

@@ -15,7 +15,7 @@ returns-in-None-clause-value c =
     (slice_get_read c.args.instrs.now (length c.args.instrs.now) c.loop-instr.instr-index c.instr-item.result refl c.loop-instr-test.true c.instr-item.is)
     c.in-None.ensures.value
 
--- a letter's place is below the number of letters
+-- an instruction's place is below the number of instructions
 pub overflow_mul-place : goal.overflow_mul-place
 overflow_mul-place c =
     let digit : c.in-Some.digit < length (alphabet c.args.self.now.registers c.args.self.now.pool.now) =

@@ -18,11 +18,11 @@ overflow_add-self-2 c = Fits-of_lt (stands_small _ _ _ _ c.requires).0
 pub overflow_add-self-in-Some : goal.overflow_add-self-in-Some
 overflow_add-self-in-Some c = Fits-of_lt (stands_small _ _ _ _ c.requires).0
 
-pub returns-then-next-letters-clause-stands : goal.returns-then-next-letters-clause-stands
-returns-then-next-letters-clause-stands c =
+pub returns-then-next-alphabet-clause-stands : goal.returns-then-next-alphabet-clause-stands
+returns-then-next-alphabet-clause-stands c =
     let w = c.args.self.now in
-    let low : w.last + 1 < length w.letters.now = c.if-next-letters.true in
+    let low : w.last + 1 < length w.alphabet.now = c.if-next-alphabet.true in
     rw (c.push.ensures.items, c.truncate.ensures.items, c.len-count.ensures.value)
-    (next_stands w.letters.now w.instrs.items w.number w.last c.index-letters-next.result c.requires
+    (next_stands w.alphabet.now w.instrs.items w.number w.last c.index-alphabet-next.result c.requires
     (omega (arith, c.if-count-gt0.true, c.len-count.ensures.value)) low
-    (slice_get_read w.letters.now (length w.letters.now) (w.last + 1) c.index-letters-next.result refl low c.index-letters-next.is))
+    (slice_get_read w.alphabet.now (length w.alphabet.now) (w.last + 1) c.index-alphabet-next.result refl low c.index-alphabet-next.is))

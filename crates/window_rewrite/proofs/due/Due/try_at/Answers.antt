@@ -24,27 +24,27 @@ returns-then-not-may_begin-clause-tried g c =
     let rows : List WindowPlace = drop at (rows_from false (lines_of c.args.scene.now)) in
     tried_idle (setting_of c.args.rules.now) c.args.scene.now c.args.scene.now c.args.self.now c.args.place c.requires.tried refl
     (none_there false c.args.rules.now.costs.now c.args.rules.now.base c.args.rules.now.longest table (lines_of c.args.scene.now) at (run true c.args.rules.now.longest rows) (run true c.args.rules.now.longest rows)
-    c.requires.ready.fit refl refl (c.may_begin.ensures c.if-not-may_begin.true rows c.first_letter.ensures c.args.rules.now.longest))
+    c.requires.ready.fit refl refl (c.may_begin.ensures c.if-not-may_begin.true rows c.first_instr.ensures c.args.rules.now.longest))
 
 pub returns-then-reached-eq0-clause-tried : goal.returns-then-reached-eq0-clause-tried
 returns-then-reached-eq0-clause-tried g c =
     let e = c.run-run.ensures in
     let table : List (List Rule) = table_in c.args.rules.now in
     let none : NoneAt false (setting_of c.args.rules.now) (lines_of c.run-run.new.self) (rank (marks c.run-run.new.self.listing) c.args.place) =
-    none_there false c.args.rules.now.costs.now c.args.rules.now.base c.args.rules.now.longest table (lines_of c.run-run.new.self) (rank (marks c.run-run.new.self.listing) c.args.place) c.run-run.result.letters c.as_slice.result.now
-    c.requires.ready.fit e.run.letters c.as_slice.ensures.value
+    none_there false c.args.rules.now.costs.now c.args.rules.now.base c.args.rules.now.longest table (lines_of c.run-run.new.self) (rank (marks c.run-run.new.self.listing) c.args.place) c.run-run.result.instrs c.as_slice.result.now
+    c.requires.ready.fit e.run.instrs c.as_slice.ensures.value
     (subst (λ (count : ℕ). NoneReaches c.args.rules.now.costs.now table c.as_slice.result.now count) c.if-reached-eq0.true c.reach-reached.ensures.none) in
     tried_idle (setting_of c.args.rules.now) c.args.scene.now c.run-run.new.self c.args.self.now c.args.place c.requires.tried e.listing
     (subst (λ (l : Edited). NoneAt false (setting_of c.args.rules.now) (lines_now l) (rank (marks l) c.args.place)) e.listing none)
 
 pub try_site-requires-clause-none : goal.try_site-requires-clause-none
 try_site-requires-clause-none g c =
-    let same : c.as_slice.result.now ≡ c.site-site.result.run.letters = c.as_slice.ensures.value ∙ sym (ap (λ r. r.letters) c.site-site.ensures.run) in
+    let same : c.as_slice.result.now ≡ c.site-site.result.run.instrs = c.as_slice.ensures.value ∙ sym (ap (λ r. r.instrs) c.site-site.ensures.run) in
     subst (λ (is : List Instr). NoneReaches c.args.rules.now.costs.now (table_in c.args.rules.now) is c.reach-reached.result) same c.reach-reached.ensures.none
 
 pub try_site-requires-clause-reached : goal.try_site-requires-clause-reached
 try_site-requires-clause-reached g c =
-    let same : c.as_slice.result.now ≡ c.site-site.result.run.letters = c.as_slice.ensures.value ∙ sym (ap (λ r. r.letters) c.site-site.ensures.run) in
+    let same : c.as_slice.result.now ≡ c.site-site.result.run.instrs = c.as_slice.ensures.value ∙ sym (ap (λ r. r.instrs) c.site-site.ensures.run) in
     omega (arith, c.reach-reached.ensures.within, ap (λ (is : List Instr). length is) same)
 
 pub try_site-requires-clause-tried : goal.try_site-requires-clause-tried

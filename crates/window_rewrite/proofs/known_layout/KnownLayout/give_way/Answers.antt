@@ -24,7 +24,7 @@ returns-in_ok-give_way-clause-layout c = λ base lines place has near window.
 
 pub returns-then-new-window-clause-layout : goal.returns-then-new-window-clause-layout
 returns-then-new-window-clause-layout c = λ base lines place has near window.
-    unmoved c.args.self.now base lines place c.args.window.now c.args.new.now has near window c.requires.some c.if-new-window.true c.requires.letters
+    unmoved c.args.self.now base lines place c.args.window.now c.args.new.now has near window c.requires.some c.if-new-window.true c.requires.in_window
 
 pub give_way-requires-clause-moved : goal.give_way-requires-clause-moved
 give_way-requires-clause-moved c =

@@ -9,11 +9,11 @@ pub returns-then-count-len : goal.returns-then-count-len
 returns-then-count-len c =
     let site = c.args.site.now in
     let within = c.len.ensures.value in
-    (λ _. settled_before (lines_now c.args.self.now.listing) c.args.rules.now.longest site.number c.args.count site.run.letters c.args.new.now c.requires.site.letters (omega (arith, c.if-count-len.true, within)), λ _. refl)
+    (λ _. settled_before (lines_now c.args.self.now.listing) c.args.rules.now.longest site.number c.args.count site.run.instrs c.args.new.now c.requires.site.instrs (omega (arith, c.if-count-len.true, within)), λ _. refl)
 
 pub returns : goal.returns
 returns c =
     let site = c.args.site.now in
     let within = c.len.ensures.value in
-    settled_whole site.may_vanish (places_of (lines_now c.args.self.now.listing)) (labels_from 0 (lines_now c.args.self.now.listing)) site.number c.args.count (length site.run.letters) c.args.new.now c.requires.site.vanishes
+    settled_whole site.may_vanish (places_of (lines_now c.args.self.now.listing)) (labels_from 0 (lines_now c.args.self.now.listing)) site.number c.args.count (length site.run.instrs) c.args.new.now c.requires.site.vanishes
     (omega (arith, c.requires.few, c.if-count-len.false, within)) (eqb-true (length c.args.new.now) 0 (sym c.is_empty.ensures ∙ c.if-not-is_empty.false))

@@ -18,7 +18,7 @@ pub returns-then-last-end : goal.returns-then-last-end
 returns-then-last-end c = λ x.
     let site = c.args.site.now in
     let e = c.args.self.now.listing in
-    let a = live_there e c.args.rules.now.longest site.number c.args.count site.run.letters site.run.places.items c.deref.result.now c.requires.kept.is_padded c.requires.site.letters c.requires.site.places c.requires.site.as_many c.deref.ensures.0 c.requires.some c.requires.few x in
+    let a = live_there e c.args.rules.now.longest site.number c.args.count site.run.instrs site.run.places.items c.deref.result.now c.requires.kept.is_padded c.requires.site.instrs c.requires.site.places c.requires.site.as_many c.deref.ensures.0 c.requires.some c.requires.few x in
     let b = c.before-then-last-end.ensures.live (padded e) c.requires.kept.live x in
     (λ h. a.1 (b.0 h), λ l. b.1 (a.0 l))
 
@@ -26,7 +26,7 @@ pub returns-else-last-end : goal.returns-else-last-end
 returns-else-last-end c = λ x.
     let site = c.args.site.now in
     let e = c.args.self.now.listing in
-    let a = live_there e c.args.rules.now.longest site.number c.args.count site.run.letters site.run.places.items c.deref.result.now c.requires.kept.is_padded c.requires.site.letters c.requires.site.places c.requires.site.as_many c.deref.ensures.0 c.requires.some c.requires.few x in
+    let a = live_there e c.args.rules.now.longest site.number c.args.count site.run.instrs site.run.places.items c.deref.result.now c.requires.kept.is_padded c.requires.site.instrs c.requires.site.places c.requires.site.as_many c.deref.ensures.0 c.requires.some c.requires.few x in
     let many = length_map is_none e.stands in
     let as_many = c.requires.kept.as_many in
     let before = c.requires.kept.live.before_len in

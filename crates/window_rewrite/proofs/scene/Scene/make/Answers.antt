@@ -39,7 +39,7 @@ replace-requires-2-clause-window c = λ k h.
     let site = c.args.site.now in
     let lines = lines_now c.args.self.now.listing in
     let same = ap (λ (is : List Instr). length is) c.as_slice-window.ensures.value in
-    let there = run_stands lines c.args.rules.now.longest site.number k site.run.letters c.requires.site.letters (omega (arith, h, same, c.requires.within)) in
+    let there = run_stands lines c.args.rules.now.longest site.number k site.run.instrs c.requires.site.instrs (omega (arith, h, same, c.requires.within)) in
     ap (λ p. is_op_place (slice_get (places_of lines) (p + k))) (sym c.requires.site.number) ∙ ap is_op_place there.stands
 
 ranked : (c : goal.After-replace-2) → AreRanked (marks c.args.self.now.listing) c.args.site.now.number (take (length c.as_slice-window.result.now) c.as_slice.result.now)

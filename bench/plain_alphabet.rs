@@ -6,12 +6,12 @@ use crate::plain_steps::{ByteOperation, Extension, Instr, Operation, Reversal, S
 
 /// The instructions of the first `k` registers and a pool, in the order of their numbers.
 pub fn alphabet(k: u32, pool: &[u32]) -> Vec<Instr> {
-    let mut letters = Vec::new();
+    let mut instrs = Vec::new();
     for sum in [Sum::Add, Sum::Sub] {
         for target in 0..k {
             for left in 0..k {
                 for right in 0..k {
-                    letters.push(Instr::Three { sum, target, left, right });
+                    instrs.push(Instr::Three { sum, target, left, right });
                 }
             }
         }
@@ -20,7 +20,7 @@ pub fn alphabet(k: u32, pool: &[u32]) -> Vec<Instr> {
         for target in 0..k {
             for source in (0..k).filter(|source| *source != target) {
                 for number in pool.iter().copied().filter(|number| *number < 8) {
-                    letters.push(Instr::ThreeNumber { sum, target, source, number });
+                    instrs.push(Instr::ThreeNumber { sum, target, source, number });
                 }
             }
         }
@@ -28,7 +28,7 @@ pub fn alphabet(k: u32, pool: &[u32]) -> Vec<Instr> {
     for operation in [ByteOperation::Mov, ByteOperation::Cmp, ByteOperation::Add, ByteOperation::Sub] {
         for target in 0..k {
             for number in pool.iter().copied() {
-                letters.push(Instr::TwoNumber { operation, target, number });
+                instrs.push(Instr::TwoNumber { operation, target, number });
             }
         }
     }
@@ -36,21 +36,21 @@ pub fn alphabet(k: u32, pool: &[u32]) -> Vec<Instr> {
         for target in 0..k {
             for source in 0..k {
                 for amount in pool.iter().copied().filter(|amount| *amount > 0 && *amount < end) {
-                    letters.push(Instr::Shift { kind, target, source, amount });
+                    instrs.push(Instr::Shift { kind, target, source, amount });
                 }
             }
         }
     }
-    pairs(k, &mut letters);
-    letters
+    pairs(k, &mut instrs);
+    instrs
 }
 
-fn pairs(k: u32, letters: &mut Vec<Instr>) {
+fn pairs(k: u32, instrs: &mut Vec<Instr>) {
     use crate::plain_steps::Operation::*;
     let mut each = |make: &dyn Fn(u32, u32) -> Instr| {
         for target in 0..k {
             for other in 0..k {
-                letters.push(make(target, other));
+                instrs.push(make(target, other));
             }
         }
     };
