@@ -84,7 +84,7 @@ fn differing(table: &Table, family: &Family, entry: &Entry, model: &Model) -> Fa
     requires model { IsModel model.now (raised_formula (header_in table.now) (family_of family.now) (rule_of entry.now)) }
     ensures { FailsFor (table_of table.now) (family_of family.now) result }
 {
-    let registers = alphabet_registers(&entry.left, table.scratch);
+    let registers = alphabet_registers(table, entry);
     FamilyFault::Differ {
         state: state_of(model, registers),
         value: value_of(model, registers),

@@ -1,7 +1,7 @@
 -- Light sequences are found by putting instructions behind those that were found before.
 use Rattle.std.proofs.Common.{◌≡◌, ℕ, zero, suc, ◌+◌, ◌-◌, ◌*◌, ◌/◌, ◌%◌, ◌^◌, ◌<◌, ◌≤◌, ◌⊎◌, ◌&&◌, inl, inr, Bool, true, false, List, [], ◌∷◌, ◌++◌, Option, Some, None, Contains, cond, filter, get_or, length, map, nat_lt, slice_get, refl, sym, ◌∙◌, ap, subst, arith, lt-ltb, add-one, append-nil, append_assoc, length-append}
 use Rattle.std.specs.Option.{option_map, option_and_then}
-use Rattle.std.proofs.Math.Nat.{mul-le-mul_left, mul-le-mul_right, pow-suc, pow-zero}
+use Rattle.std.proofs.Math.Nat.{mul-le-mul_left, mul-le-mul_right, pow-le-pow_left, pow-le-pow_right, pow-suc, pow-zero}
 use Rattle.std.proofs.lemmas.Bool.{and_parts, and_from, cases_lt, ltb-true}
 use Rattle.std.proofs.lemmas.List.{get_or_default, length-map}
 use Rattle.std.proofs.lemmas.List.Elements.{Contains-append_left, Contains-append_right, Contains-append_cases, Contains-get_or, filter-append}
@@ -11,7 +11,7 @@ use Rattle.thumb_instr.specs.declared.instr.Instr.{Instr}
 use Rattle.seq_enum.specs.Alphabet.{numbers_from, ascends_from, words, sequences_of}
 use Rattle.seq_enum.specs.Costs.{cost_under, weight_under}
 use Rattle.seq_enum.proofs.Numbered.{get_back, get-flat_map, get-flat_map-digits, numbers_at}
-use Rattle.seq_enum.proofs.Words.{length-words, word_length, power_small}
+use Rattle.seq_enum.proofs.Words.{length-words, word_length}
 use Rattle.fingerprints.specs.Outcomes.{sequences_below}
 use Rattle.fingerprints.proofs.Growing.{below_none, below_more, below_longest}
 use Rattle.fingerprints.proofs.Looking.{filter_has, filter_in, filter_does}
@@ -69,11 +69,18 @@ next_count alphabet (suc n) =
     omega (arith, shorter_count alphabet (suc n), again, power, product)
 
 -- there are not so many
+power_four : (size n : ℕ) → size ≤ 1952 → n ≤ 4 → size ^ n ≤ 1952 ^ 4
+power_four size n h k =
+    let some : 0 < 1952 = omega arith in
+    let one : size ^ n ≤ 1952 ^ n = pow-le-pow_left h n in
+    let two : 1952 ^ n ≤ 1952 ^ 4 = pow-le-pow_right some k in
+    omega arith
+
 short_count : (alphabet : List Instr) (n : ℕ) → length alphabet ≤ 1952 → n ≤ 5 → length (sequences_below alphabet n) ≤ n * 1952 ^ 4
 short_count alphabet zero few h = omega (arith, ap (λ ws. length ws) (below_none alphabet))
 short_count alphabet (suc n) few h =
     let more : length (sequences_below alphabet (suc n)) ≡ length (sequences_below alphabet n) + length alphabet ^ n = ap (λ m. length (sequences_below alphabet m)) (sym (add-one n)) ∙ shorter_count alphabet n in
-    omega (arith, more, short_count alphabet n few (omega (arith, h)), power_small (length alphabet) n few (omega (arith, h)))
+    omega (arith, more, short_count alphabet n few (omega (arith, h)), power_four (length alphabet) n few (omega (arith, h)))
 
 -- a word with an instruction behind it, by place
 word_behind : (alphabet : List Instr) (n i j : ℕ) (w : List Instr) (x : Instr) → slice_get (words alphabet n) i ≡ Some w → slice_get alphabet j ≡ Some x → slice_get (words alphabet (suc n)) (i * length alphabet + j) ≡ Some (w ++ x ∷ [])

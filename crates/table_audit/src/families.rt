@@ -141,7 +141,7 @@ pub fn family_formula(
         low: family.low as u8,
         high: family.high as u8,
     };
-    let registers = alphabet_registers(&entry.left, table.scratch);
+    let registers = alphabet_registers(table, entry);
     bit_blast::family_formula(
         alloc,
         &entry.left,

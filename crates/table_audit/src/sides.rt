@@ -122,17 +122,12 @@ pub fn sides_fit(table: &Table, entry: &Entry) -> bool
 {
     match names_in_order(&entry.left) {
         None => false,
-        Some(k) => are_within(
-            table,
-            entry,
-            k,
-            alphabet_registers(&entry.left, table.scratch),
-        ),
+        Some(k) => are_within(table, entry, k, alphabet_registers(table, entry)),
     }
 }
 
 /// How many registers a side names, where they are r0, r1 and so on by first appearance.
-fn named_count(side: &Seq) -> u8
+pub fn named_count(side: &Seq) -> u8
     requires { IsInOrder side.now }
     ensures value { result ≡ named_count side.now }
     ensures some { 0 < result }
@@ -152,14 +147,14 @@ pub fn with_scratch(registers: u8, scratch: u8) -> u8
     registers.min(4) as u8
 }
 
-/// How many registers the alphabet of an entry has that has this left side: those that it names, and the scratch register where the header allows one.
-pub fn alphabet_registers(left: &Seq, scratch: u8) -> u8
-    requires { IsInOrder left.now }
-    ensures value { result ≡ min (named_count left.now + scratch) 4 }
+/// How many registers the alphabet of an entry has: those that its left side names, and the scratch register.
+pub fn alphabet_registers(table: &Table, entry: &Entry) -> u8
+    requires { IsInOrder entry.now.left }
+    ensures value { result ≡ alphabet_registers (header_in table.now) entry.now.left }
     ensures some { 0 < result }
     ensures few { result ≤ 4 }
 {
-    with_scratch(named_count(left), scratch)
+    with_scratch(named_count(&entry.left), table.scratch)
 }
 
 /// The formula that the left side of an entry and a sequence differ in some item of the mask, over the registers of the entry's alphabet.
@@ -174,7 +169,7 @@ pub(crate) fn formula_against(
     requires seq { AreOver (alphabet_registers (header_in table.now) entry.now.left) seq.now }
     ensures { IfOk result (λ f. f ≡ formula_against (header_in table.now) (rule_of entry.now) seq.now) }
 {
-    let registers = alphabet_registers(&entry.left, table.scratch);
+    let registers = alphabet_registers(table, entry);
     formula(alloc, &entry.left, seq, entry.mask, registers)
 }
 

@@ -156,7 +156,7 @@ pub(crate) fn check_told<L: Ledger>(
     if entry.right.is_empty() {
         return Ok(());
     }
-    let k = alphabet_registers(&entry.left, table.scratch);
+    let k = alphabet_registers(table, entry);
     let start = first_of(table.states.as_slice());
     let mut outcomes = tables.take(alloc, k, &table.pool, start)?;
     let numbers = numbers_to_try(alloc, table, entry, &mut outcomes, trials, steps)?;

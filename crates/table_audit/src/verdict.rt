@@ -45,7 +45,7 @@ fn check_shorter<L: Ledger>(
     ensures answers { Answers AuditError.Memory result (Then (ToldVerdict (table_of table.now) number (rule_of entry.now)) (OpensVerdict (table_of table.now) number (rule_of entry.now))) }
     ensures cost { steps.new ≤ steps.old + (runs_cost (table_of table.now) (rule_of entry.now) + sum_by (open_cost (table_of table.now) (rule_of entry.now)) (map opened_of entry.now.opens.items)) }
 {
-    let k = alphabet_registers(&entry.left, table.scratch);
+    let k = alphabet_registers(table, entry);
     let trials = trials_of(alloc, entry.left.as_slice(), table.states.as_slice(), steps)?;
     check_told(alloc, table, number, entry, &trials, tables, steps)?;
     check_opens(alloc, table, number, entry, k, &trials, steps)

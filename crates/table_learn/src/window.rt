@@ -6,7 +6,7 @@ ghost use Rattle.table_learn.specs.Given.{settings_of};
 
 use crate::settings::Settings;
 use seq_enum::weight;
-use table_audit::{alphabet_registers, below_at};
+use table_audit::{below_at, named_count, with_scratch};
 use thumb_instr::{Mask, Seq};
 
 /// A window, the items that may be live after it, and how many registers the sequences have that stand against it.
@@ -31,7 +31,7 @@ impl Window {
         Window {
             left: copied(left),
             mask,
-            k: alphabet_registers(left, settings.scratch),
+            k: with_scratch(named_count(left), settings.scratch),
         }
     }
 
