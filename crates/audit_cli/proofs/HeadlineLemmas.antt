@@ -18,7 +18,7 @@ use Rattle.audit_cli.specs.Peep.{plan_of}
 use Rattle.audit_cli.specs.Headline.{IsHeadline, IsImage, RewritesAsPromised, image_kept, image_told}
 
 -- no refusal
-IsAct : Outcome → Type 0
+unfoldable pub IsAct : Outcome → Type 0
 IsAct (Refuses line) = ⊥
 IsAct (Does keeps lines) = Unit {0}
 

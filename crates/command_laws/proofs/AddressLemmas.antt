@@ -7,7 +7,7 @@ use Rattle.std.proofs.lemmas.Nat.{mod-mul-add}
 use Rattle.std.proofs.lemmas.Bool.{cases_Bool, leb-true, leb-false, le-leb, ltb-false, le-ltb}
 use Rattle.thumb_instr.specs.declared.instr.Instr.{Instr}
 use Rattle.thumb_instr.specs.declared.instr.Instr.TheVariants as instr
-use Rattle.thumb_instr.specs.Window.{is_in_window, Low, renamed}
+use Rattle.thumb_instr.specs.Window.{Low, renamed}
 use Rattle.thumb_instr.proofs.RenamingLemmas.{window_renamed}
 use Rattle.thumb_model.specs.Listing.{Name, Mention, Value, Number, OfName, Statement, Nothing, Instruction, Words, Aligns, Sets, ListingLine, Word, Label, places_in, places_of, labels_from, code_of, has_label}
 use Rattle.thumb_model.specs.Layout.{instr_size, padding, size_at, end_of, label_address, set_in, set_address, cleared, lies_in}
@@ -20,29 +20,26 @@ use Rattle.thumb_model.proofs.Lists.{length_map, drop_back}
 use Rattle.rule_model.proofs.Table.{window_length}
 use Rattle.thumb_model.proofs.LinesReplaced.{ops_of, before, past_words}
 use Rattle.rule_model.proofs.LinesKept.{some_left as some_instruction, code_of_after}
+use Rattle.label_layout.proofs.Shared.{need}
 use Rattle.thumb_assembler.specs.Bytes.{lies_nowhere, may_leave, branch_lost, value_lost, values_lost, lies_inside, flaw_of, or_first, flaws_from, first_flaw}
 use Rattle.thumb_machine.proofs.WordLemmas.{some_or as some_else}
 use Rattle.listing_laws.proofs.Fitted.{two_bytes as some_bytes}
-use Rattle.thumb_assembler.proofs.Around.{labelled}
+use Rattle.thumb_assembler.proofs.Around.{labelled, no_flaw}
 use Rattle.thumb_model.proofs.Shared.{two_bytes}
 use Rattle.kept_layout.proofs.SetsKept.{op_sets_none, without_sets, labels_set_none, new_set_none}
 
 -- ---- paddings ----
 
--- how far the next multiple is
-abbrev gap : ℕ → ℕ → ℕ
-gap size at = (size - at % size) % size
-
 -- it ends at a multiple, and is below one size
 record Near (size at : ℕ) : Type 0 where
   number : ℕ
-  ends : at + gap size at ≡ number * size
-  short : gap size at < size
+  ends : at + need size at ≡ number * size
+  short : need size at < size
 
-none_left : (size at : ℕ) → 0 < size → at % size ≡ 0 → gap size at ≡ 0
+none_left : (size at : ℕ) → 0 < size → at % size ≡ 0 → need size at ≡ 0
 none_left size at some e = ap (λ (r : ℕ). (size - r) % size) e ∙ (ap (λ (r : ℕ). r % size) (let z : size - 0 ≡ size = omega arith in z) ∙ mod_self size)
 
-some_left : (size at : ℕ) → 0 < size → (at % size ≡ 0 → ⊥) → gap size at ≡ size - at % size
+some_left : (size at : ℕ) → 0 < size → (at % size ≡ 0 → ⊥) → need size at ≡ size - at % size
 some_left size at some e = let less : at % size < size = mod-lt at some in mod-eq_of_lt (let l : size - at % size < size = omega (arith, e) in l)
 
 is_zero : (n : ℕ) → (n ≡ 0) ⊎ (n ≡ 0 → ⊥)
@@ -63,46 +60,46 @@ near size at some =
           )
     ]
 
--- so far before a multiple the gap is just that
-gap_is : (size at number d : ℕ) → 0 < d → d < size → at + d ≡ number * size → gap size at ≡ d
-gap_is size at zero d some less e = absurd (let z : zero * size ≡ 0 = zero-mul size in omega (arith, e, z, some))
-gap_is size at (suc k) d some less e =
+-- so far before a multiple just that is needed
+need_is : (size at number d : ℕ) → 0 < d → d < size → at + d ≡ number * size → need size at ≡ d
+need_is size at zero d some less e = absurd (let z : zero * size ≡ 0 = zero-mul size in omega (arith, e, z, some))
+need_is size at (suc k) d some less e =
     let m : suc k * size ≡ k * size + size = suc-mul k size in
     let here : at ≡ k * size + (size - d) = omega (arith, e, m, less) in
     let rest : at % size ≡ size - d = ap (λ (n : ℕ). n % size) here ∙ mod-mul-add k size (size - d) (omega (arith, some, less)) in
     ap (λ (r : ℕ). (size - r) % size) rest ∙ (ap (λ (r : ℕ). r % size) (let z : size - (size - d) ≡ d = omega (arith, less) in z) ∙ mod-eq_of_lt less)
 
-padded : (size most at : ℕ) (b : Bool) → nat_le (gap size at) most ≡ b → padding size most at ≡ (if b then gap size at else 0)
-padded size most at b e = ap (λ (c : Bool). if c then gap size at else 0) e
+padded : (size most at : ℕ) (b : Bool) → nat_le (need size at) most ≡ b → padding size most at ≡ (if b then need size at else 0)
+padded size most at b e = ap (λ (c : Bool). if c then need size at else 0) e
 
 no_size : (most at : ℕ) → padding 0 most at ≡ 0
-no_size most at = go (nat_le (gap 0 at) most) where
-  none : gap 0 at ≡ 0
+no_size most at = go (nat_le (need 0 at) most) where
+  none : need 0 at ≡ 0
   none = mod-zero (0 - at % 0) ∙ (let z : 0 - at % 0 ≡ 0 = omega arith in z)
 
-  go : (b : Bool) → (if b then gap 0 at else 0) ≡ 0
+  go : (b : Bool) → (if b then need 0 at else 0) ≡ 0
   go true = none
   go false = refl
 
 -- a later place is padded to no earlier one
 grown : (size most x y : ℕ) → x ≤ y → x + padding size most x ≤ y + padding size most y
 grown zero most x y l = let a = no_size most x in let b = no_size most y in omega (arith, a, b, l)
-grown (suc n) most x y l = elim (cases_Bool (nat_le (gap (suc n) x) most)) [
+grown (suc n) most x y l = elim (cases_Bool (nat_le (need (suc n) x) most)) [
   | inr far ↦ (let p = padded (suc n) most x false far in omega (arith, p, l))
   | inl there ↦ (
-      let p : padding (suc n) most x ≡ gap (suc n) x = padded (suc n) most x true there in
-      let within : gap (suc n) x ≤ most = leb-true (gap (suc n) x) most there in
+      let p : padding (suc n) most x ≡ need (suc n) x = padded (suc n) most x true there in
+      let within : need (suc n) x ≤ most = leb-true (need (suc n) x) most there in
       let k = near (suc n) x (omega arith) in
-      let ends : x + gap (suc n) x ≡ k.number * suc n = k.ends in
-      let short : gap (suc n) x < suc n = k.short in
-      elim (cases_Bool (nat_le (x + gap (suc n) x) y)) [
-        | inl past ↦ (let q = leb-true (x + gap (suc n) x) y past in omega (arith, p, q))
+      let ends : x + need (suc n) x ≡ k.number * suc n = k.ends in
+      let short : need (suc n) x < suc n = k.short in
+      elim (cases_Bool (nat_le (x + need (suc n) x) y)) [
+        | inl past ↦ (let q = leb-true (x + need (suc n) x) y past in omega (arith, p, q))
         | inr inside ↦ (
-            let q : y < x + gap (suc n) x = leb-false (x + gap (suc n) x) y inside in
-            let d : ℕ = x + gap (suc n) x - y in
-            let same : gap (suc n) y ≡ d = gap_is (suc n) y k.number d (omega (arith, q)) (omega (arith, q, l, short)) (omega (arith, q, ends)) in
-            let small : nat_le (gap (suc n) y) most ≡ true = le-leb (gap (suc n) y) most (omega (arith, same, q, l, within)) in
-            let r : padding (suc n) most y ≡ gap (suc n) y = padded (suc n) most y true small in
+            let q : y < x + need (suc n) x = leb-false (x + need (suc n) x) y inside in
+            let d : ℕ = x + need (suc n) x - y in
+            let same : need (suc n) y ≡ d = need_is (suc n) y k.number d (omega (arith, q)) (omega (arith, q, l, short)) (omega (arith, q, ends)) in
+            let small : nat_le (need (suc n) y) most ≡ true = le-leb (need (suc n) y) most (omega (arith, same, q, l, within)) in
+            let r : padding (suc n) most y ≡ need (suc n) y = padded (suc n) most y true small in
             omega (arith, p, r, same, q)
             )
       ]
@@ -323,10 +320,6 @@ module _ (base : ℕ) (old new : List ListingLine) (lies : (name : Name) → lie
 AreFlawless : ℕ → List ListingLine → List ListingLine → Type 0
 AreFlawless base all [] = Unit {0}
 AreFlawless base all (l ∷ ls) = (flaw_of base all l.statement ≡ None) × AreFlawless base all ls
-
-no_flaw : (n : ℕ) (o : Option Flaw) (rest : Option (ℕ × Flaw)) → or_first n o rest ≡ None → (o ≡ None) × (rest ≡ None)
-no_flaw n None rest e = (refl, e)
-no_flaw n (Some f) rest e = absurd (let bad : Some (n, f) ≡ None = e in cc)
 
 flawless_from : (base : ℕ) (all : List ListingLine) (n : ℕ) (ls : List ListingLine) → flaws_from base all n ls ≡ None → AreFlawless base all ls
 unfolding AreFlawless

@@ -10,18 +10,14 @@ use Rattle.flow_tidy.proofs.Unique.{all_possible}
 use Rattle.command_line.specs.CommandLine.{Request, tidy}
 use Rattle.command_line.proofs.Usage.{asks_once}
 use Rattle.outer_store.specs.Outside.{Putting, Seen, Sunk}
-use Rattle.command_runs.specs.Plans.{Outcome, Refuses, Does, Keep, Kept, keeps_of, due, fetchings, keepings, AreTexts}
+use Rattle.command_runs.specs.Plans.{Outcome, Does, Keep, Kept, keeps_of, due, fetchings, keepings, AreTexts}
 use Rattle.command_runs.specs.Runs.{IsDone}
 use Rattle.audit_cli.specs.Printed.{tidied_report}
 use Rattle.audit_cli.specs.Rewrite.{instruction_count}
 use Rattle.audit_cli.specs.Tidy.{IsTidying, LinesTidy, unlaid, tidied, Tidies, unread, read}
 use Rattle.audit_cli.specs.Peep.{plan_of}
+use Rattle.audit_cli.proofs.HeadlineLemmas.{IsAct}
 use Rattle.command_laws.specs.Tidying.{HasTidied, TidiesAsPromised}
-
--- no refusal
-IsAct : Outcome → Type 0
-IsAct (Refuses line) = ⊥
-IsAct (Does keeps lines) = Unit {0}
 
 -- what a run that isn't refused found: the lines of a listing, which were tidied
 record Found (base : ℕ) (out text : List ℕ) (o : Outcome) : Type 0 where

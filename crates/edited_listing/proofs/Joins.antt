@@ -1,5 +1,5 @@
 -- Which rows of the lines now are joined to the one before.
-use Rattle.std.proofs.Common.{◌≡◌, ◌≢◌, ℕ, zero, suc, ◌+◌, ◌-◌, ◌<◌, ◌≤◌, ◌==◌, ◌&&◌, Bool, true, false, List, [], ◌∷◌, ◌++◌, length, length-append, map, drop, Some, None, refl, sym, ap, ◌∙◌, subst, inl, inr, arith, true≢false}
+use Rattle.std.proofs.Common.{◌≡◌, ◌≢◌, ℕ, zero, suc, ◌+◌, ◌-◌, ◌<◌, ◌≤◌, ◌==◌, ◌&&◌, Bool, true, false, List, [], ◌∷◌, ◌++◌, length, length-append, map, drop, Some, refl, sym, ap, ◌∙◌, subst, inl, inr, arith, true≢false}
 use Rattle.std.specs.Prelude.{slice_get}
 use Rattle.std.proofs.lemmas.Bool.{cases_Bool, eqb-true, eqb-false}
 use Rattle.std.proofs.lemmas.Option.{same_Some}
@@ -8,7 +8,7 @@ use Rattle.thumb_model.specs.Listing.{Name, Value, Statement, Nothing, Instructi
 use Rattle.thumb_model.specs.Replaced.{is_op, labels_kept}
 use Rattle.thumb_model.proofs.Lists.{get_back, get_drop, length_map}
 use Rattle.window_runs.specs.declared.rows.WindowPlace.{WindowPlace}
-use Rattle.window_runs.specs.Rows.{is_unlabelled, window_instr, rows_of, stays_joined, rows_from}
+use Rattle.window_runs.specs.Rows.{is_unlabelled, window_instr, word_row, rows_of, stays_joined, rows_from}
 use Rattle.edited_listing.specs.Items.{Item, AsGiven, New, home_of, AreSorted}
 use Rattle.edited_listing.specs.Emitting.{is_given_at, emit_at, line_at, lines_from}
 use Rattle.edited_listing.specs.Giving.{WordsStand}
@@ -28,9 +28,6 @@ and_none true b c e = rw e refl
 and_none false b c e = refl
 
 -- ---- rows of lines ----
-
-abbrev word_row : Value → WindowPlace
-word_row v = record { instr = None; is_joined = false }
 
 -- a row's instruction is that of its place
 abbrev IsOfPlace : List ListingLine → WindowPlace → Type 0

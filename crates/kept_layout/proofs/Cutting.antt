@@ -10,7 +10,7 @@ use Rattle.thumb_model.specs.Layout.{cleared, instr_size, is_among, set_address}
 use Rattle.thumb_model.specs.Replaced.{is_op, labels_kept, new_line, replaced_lines, without}
 use Rattle.thumb_model.proofs.Lists.{drop_back, length_map}
 use Rattle.window_runs.specs.declared.rows.WindowPlace.{WindowPlace}
-use Rattle.window_runs.specs.Rows.{is_unlabelled, window_instr, rows_of, rows_from, stays_joined}
+use Rattle.window_runs.specs.Rows.{is_unlabelled, window_instr, word_row, rows_of, rows_from, stays_joined}
 use Rattle.window_runs.specs.Windows.{IsWindow}
 use Rattle.window_runs.proofs.Joined.{window_fits, Fits, no_place as not_first}
 use Rattle.window_runs.proofs.Lengths.{rows_length}
@@ -236,9 +236,6 @@ given_behind write p m count new l ls t e k =
       less = subst (IsLess (count - length new) (l ∷ ls)) (sym (kept ls)) (less_cons (count - length new) l ls (replaced_lines write m count new ls) k.less);
       back = λ ys. kept (ls ++ ys) ∙ ap (λ x. l ∷ x) (k.back ys) ∙ ap (λ x. x ++ ys) (sym (kept ls));
     }
-
-abbrev word_row : Value → WindowPlace
-word_row v = record { instr = None; is_joined = false }
 
 -- a window doesn't begin among words
 past_words : (vs : List Value) (p : ℕ) (rows : List WindowPlace) (i : Instr) (is : List Instr) → Fits true (i ∷ is) (drop p (map word_row vs ++ rows)) → (m : ℕ) × (p ≡ length vs + m) × Fits true (i ∷ is) (drop m rows)

@@ -15,7 +15,7 @@ two_least i = omega arith
 -- ---- padding ----
 
 -- what is needed to the next multiple
-abbrev need : ℕ → ℕ → ℕ
+abbrev pub need : ℕ → ℕ → ℕ
 need size at = (size - at % size) % size
 
 no_need : (x : ℕ) → (0 - x) % 0 ≡ 0

@@ -1,27 +1,16 @@
 -- Registers that are bound one by one.
-use Rattle.std.proofs.Common.{◌≡◌, ◌≢◌, ◌∙◌, ℕ, zero, suc, ◌<◌, ◌==◌, ◌||◌, Bool, true, false, List, [], ◌∷◌, ◌++◌, length, refl, sym, ap, subst, arith, Option, Some, None, inl, inr, ◌⊎◌, eqb-true, eq-eqb, slice_get, true≢false}
+use Rattle.std.proofs.Common.{◌≡◌, ◌≢◌, ◌∙◌, ℕ, ◌<◌, ◌==◌, ◌||◌, Bool, true, false, List, [], ◌∷◌, ◌++◌, length, refl, sym, ap, subst, Option, Some, None, inl, inr, ◌⊎◌, eqb-true, eq-eqb, true≢false}
 use Rattle.std.specs.Prelude.{slice_set, ◌↔◌}
 use Rattle.std.specs.Option.{option_and_then, is_some}
 use Rattle.std.proofs.Math.Bool.{or_assoc, or-false}
 use Rattle.std.proofs.lemmas.List.Folds.{list_any-append}
 use Rattle.thumb_instr.specs.Items.{has as has_item}
 use Rattle.thumb_instr.specs.Window.{Low, item_under}
+use Rattle.common_lemmas.proofs.Lists.{get_set, get_unset}
 use Rattle.rule_table.specs.Canonical.{has}
 use Rattle.rule_table.specs.Binding.{given_at, IsOneToOne, Agrees, Binds, Clashes, IsBound}
 
 -- ---- one register more
-
-pub set_here : {A : Type 0} (xs : List A) (p : ℕ) (x : A) → p < length xs → slice_get (slice_set xs p x) p ≡ Some x
-set_here [] p x h = absurd (omega arith)
-set_here (y ∷ xs) zero x h = refl
-set_here (y ∷ xs) (suc p) x h = set_here xs p x (omega arith)
-
-set_else : {A : Type 0} (xs : List A) (p q : ℕ) (x : A) → q ≢ p → slice_get (slice_set xs p x) q ≡ slice_get xs q
-set_else [] p q x d = refl
-set_else (y ∷ xs) zero zero x d = absurd (d refl)
-set_else (y ∷ xs) zero (suc q) x d = refl
-set_else (y ∷ xs) (suc p) zero x d = refl
-set_else (y ∷ xs) (suc p) (suc q) x d = set_else xs p q x (λ e. d (ap suc e))
 
 -- the new map has the register in place of that, and in place of each other what the old one has
 pub record Puts (old new : List (Option Low)) (own : ℕ) (register : Low) : Type 0 where
@@ -30,8 +19,8 @@ pub record Puts (old new : List (Option Low)) (own : ℕ) (register : Low) : Typ
 
 pub puts : (old new : List (Option Low)) (own : ℕ) (register : Low) → own < length old → new ≡ slice_set old own (Some register) → Puts old new own register
 puts old new own register h e = record {
-  here = ap (λ l. given_at l own) e ∙ ap (option_and_then (λ o. o)) (set_here old own (Some register) h);
-  others = λ x d. ap (λ l. given_at l x) e ∙ ap (option_and_then (λ o. o)) (set_else old own x (Some register) d);
+  here = ap (λ l. given_at l own) e ∙ ap (option_and_then (λ o. o)) (get_set old own (Some register) h);
+  others = λ x d. ap (λ l. given_at l x) e ∙ ap (option_and_then (λ o. o)) (get_unset old own x (Some register) d);
 }
 
 pub puts_again : (given : List (Option Low)) (own : ℕ) (register : Low) → given_at given own ≡ Some register → Puts given given own register

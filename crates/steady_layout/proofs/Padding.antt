@@ -8,7 +8,7 @@ use Rattle.thumb_instr.specs.declared.instr.Instr.{Instr}
 use Rattle.thumb_instr.specs.declared.instr.Instr.TheVariants as instr
 use Rattle.thumb_model.specs.Listing.{Statement, Instruction, Aligns}
 use Rattle.thumb_model.specs.Layout.{instr_size, padding, size_at}
-use Rattle.label_layout.proofs.Shared.{need_small, padding_most}
+use Rattle.label_layout.proofs.Shared.{need, need_small, padding_most}
 use Rattle.steady_layout.specs.Steady.{most_of, aligns_surely, ends_aligned}
 
 -- an instruction takes some bytes: a row
@@ -37,10 +37,6 @@ rest_of at size left p n e f g = omega arith
 
 next_of : (at size left p n s : ℕ) → p + left ≡ at → left < size → n ≡ size - left → s ≡ p + size → at + n ≡ s
 next_of at size left p n s e f g h = omega arith
-
--- what is needed to the next multiple
-abbrev need : ℕ → ℕ → ℕ
-need size at = (size - at % size) % size
 
 -- it leads to a multiple of the size
 reached : (size at : ℕ) → 0 < size → (q : ℕ) × (at + need size at ≡ q * size)

@@ -1,22 +1,23 @@
 -- The canonical form of a window is a canonical side.
-use Rattle.std.proofs.Common.{◌≡◌, ℕ, ◌<◌, ◌≤◌, ◌⊎◌, ◌==◌, ◌&&◌, Bool, true, false, inl, inr, List, [], ◌∷◌, ◌++◌, Option, Some, None, slice_get, map, length, cond, refl, sym, ◌∙◌, ap, subst, arith, eq-eqb, nat_lt}
+use Rattle.std.proofs.Common.{◌≡◌, ℕ, ◌<◌, ◌≤◌, ◌⊎◌, ◌==◌, ◌&&◌, Bool, true, false, inl, inr, List, [], ◌∷◌, Option, Some, None, slice_get, map, length, cond, refl, sym, ◌∙◌, ap, subst, arith, eq-eqb}
 use Rattle.std.specs.List.{flat_map, list_all}
-use Rattle.std.proofs.lemmas.Bool.{cases_Bool, and_parts, and_from, eqb-true, lt-ltb}
-use Rattle.std.proofs.lemmas.List.{map-append, length-map}
+use Rattle.std.proofs.lemmas.Bool.{cases_Bool, and_parts, eqb-true}
+use Rattle.std.proofs.lemmas.List.{length-map}
 use Rattle.std.proofs.lemmas.Option.{slice_get_within}
 use Rattle.thumb_instr.specs.declared.instr.Instr.{Instr}
 use Rattle.thumb_instr.specs.declared.instr.Instr.TheVariants as instr
 use Rattle.thumb_instr.specs.Items.{has as has_item, is_in_masks}
-use Rattle.thumb_instr.specs.Window.{is_in_window, normal_of, byte_sum, byte_of, Low, named, renamed, AreBelow, low_under, item_under}
-use Rattle.thumb_instr.proofs.RenamingLemmas.{named_renamed, below_parts, low_number}
+use Rattle.thumb_instr.specs.Window.{is_in_window, normal_of, byte_sum, byte_of, Low, named, renamed, low_under, item_under}
+use Rattle.thumb_instr.proofs.RenamingLemmas.{low_number}
 use Rattle.rule_table.specs.Canonical.{firsts, appearing, numbers_of, register_has, masked}
 use Rattle.rule_table.proofs.Backs.{windows_normal}
 use Rattle.table_audit.specs.Shorter.{named_count, IsCanonicalSide}
 use Rattle.table_audit.specs.Canonical.{CanonicalFormIsSide}
 use Rattle.window_exec.proofs.Differences.{either}
 use Rattle.table_audit.proofs.Names.{count_same}
-use Rattle.table_audit.proofs.OneToOne.{AreDistinct, firsts_distinct, firsts_below, firsts_mapped, one_to_one, counted_under}
-use Rattle.thumb_instr.proofs.Shared.{window_back, windows_back, named_all}
+use Rattle.rule_table.proofs.Distinct.{AreDistinct, firsts_distinct}
+use Rattle.table_audit.proofs.OneToOne.{firsts_below, firsts_mapped, one_to_one, counted_under}
+use Rattle.thumb_instr.proofs.Shared.{windows_back, named_all}
 
 -- ---- what is normal when it is renamed is normal itself ----
 

@@ -1,41 +1,17 @@
 -- Numbers in order of first appearance: no two are the same, and a one-to-one map keeps their order.
-use Rattle.std.proofs.Common.{◌≡◌, ℕ, zero, suc, ◌+◌, ◌<◌, ◌==◌, ◌||◌, Bool, true, false, inl, inr, List, [], ◌∷◌, ◌++◌, Some, slice_get, get_or, map, length, cond, refl, sym, ◌∙◌, ap, subst, arith, eq-eqb}
+use Rattle.std.proofs.Common.{◌≡◌, ℕ, zero, suc, ◌+◌, ◌<◌, ◌==◌, Bool, true, false, inl, inr, List, [], ◌∷◌, ◌++◌, Some, slice_get, get_or, map, length, cond, refl, sym, ◌∙◌, ap, subst, arith, eq-eqb}
 use Rattle.std.specs.Option.{option_map}
-use Rattle.std.proofs.lemmas.Bool.{true≢false, ne_eqb, or_parts, or_left, or_right}
+use Rattle.std.proofs.lemmas.Bool.{true≢false, ne_eqb}
 use Rattle.std.proofs.lemmas.Bool.Decides.{eqb_tells}
 use Rattle.std.proofs.lemmas.List.{map-append}
-use Rattle.std.proofs.lemmas.List.Folds.{list_any-append}
 use Rattle.std.proofs.lemmas.Option.{same_Some, slice_get-map, slice_get-get_or}
 use Rattle.thumb_instr.specs.Window.{Low, AreBelow, item_under, number_or}
 use Rattle.seq_enum.specs.Alphabet.{numbers_from}
 use Rattle.rule_table.specs.Canonical.{has, with_first, firsts, numbers_of}
 use Rattle.rule_table.proofs.Shared.{has_at}
+use Rattle.rule_table.proofs.Distinct.{AreDistinct}
 
 -- ---- no two are the same ----
-
-abbrev pub AreDistinct : List ℕ → Type 0
-AreDistinct [] = Unit {0}
-AreDistinct (x ∷ xs) = (has xs x ≡ false) × AreDistinct xs
-
-distinct_push : (xs : List ℕ) (r : ℕ) → has xs r ≡ false → AreDistinct xs → AreDistinct (xs ++ r ∷ [])
-distinct_push [] r h d = (refl, tt)
-distinct_push (x ∷ xs) r h d =
-    let parts = or_parts (x == r) (has xs r) h in
-    let other : (r == x) ≡ false = ne_eqb r x (λ e. true≢false (sym (eq-eqb x r (sym e)) ∙ parts.0)) in
-    let new : (has xs x || (r == x || false)) ≡ false = rw (d.0, other) refl in
-    (list_any-append (λ y. y == x) xs (r ∷ []) ∙ new, distinct_push xs r parts.1 d.1)
-
-distinct_first : (seen : List ℕ) (r : ℕ) → AreDistinct seen → AreDistinct (with_first seen r)
-distinct_first seen r d = by (has seen r) refl
-  where
-    by : (b : Bool) → has seen r ≡ b → AreDistinct (cond b seen (seen ++ r ∷ []))
-    by true h = d
-    by false h = distinct_push seen r h d
-
-pub firsts_distinct : (seen rs : List ℕ) → AreDistinct seen → AreDistinct (firsts seen rs)
-unfolding firsts
-firsts_distinct seen [] d = d
-firsts_distinct seen (r ∷ rs) d = firsts_distinct (with_first seen r) rs (distinct_first seen r d)
 
 again : (x : ℕ) (xs : List ℕ) (i r : ℕ) → has xs x ≡ false → x ≡ r → slice_get xs i ≡ Some r → ⊥
 again x xs i r new same e = true≢false (sym (has_at xs i x (e ∙ ap Some (sym same))) ∙ new)

@@ -50,7 +50,7 @@ same_act b at to (instr.Branch d) j w a = ap (λ (k : Instr). act b k w) a.2
 same_act b at to (instr.Call d) j w a = ap (λ (k : Instr). act b k w) a.2
 same_act b at to i j w a = ap (λ (k : Instr). act b k w) a
 
-no_flaw : (n : ℕ) (o : Option Flaw) (rest : Option (ℕ × Flaw)) → or_first n o rest ≡ None → (o ≡ None) × (rest ≡ None)
+pub no_flaw : (n : ℕ) (o : Option Flaw) (rest : Option (ℕ × Flaw)) → or_first n o rest ≡ None → (o ≡ None) × (rest ≡ None)
 no_flaw n None rest e = (refl, e)
 no_flaw n (Some f) rest e = absurd (let bad : Some (n, f) ≡ None = e in cc)
 

@@ -3,17 +3,18 @@ use Rattle.std.proofs.Common.{◌≡◌, ℕ, zero, suc, ◌-◌, ◌<◌, ◌�
 use Rattle.std.specs.Prelude.{slice_get, if◌then◌else◌}
 use Rattle.std.specs.List.{flat_map, list_all}
 use Rattle.std.specs.Option.{option_map}
-use Rattle.std.proofs.lemmas.Bool.{and_parts, or_from}
+use Rattle.std.proofs.lemmas.Bool.{or_from}
 use Rattle.std.proofs.lemmas.Bool.Decides.{leb_tells}
-use Rattle.std.proofs.lemmas.List.{map-append}
 use Rattle.std.proofs.lemmas.List.{length-map}
 use Rattle.std.proofs.lemmas.Option.{slice_get-map}
 use Rattle.thumb_instr.specs.declared.instr.Instr.{Instr}
 use Rattle.thumb_instr.specs.Window.{is_in_window, normal_of, Low, named, renamed, AreBelow, item_under, number_or}
-use Rattle.thumb_instr.proofs.RenamingLemmas.{named_renamed, below_parts}
+use Rattle.thumb_instr.proofs.RenamingLemmas.{below_parts}
 use Rattle.thumb_model.specs.Effect.{above, register_count}
 use Rattle.rule_table.specs.Canonical.{has, with_first, firsts, numbers_of, appearing, IsRenamable, IsCanonical}
-use Rattle.window_harvest.proofs.Once.{AreDistinct, distinct_firsts, or_parts, has_append, name_at}
+use Rattle.std.proofs.lemmas.Bool.{or_parts}
+use Rattle.rule_table.proofs.Distinct.{AreDistinct, firsts_distinct, has_append}
+use Rattle.window_harvest.proofs.Once.{name_at}
 use Rattle.window_harvest.proofs.Pairs.{seq_in_window}
 use Rattle.thumb_model.proofs.Small.{below_append}
 use Rattle.rule_model.proofs.Alone.{above_most}
@@ -80,7 +81,7 @@ not_fewer f seq normals w under order h = go (slice_get f j) refl
     go None e = some_at f j (omega arith) e
     go (Some y) e =
         let there : slice_get (numbers_of f) j ≡ Some y.number = slice_get-map (λ (z : Low). z.number) f j ∙ ap (option_map (λ (z : Low). z.number)) e in
-        let distinct : AreDistinct (numbers_of f) = subst AreDistinct (sym order) (distinct_firsts [] (flat_map named normals) tt) in
+        let distinct : AreDistinct (numbers_of f) = subst AreDistinct (sym order) (firsts_distinct [] (flat_map named normals) tt) in
         let yes : has (appearing normals) y.number ≡ true = ap (λ ns. has ns y.number) (sym order) ∙ has_at (numbers_of f) j y.number there in
         let names : flat_map named normals ≡ map (item_under f) (flat_map named seq) = ap (flat_map named) (sym under) ∙ named_all f seq w in
         let absent : has (flat_map named normals) y.number ≡ false =

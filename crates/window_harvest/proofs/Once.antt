@@ -1,57 +1,26 @@
 -- A window has one canonical form.
-use Rattle.std.proofs.Common.{◌≡◌, ℕ, zero, suc, ◌<◌, ◌≤◌, ◌==◌, ◌||◌, Bool, true, false, min, List, [], ◌∷◌, ◌++◌, length, map, Option, Some, None, refl, sym, ap, ◌∙◌, subst, arith, lt-ltb, eq-eqb, eqb-true}
-use Rattle.std.specs.Prelude.{slice_get, nat_lt, if◌then◌else◌}
+use Rattle.std.proofs.Common.{◌≡◌, ℕ, zero, suc, ◌<◌, ◌≤◌, ◌==◌, Bool, true, false, min, List, [], ◌∷◌, length, map, Option, Some, None, refl, sym, ap, ◌∙◌, subst, arith, eq-eqb, eqb-true}
+use Rattle.std.specs.Prelude.{slice_get, if◌then◌else◌}
 use Rattle.std.specs.Int.{bit_at}
 use Rattle.std.specs.List.{flat_map, list_all}
 use Rattle.std.specs.Option.{option_map}
-use Rattle.std.proofs.lemmas.Bool.{and_parts, and_from, or_from}
+use Rattle.std.proofs.lemmas.Bool.{and_parts}
 use Rattle.std.proofs.lemmas.Nat.Bits.{bit_at-lt, same_from_bits}
 use Rattle.std.proofs.lemmas.Option.{slice_get-map}
 use Rattle.std.proofs.lemmas.List.{length-map}
-use Rattle.std.proofs.lemmas.List.Folds.{list_any-append}
 use Rattle.thumb_instr.specs.declared.instr.Instr.{Instr}
 use Rattle.thumb_instr.specs.declared.instr.Instr.TheVariants as instr
 use Rattle.thumb_instr.specs.Items.{has as has_item}
 use Rattle.thumb_instr.specs.Window.{is_in_window, normal_of, Low, named, renamed, AreBelow, item_under, number_or}
-use Rattle.thumb_instr.proofs.Registers.{same_number}
 use Rattle.thumb_instr.proofs.RenamingLemmas.{below_parts}
-use Rattle.rule_table.specs.Canonical.{has, with_first, firsts, name_in, numbers_of, appearing, masked, IsCanonical}
+use Rattle.rule_table.specs.Canonical.{has, name_in, numbers_of, appearing, masked, IsCanonical}
 use Rattle.rule_table.proofs.Backs.{windows_normal, eight, eight_at}
 use Rattle.rule_table.proofs.Renamings.{AllNamed, ComesBack, renamed_back}
-pub use Rattle.std.proofs.lemmas.Bool.{or_parts}
-use Rattle.thumb_instr.proofs.Shared.{window_back, windows_back}
+use Rattle.thumb_instr.proofs.Shared.{windows_back}
 use Rattle.rule_table.proofs.Shared.{has_at, same_numbers}
+use Rattle.rule_table.proofs.Distinct.{AreDistinct, firsts_distinct}
 
 -- ---- names of registers ----
-
-abbrev pub AreDistinct : List ℕ → Type 0
-AreDistinct [] = Unit {0}
-AreDistinct (x ∷ xs) = (has xs x ≡ false) × AreDistinct xs
-
-pub has_append : (xs ys : List ℕ) (x : ℕ) → has (xs ++ ys) x ≡ (has xs x || has ys x)
-has_append xs ys x = list_any-append (λ y. y == x) xs ys
-
-not_same : (a b : ℕ) → (a == b) ≡ false → (b == a) ≡ false
-not_same a b e = go (b == a) refl
-  where
-    go : (t : Bool) → (b == a) ≡ t → t ≡ false
-    go true f = absurd (let g : (a == b) ≡ true = eq-eqb a b (sym (eqb-true b a f)) in cc)
-    go false f = refl
-
-distinct_more : (xs : List ℕ) (r : ℕ) → AreDistinct xs → has xs r ≡ false → AreDistinct (xs ++ r ∷ [])
-distinct_more [] r d h = (refl, tt)
-distinct_more (x ∷ xs) r d h =
-    let p = or_parts (x == r) (has xs r) h in
-    (has_append xs (r ∷ []) x ∙ or_from (has xs x) (has (r ∷ []) x) d.0 (or_from (r == x) false (not_same x r p.0) refl), distinct_more xs r d.1 p.1)
-
-pub distinct_firsts : (seen rs : List ℕ) → AreDistinct seen → AreDistinct (firsts seen rs)
-unfolding firsts
-distinct_firsts seen [] d = d
-distinct_firsts seen (r ∷ rs) d = distinct_firsts (with_first seen r) rs (go (has seen r) refl)
-  where
-    go : (b : Bool) → has seen r ≡ b → AreDistinct (if b then seen else seen ++ r ∷ [])
-    go true h = d
-    go false h = distinct_more seen r d h
 
 -- a register's name is the place where it stands
 pub name_at : (xs : List ℕ) (i r : ℕ) → AreDistinct xs → slice_get xs i ≡ Some r → name_in xs r ≡ i
@@ -131,7 +100,7 @@ canonical_once window items seq other given too mask next w few a b =
     let same : a.registers ≡ b.registers = same_numbers a.registers b.registers (a.order ∙ sym b.order) in
     let k = length a.registers in
     let count : k ≤ 4 = omega (arith, ap length a.order, length-map a.registers (λ (r : Low). r.number)) in
-    let distinct : AreDistinct (numbers_of a.registers) = subst AreDistinct (sym a.order) (distinct_firsts [] (flat_map named (map normal_of window)) tt) in
+    let distinct : AreDistinct (numbers_of a.registers) = subst AreDistinct (sym a.order) (firsts_distinct [] (flat_map named (map normal_of window)) tt) in
     let under : map (renamed a.registers) other ≡ map normal_of window = ap (λ (f : List Low). map (renamed f) other) same ∙ b.under in
     let below : AreBelow k (flat_map named other) = subst (λ n. AreBelow n (flat_map named other)) (ap length (sym same)) b.below in
     let normal : list_all is_in_window (map normal_of window) ≡ true = windows_normal window w in

@@ -35,6 +35,10 @@ use Rattle.window_rewrite.proofs.RuleWindows.{in_window_of as straight_in_window
 
 -- ---- counts of rules ----
 
+-- a match is counted where the left side is as long
+pub counted : (n count before after : ℕ) → n ≡ count → after ≤ before + 1 → after ≤ before + from_bool (n == count)
+counted n count before after e h = let one : from_bool (n == count) ≡ 1 = ap from_bool (eq-eqb _ _ e) in omega (arith, one)
+
 pub taken_more : (c : ℕ) (rules : List Rule) (k n : ℕ) → k ≤ n → of_length c (take k rules) ≤ of_length c (take n rules)
 unfolding of_length
 taken_more c [] zero zero h = omega arith

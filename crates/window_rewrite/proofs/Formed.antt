@@ -1,10 +1,10 @@
 -- The canonical form of a window is each left side that stands in it, and where one fits, its mask has what is live.
-use Rattle.std.proofs.Common.{◌≡◌, ℕ, zero, suc, ◌<◌, ◌≤◌, ◌==◌, ◌&&◌, ◌||◌, Bool, true, false, List, [], ◌∷◌, ◌++◌, length, map, min, Option, Some, None, refl, sym, ap, ◌∙◌, subst, ◌⊎◌, inl, inr, arith, eqb-true}
+use Rattle.std.proofs.Common.{◌≡◌, ℕ, zero, suc, ◌<◌, ◌≤◌, ◌==◌, ◌&&◌, true, false, List, [], ◌∷◌, ◌++◌, length, map, min, Option, Some, None, refl, sym, ap, ◌∙◌, subst, ◌⊎◌, inl, inr, arith, eqb-true}
 use Rattle.std.specs.Prelude.{slice_get, bit_and}
 use Rattle.std.specs.Int.{bit_at}
 use Rattle.std.specs.List.{flat_map, list_all}
 use Rattle.std.specs.Option.{option_map}
-use Rattle.std.proofs.lemmas.Bool.{and_from, and_parts, cases_Bool, cases_lt, eq-eqb, or_cases, or_left, or_right, true≢false}
+use Rattle.std.proofs.lemmas.Bool.{and_from, and_parts, cases_Bool, cases_lt, eq-eqb, or_left, or_right, true≢false}
 use Rattle.std.proofs.lemmas.List.{length-map}
 use Rattle.std.proofs.lemmas.Nat.Bits.{bit_at_and, bit_at-lt, same_from_bits}
 use Rattle.std.proofs.lemmas.Option.{slice_get-map, slice_get_within}
@@ -21,6 +21,8 @@ use Rattle.thumb_instr.proofs.RenamingLemmas.{below_parts}
 use Rattle.thumb_instr.proofs.Bits.{has_none}
 use Rattle.thumb_instr.proofs.Shared.{named_all}
 use Rattle.thumb_model.specs.Effect.{one_of, register_count, IsOneToOne}
+use Rattle.thumb_model.proofs.Shared.{one_of_map}
+use Rattle.window_exec.proofs.Differences.{either}
 use Rattle.rule_model.specs.Rules.{Rule, IsSoundRule}
 use Rattle.rule_table.specs.Binding.{number_under}
 use Rattle.rule_table.specs.Canonical.{appearing, firsts, numbers_of, register_has, masked, IsRenamable, IsCanonical}
@@ -32,7 +34,8 @@ use Rattle.window_rewrite.specs.declared.forms.Form.{Form}
 use Rattle.window_rewrite.specs.TableRewriting.{registers_of}
 use Rattle.window_rewrite.specs.Fitting.{is_allowed, Stands, Fits, IsForm}
 use Rattle.window_rewrite.specs.Forms.{form_of}
-use Rattle.table_audit.proofs.OneToOne.{firsts_distinct, firsts_mapped, one_to_one, AreDistinct, IsOneToOneBelow}
+use Rattle.rule_table.proofs.Distinct.{AreDistinct, firsts_distinct}
+use Rattle.table_audit.proofs.OneToOne.{firsts_mapped, one_to_one, IsOneToOneBelow}
 use Rattle.window_rewrite.proofs.Sides.{apart, names_below, windows_over, order, register_at, window_count}
 use Rattle.window_rewrite.proofs.Live.{allowed_true, true_allowed}
 use Rattle.window_rewrite.proofs.Maps.{some_registers}
@@ -115,9 +118,6 @@ form_is_left rule registers window live side given mask s c h w f =
 
 -- ---- masks ----
 
-either : {D : Type 0} (a b : Bool) → (a ≡ true → D) → (b ≡ true → D) → (a || b) ≡ true → D
-either a b f g h = elim (or_cases a b h) [ inl l ↦ f l | inr r ↦ g r ]
-
 abbrev IsOne : ℕ → List ℕ → ℕ → Type 0
 IsOne items order x = (register_has items (slice_get order x) ≡ true) ⊎ ((has items x ≡ true) × (15 ≤ x))
 
@@ -162,14 +162,6 @@ masked_flag items order x h l e = elim (cases_lt x 16) [
   where
     at : {n : ℕ} → x ≡ n → (has items n ≡ true → masked items order n ≡ true) → masked items order x ≡ true
     at {n} is all = subst (λ (y : ℕ). masked items order y ≡ true) (sym is) (all (ap (has items) (sym is) ∙ e))
-
--- what becomes of an item is among what becomes of all
-one_under : (f : ℕ → ℕ) (x : ℕ) (xs : List ℕ) → one_of x xs ≡ true → one_of (f x) (map f xs) ≡ true
-one_under f x [] h = absurd (cc)
-one_under f x (y ∷ ys) h = elim (or_cases (x == y) (one_of x ys) h) [
-  | inl e ↦ or_left _ _ (eq-eqb (f x) (f y) (ap f (eqb-true x y e)))
-  | inr r ↦ or_right _ _ (one_under f x ys r)
-]
 
 -- what an item of the mask becomes under the map tells which it is
 own_item : (rule : Rule) (registers : List Low) (x y : ℕ) → IsSoundRule rule → IsOneToOneBelow (register_count rule.left) (item_under registers) → length registers ≡ register_count rule.left
@@ -306,7 +298,7 @@ module _ (rule : Rule) (window : List Instr) (f : Form) (s : IsSoundRule rule) (
     becomes : ((x : ℕ) → has f.mask.items.bits x ≡ true → one_of x rule.mask ≡ true) → (n x : ℕ) → masked f.live.bits (numbers_of form.registers) n ≡ true → item_under f.registers.items n ≡ x
         → is_allowed rule.mask f.registers.items x ≡ true
     becomes masks n x there is = true_allowed rule.mask f.registers.items x
-        (inl (subst (λ y. one_of y (map (item_under f.registers.items) rule.mask) ≡ true) is (one_under (item_under f.registers.items) n rule.mask (masks n (form.masks n ∙ there)))))
+        (inl (subst (λ y. one_of y (map (item_under f.registers.items) rule.mask) ≡ true) is (one_of_map (item_under f.registers.items) n rule.mask (masks n (form.masks n ∙ there)))))
 
     -- and where its mask has all of it, what is live may be
     pub form_allowed : ((x : ℕ) → has f.mask.items.bits x ≡ true → one_of x rule.mask ≡ true) → (x : ℕ) → has f.live.bits x ≡ true → is_allowed rule.mask f.registers.items x ≡ true

@@ -9,7 +9,7 @@ use Rattle.thumb_model.specs.Listing.{Name, Mention, Value, Statement, Nothing, 
 use Rattle.thumb_model.specs.Replaced.{is_op, is_align, are_joined, are_joined_from}
 use Rattle.window_runs.specs.declared.rows.WindowPlace.{WindowPlace}
 use Rattle.window_runs.specs.Windows.{IsWindow}
-use Rattle.window_runs.specs.Rows.{is_unlabelled, window_instr, rows_of, stays_joined, rows_from}
+use Rattle.window_runs.specs.Rows.{is_unlabelled, window_instr, word_row, rows_of, stays_joined, rows_from}
 use Rattle.window_runs.specs.Runs.{instr_at, before, run}
 use Rattle.thumb_model.proofs.Lists.{take_short as take_less, length_map as map_length}
 
@@ -242,10 +242,6 @@ pub drop_past : {A : Type 0} (xs ys : List A) (p : ℕ) → length xs ≤ p → 
 drop_past [] ys p h = ap (λ n. drop n ys) (let e : p ≡ p - 0 = omega arith in e)
 drop_past (x ∷ xs) ys zero h = absurd (omega arith)
 drop_past (x ∷ xs) ys (suc p) h = drop_past xs ys p (omega arith) ∙ ap (λ n. drop n ys) (let e : p - length xs ≡ suc p - suc (length xs) = omega arith in e)
-
--- a data word has no instruction
-abbrev word_row : Value → WindowPlace
-word_row v = record { instr = None; is_joined = false }
 
 word_fits_not : (vs : List Value) (p : ℕ) (rows : List WindowPlace) (i : Instr) (is : List Instr) → p < length vs → Fits true (i ∷ is) (drop p (map word_row vs ++ rows)) → ⊥
 word_fits_not [] p rows i is h f = omega arith

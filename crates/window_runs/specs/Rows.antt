@@ -2,7 +2,7 @@
 use Rattle.std.specs.Prelude.{◌&&◌, Bool, true, false, List, [], ◌∷◌, ◌++◌, map, Option, Some, None, if◌then◌else◌}
 use Rattle.thumb_instr.specs.declared.instr.Instr.{Instr}
 use Rattle.thumb_instr.specs.Window.{is_in_window}
-use Rattle.thumb_model.specs.Listing.{Name, Mention, Statement, Nothing, Instruction, Words, Aligns, Sets, ListingLine}
+use Rattle.thumb_model.specs.Listing.{Name, Mention, Value, Statement, Nothing, Instruction, Words, Aligns, Sets, ListingLine}
 use Rattle.window_runs.specs.declared.rows.WindowPlace.{WindowPlace}
 
 abbrev pub is_unlabelled : List Name → Bool
@@ -14,11 +14,15 @@ abbrev pub window_instr : Instr → Option Mention → Option Instr
 window_instr i None = if is_in_window i then Some i else None
 window_instr i (Some m) = None
 
+-- a data word has no instruction
+abbrev pub word_row : Value → WindowPlace
+word_row v = record { instr = None; is_joined = false }
+
 -- of each place, its instruction, where it may stand in a window, and whether neither a label nor an alignment line stands between it and the place before
 abbrev pub rows_of : Bool → Statement → List WindowPlace
 rows_of joined Nothing = []
 rows_of joined (Instruction i m) = record { instr = window_instr i m; is_joined = joined } ∷ []
-rows_of joined (Words vs) = map (λ v. record { instr = None; is_joined = false }) vs
+rows_of joined (Words vs) = map word_row vs
 rows_of joined (Aligns size most) = []
 rows_of joined (Sets name address) = []
 

@@ -1,5 +1,4 @@
-use Rattle.std.proofs.Common.{◌≡◌, ◌∙◌, ℕ, ◌+◌, ◌-◌, ◌<◌, ◌≤◌, ◌==◌, Some, length, map, slice_index_or, ap, arith, eq-eqb, refl, sym, subst}
-use Rattle.std.specs.Int.{from_bool}
+use Rattle.std.proofs.Common.{◌≡◌, ◌∙◌, ℕ, ◌+◌, ◌-◌, ◌<◌, Some, length, map, slice_index_or, ap, arith, refl, sym, subst}
 use Rattle.std.specs.Prelude.{slice_get}
 use Rattle.std.proofs.lemmas.Option.{slice_get_read, IfSome_then}
 use Rattle.std.proofs.lemmas.Result.{IfOk-weaker}
@@ -11,6 +10,7 @@ use Rattle.window_rewrite.specs.Rules.{entry_rule}
 use Rattle.window_rewrite.specs.Choices.{AreReady, IsChoiceBy}
 use Rattle.window_rewrite.specs.declared.finding.Rules.{Rules}
 use Rattle.window_rewrite.specs.Scenes.{lines_seen, number_seen}
+use Rattle.window_rewrite.proofs.Chosen.{counted}
 use Rattle.window_rewrite.proofs.Raised.{family_choice, family_length, family_read, instance_fit, instance_long, none_long, none_stands, none_tried, raised_at, IsFamily}
 use Rattle.window_rewrite.proofs.Results.{if_none}
 use Rattle.window_rewrite.proofs.families.try_family.Goals as goal
@@ -22,10 +22,6 @@ there r n read within is = slice_get_read r.families.now _ _ read refl within is
 known : (r : Rules) (n : ℕ) (read : Family) (e : Entry) → AreReady r → n < length r.families.now → read ≡ slice_index_or r.families.now n read
     → entry_at (map rule_of r.entries.now) (slice_index_or r.families.now n read).entry ≡ Some (rule_of e) → IsFamily r n (family_of (slice_index_or r.families.now n read)) (rule_of e)
 known r n read e ready within is entry = family_read r n (slice_index_or r.families.now n read) e ready (there r n read within is) entry
-
--- a match is counted where the left side is as long
-counted : (n count before after : ℕ) → n ≡ count → after ≤ before + 1 → after ≤ before + from_bool (n == count)
-counted n count before after e h = let one : from_bool (n == count) ≡ 1 = ap from_bool (eq-eqb _ _ e) in omega (arith, one)
 
 pub entry_raised-entry-requires : goal.entry_raised-entry-requires
 entry_raised-entry-requires g c = raised_at c.args.sight.now.look.now.rules.now c.args.number (slice_index_or c.args.sight.now.look.now.rules.now.families.now c.args.number c.index-sight-number.result) c.requires.sight.look.ready (there c.args.sight.now.look.now.rules.now c.args.number c.index-sight-number.result c.requires.number c.index-sight-number.is)

@@ -1,5 +1,4 @@
-use Rattle.std.proofs.Common.{◌≡◌, ◌∙◌, ℕ, ◌+◌, ◌-◌, ◌≤◌, ◌<◌, ◌==◌, List, Some, length, map, slice_index_or, ap, arith, eq-eqb, refl, sym}
-use Rattle.std.specs.Int.{from_bool}
+use Rattle.std.proofs.Common.{◌≡◌, ◌∙◌, ℕ, ◌+◌, ◌-◌, ◌<◌, List, Some, length, map, slice_index_or, ap, arith, refl, sym}
 use Rattle.std.specs.Prelude.{slice_get}
 use Rattle.std.proofs.lemmas.Option.{slice_get_read, IfSome_then}
 use Rattle.std.proofs.lemmas.Result.{IfOk-weaker}
@@ -13,7 +12,7 @@ use Rattle.window_rewrite.specs.Choices.{AreReady}
 use Rattle.window_rewrite.specs.Scenes.{number_seen}
 use Rattle.window_rewrite.proofs.Accepted.{entry_at}
 use Rattle.window_rewrite.proofs.Applied.{made}
-use Rattle.window_rewrite.proofs.Chosen.{length_at}
+use Rattle.window_rewrite.proofs.Chosen.{counted, length_at}
 use Rattle.window_rewrite.proofs.Joined.{entry_used}
 use Rattle.window_rewrite.proofs.Results.{any_ok, any_some, if_none}
 use Rattle.rule_model.proofs.Alone.{alone_at}
@@ -44,10 +43,6 @@ long entries number read within is =
 as_long : (entries : List Entry) (number count : ℕ) (window : List Instr) (read : Entry) → number < length entries → read ≡ slice_index_or entries number read → count ≡ length (slice_index_or entries number read).left → count ≡ length window
     → side_length (rules_in entries) number ≡ length window
 as_long entries number count window read within is e f = long entries number read within is ∙ (sym e ∙ f)
-
--- a match is counted where the left side is as long
-counted : (n count before after : ℕ) → n ≡ count → after ≤ before + 1 → after ≤ before + from_bool (n == count)
-counted n count before after e h = let one : from_bool (n == count) ≡ 1 = ap from_bool (eq-eqb _ _ e) in omega (arith, one)
 
 pub returns-then-len-sight-clause-none : goal.returns-then-len-sight-clause-none
 returns-then-len-sight-clause-none g c = λ is registers a.
