@@ -51,5 +51,5 @@ pub use matching::matches;
 pub use reading::read_table;
 pub use scratch::free_scratch;
 pub use table::{Entry, Family, Open, Table};
-pub use windows::{canonical, renamed_all};
+pub use windows::{are_windows, canonical, renamed_all};
 pub use writing::write_table;

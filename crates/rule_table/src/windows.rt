@@ -31,7 +31,7 @@ pub fn canonical(window: &[Instr], items: Items) -> Option<(Seq, Map, Mask)>
 }
 
 /// Whether each instruction may stand in a window.
-pub(crate) fn are_windows(instrs: &[Instr]) -> bool
+pub fn are_windows(instrs: &[Instr]) -> bool
     ensures { result ≡ list_all is_in_window instrs.now }
 {
     instrs.iter().all(|instr| in_window(instr))

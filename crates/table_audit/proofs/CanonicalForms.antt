@@ -112,7 +112,7 @@ form_is_side window items seq given mask w c =
     } in
     record {
       canonical = side;
-      counted = sym (count_same seq side);
+      counted = sym (count_same seq side.in_order);
       over = λ x h. elim (masked_over items (numbers_of registers) x (sym (c.masks x) ∙ h)) [
         | inl low ↦ inl (omega (arith, low, size, as_many))
         | inr high ↦ inr high

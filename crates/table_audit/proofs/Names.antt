@@ -10,8 +10,9 @@ use Rattle.thumb_model.specs.Effect.{one_of, is_named, above, register_count}
 use Rattle.seq_enum.specs.Alphabet.{numbers_from}
 use Rattle.rule_table.specs.Canonical.{has, with_first, firsts, appearing}
 use Rattle.table_audit.specs.Shorter.{named_count, IsCanonicalSide}
+use Rattle.table_audit.specs.Orders.{IsInOrder}
 use Rattle.table_audit.specs.Soundness.{items_in}
-use Rattle.table_audit.proofs.Appearing.{has_low}
+use Rattle.table_audit.proofs.Appearing.{has_low, names_register}
 pub use Rattle.window_exec.proofs.Differences.{of_four}
 use Rattle.common_lemmas.proofs.Booleans.{eqb_sym}
 
@@ -64,11 +65,15 @@ counted : (is : List Instr) → register_count is ≡ above (flat_map named is)
 counted [] = refl
 counted (i ∷ is) = omega (arith, counted is, above-append (named i) (flat_map named is))
 
-pub count_same : (side : List Instr) → IsCanonicalSide side → register_count side ≡ named_count side
-count_same side c =
+pub count_same : (side : List Instr) → appearing side ≡ numbers_from 0 (named_count side) → register_count side ≡ named_count side
+count_same side order =
     let all : above (appearing side) ≡ above (flat_map named side) = above_firsts [] (flat_map named side) ∙ omega arith in
-    let ordered : above (appearing side) ≡ named_count side = ap above c.in_order ∙ above_first (named_count side) in
+    let ordered : above (appearing side) ≡ named_count side = ap above order ∙ above_first (named_count side) in
     counted side ∙ sym all ∙ ordered
+
+-- so is that of a side whose registers are in order, some and at most four
+pub count_in_order : (side : List Instr) → IsInOrder side → (register_count side ≡ named_count side) × (0 < named_count side) × (named_count side ≤ 4)
+count_in_order side o = (count_same side o.in_order, names_register side o.some o.windows, o.few)
 
 -- ---- each register below is named ----
 

@@ -108,7 +108,7 @@ mask_over t k e is f x h =
 sound_rule : (t : Table) (n : ℕ) (e : Rule) → IsTable t → SidesFit t e → IsMask e.mask → EntryProofVerdict t n e None → IsSoundRule (rewriting_rule e)
 sound_rule t n e valid sides masks p =
     let f = formula_fits t e sides in
-    let is : register_count e.left ≡ named_count e.left = count_same e.left sides.canonical in
+    let is : register_count e.left ≡ named_count e.left = count_same e.left sides.canonical.in_order in
     let most : register_count e.right ≤ alphabet_registers t.header e.left = count_over (alphabet_registers t.header e.left) e.right f.right in
     let own : named_count e.left ≤ 4 = (ordered_of e.left sides.canonical).few in
     let scratch : t.header.scratch ≤ 1 = (valid.header.numbers Scratch).1 in

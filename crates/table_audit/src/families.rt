@@ -54,7 +54,7 @@ pub fn family_at(table: &Table, number: u32) -> Option<&Family>
 }
 
 /// Whether an instruction is `movs`, `cmp`, `adds` or `subs` with this number in 8 bits.
-fn is_hole(number: u32, instr: &Instr) -> bool
+pub fn is_hole(number: u32, instr: &Instr) -> bool
     ensures { result ≡ is_hole number instr.now }
 {
     match instr {

@@ -1,8 +1,8 @@
 //! The sides that an entry may have, and the formula that they differ.
 ghost use Rattle.std.specs.Prelude.{◌≡◌, ◌+◌, ◌<◌, ◌≤◌, ◌↔◌, true, IfOk, IfSome, IsTrue, MatchOption, length, map, min};
 ghost use Rattle.std.specs.List.{list_all};
-ghost use Rattle.thumb_instr.specs.Window.{is_in_window};
-ghost use Rattle.thumb_model.specs.Effect.{AreOver};
+ghost use Rattle.thumb_instr.specs.Window.{is_in_window, named, named_by};
+ghost use Rattle.thumb_model.specs.Effect.{AreOver, above, register_count};
 ghost use Rattle.seq_enum.specs.Alphabet.{numbers_from, IsOver};
 ghost use Rattle.bit_blast.specs.Exactness.{IsMaskOver};
 ghost use Rattle.rule_table.specs.Canonical.{firsts, numbers_of, appearing};
@@ -13,10 +13,10 @@ ghost use Rattle.table_audit.specs.Orders.{IsAstray, IsInOrder, AreWithin};
 
 use bit_blast::formula;
 use cnf_gates::{Formula, Memory};
-use rule_table::{Entry, Table};
+use rule_table::{Entry, Table, are_windows};
 use seq_enum::{Pool, number_of, weight};
 use std::alloc::Global;
-use thumb_instr::{Instr, Low, Mask, Seq, in_window, normal, registers_of};
+use thumb_instr::{Instr, Low, Mask, Role, Seq, parts, registers_of, roles};
 
 /// How many registers there are, where those of a list, after r0 up to below r(count), are r0, r1 and so on by first appearance.
 fn ordered(registers: &[Low], count: u32) -> Option<u32>
@@ -50,13 +50,6 @@ fn ordered_names(instrs: &[Instr]) -> Option<u32>
         }
     }
     Some(count)
-}
-
-/// Whether each instruction may stand in a window.
-fn are_windows(instrs: &[Instr]) -> bool
-    ensures { result ≡ list_all is_in_window instrs.now }
-{
-    instrs.iter().all(|instr| in_window(instr))
 }
 
 /// How many registers a side names, where there are instructions, each may stand in a window, and their registers, at most four, are r0, r1
@@ -122,21 +115,51 @@ pub fn sides_fit(table: &Table, entry: &Entry) -> bool
 {
     match names_in_order(&entry.left) {
         None => false,
-        Some(k) => are_within(table, entry, k, alphabet_registers(table, entry)),
+        Some(k) => are_within(table, entry, k, with_scratch(k, table.scratch)),
+    }
+}
+
+/// The least number above the register that a role has, if it is one.
+fn above_by(role: Role, number: u32) -> u64
+    ensures { result ≡ above (named_by role number) }
+{
+    match role {
+        Role::Register(_, _) => u64::from(number) + 1,
+        _ => 0,
+    }
+}
+
+/// The least number above all registers that an instruction names.
+fn above_named(instr: &Instr) -> u64
+    ensures { result ≡ above (named instr.now) }
+{
+    let parts = parts(instr);
+    let roles = roles(parts.kind);
+    let first = above_by(roles.first, parts.first);
+    let second = above_by(roles.second, parts.second);
+    let third = above_by(roles.third, parts.third);
+    first.max(second.max(third))
+}
+
+/// How many registers instructions are over: the least number above all that they name. A side whose registers are r0, r1 and so on names so many.
+pub fn register_count(instrs: &[Instr]) -> u64
+    ensures { result ≡ register_count instrs.now }
+{
+    match instrs {
+        [] => 0,
+        [first, rest @ ..] => above_named(first).max(register_count(rest)),
     }
 }
 
 /// How many registers a side names, where they are r0, r1 and so on by first appearance.
+#[tactic(auto, using(crate::proofs::Names::count_in_order))]
 pub fn named_count(side: &Seq) -> u8
     requires { IsInOrder side.now }
     ensures value { result ≡ named_count side.now }
     ensures some { 0 < result }
     ensures few { result ≤ 4 }
 {
-    match names_in_order(side) {
-        None => unreachable!(),
-        Some(k) => k,
-    }
+    register_count(side.as_slice()) as u8
 }
 
 /// So many registers and, where a header allows one and r0 to r3 have one left, a scratch register.

@@ -275,7 +275,7 @@ module _ (rule : Rule) (window : List Instr) (f : Form) (s : IsSoundRule rule) (
         let mapped = firsts_mapped (length form.registers) (item_under form.registers) (one_to_one form.registers distinct) [] (flat_map named f.side) tt form.below in
         let taken : map (item_under form.registers) (appearing f.side) ≡ numbers_of form.registers = sym mapped ∙ ap (firsts []) (sym names) ∙ sym form.order in
         sym (length-map form.registers (λ r. r.number)) ∙ ap (λ (xs : List ℕ). length xs) (sym taken) ∙ length-map (appearing f.side) (item_under form.registers)
-        ∙ ap (λ (is : List Instr). named_count is) (sym same) ∙ sym (count_same rule.left left)
+        ∙ ap (λ (is : List Instr). named_count is) (sym same) ∙ sym (count_same rule.left left.in_order)
 
     apart_there : IsOneToOne form.registers
     apart_there = record {

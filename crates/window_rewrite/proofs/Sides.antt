@@ -70,7 +70,7 @@ apart registers o x y h k e =
 -- the map's registers are the window's, in order of first appearance
 pub order : (rule : Rule) (registers : List Low) (window : List Instr) → IsSoundRule rule → IsCanonicalSide rule.left → Stands rule registers window → numbers_of registers ≡ appearing (map normal_of window)
 order rule registers window s c h =
-    let count : named_count rule.left ≡ length registers = sym (count_same rule.left c) ∙ sym h.as_many in
+    let count : named_count rule.left ≡ length registers = sym (count_same rule.left c.in_order) ∙ sym h.as_many in
     let below : AreBelow (length registers) (flat_map named rule.left) = subst (λ k. AreBelow k (flat_map named rule.left)) (sym h.as_many) (names_below (register_count rule.left) rule.left s.left) in
     sym (numbers_under registers registers 0 refl)
     ∙ ap (λ n. map (item_under registers) (numbers_from 0 n)) (sym count)

@@ -22,18 +22,8 @@ use listing_parser::Memory;
 use rule_table::{Entry, Family};
 use std::alloc::Global;
 use step_ledger::{Ledger, Steps};
-use table_audit::raised_side;
+use table_audit::{is_hole, raised_side};
 use thumb_instr::{Byte, Instr};
-
-/// Whether an instruction is `movs`, `cmp`, `adds` or `subs` with this number in 8 bits.
-fn is_hole(number: u32, instr: &Instr) -> bool
-    ensures { result ≡ is_hole number instr.now }
-{
-    match instr {
-        Instr::TwoNumber { number: held, .. } => held.number == number,
-        _ => false,
-    }
-}
 
 /// The number that `movs`, `cmp`, `adds` or `subs` has in 8 bits.
 fn byte_of(instr: &Instr) -> Option<Byte>

@@ -14,6 +14,7 @@ use listing_parser::Memory;
 use rule_table::{Entry, same_kind};
 use seq_enum::{Costs, weight};
 use std::alloc::Global;
+use table_audit::register_count;
 use thumb_instr::{Instr, in_window, parts};
 
 /// Whether an entry's right side weighs less than its left side.
@@ -66,13 +67,15 @@ fn are_alike(entry: &Entry, other: &Entry) -> bool
     if entry.right.len() != other.right.len() {
         return false;
     }
-    if !are_same(entry.left.as_slice(), other.left.as_slice()) {
+    let left = entry.left.as_slice();
+    if !are_same(left, other.left.as_slice()) {
         return false;
     }
-    if !needs_scratch(entry) {
+    let named = register_count(left);
+    if !needs_scratch(entry, named) {
         return true;
     }
-    needs_scratch(other)
+    needs_scratch(other, named)
 }
 
 /// Whether an entry is alike to a later one, by their numbers.
