@@ -11,6 +11,7 @@ use Rattle.std.proofs.lemmas.Nat.{mod_below}
 use Rattle.std.proofs.lemmas.List.Folds.{list_all-append}
 use Rattle.std.proofs.lemmas.List.Elements.{All-nil, All-cons, All-head, All-tail, All-append, All-map, All-weaker}
 use Rattle.ascii_scan.specs.FirstLine.{is_inside}
+pub use Rattle.ascii_scan.proofs.EndedLines.{IsInside}
 use Rattle.thumb_instr.specs.Items.{has}
 use Rattle.clause_model.specs.Clauses.{number_of}
 use Rattle.lrat_check.specs.Text.{Content, addition, deletion, IsLine, HasGoodParts, id_of, middle_of, words_of, literal_text, end_word, deletion_word, text_of as text_of_line}
@@ -19,9 +20,6 @@ use Rattle.lrat_check.proofs.Numerals.{hint_fits, literal_fits}
 use Rattle.window_exec.specs.State.{Seen}
 use Rattle.rule_table.specs.Text.{hex_digit, hex_of, after_blanks, named}
 use Rattle.lrat_check.proofs.Texts.{own}
-
-abbrev pub IsInside : List ℕ → Type 0
-IsInside bs = list_all is_inside bs ≡ true
 
 pub inside_both : (xs ys : List ℕ) → IsInside xs → IsInside ys → IsInside (xs ++ ys)
 inside_both xs ys a b = list_all-append is_inside xs ys ∙ and_from (list_all is_inside xs) (list_all is_inside ys) a b

@@ -1,5 +1,5 @@
 -- What has been read of a text, and what comes of it.
-use Rattle.std.proofs.Common.{◌≡◌, ◌∙◌, ℕ, ◌+◌, ◌<◌, ◌≤◌, ◌^◌, ◌==◌, true, false, List, [], ◌∷◌, ◌++◌, length, map, refl, sym, ap, subst, arith, Option, Some, None, append_assoc, append-nil, length-append, inl, inr, true≢false, Ok, Err}
+use Rattle.std.proofs.Common.{◌≡◌, ◌∙◌, ℕ, ◌+◌, ◌<◌, ◌≤◌, ◌^◌, true, false, List, [], ◌∷◌, ◌++◌, length, map, refl, sym, ap, subst, arith, Option, Some, None, append_assoc, append-nil, length-append, inl, inr, true≢false, Ok, Err}
 use Rattle.std.specs.Prelude.{IfSome, IsSome}
 use Rattle.std.specs.Option.{option_and_then}
 use Rattle.std.specs.List.{flat_map, All, concat}
@@ -7,8 +7,10 @@ use Rattle.std.proofs.lemmas.Bool.{cases_Bool}
 use Rattle.std.proofs.lemmas.Option.{same_Some}
 use Rattle.std.proofs.lemmas.List.{map-append, length-map}
 use Rattle.std.proofs.lemmas.List.Elements.{All-nil, All-cons, All-head, All-tail, All-append, All-map, All-push}
-use Rattle.ascii_scan.specs.Lines.{lines_of, onto_first, content_of, is_ended, Placed, placed, placed_from, lines_in, whole}
-use Rattle.ascii_scan.proofs.LineLemmas.{lines_nil, lines_newline, lines_other, lines_join, map-whole, length-lines_in}
+use Rattle.ascii_scan.specs.Refused.{Begins}
+use Rattle.ascii_scan.proofs.Refusals as refusals
+use Rattle.ascii_scan.specs.Lines.{lines_of, content_of, is_ended, Placed, placed, placed_from, lines_in, whole}
+use Rattle.ascii_scan.proofs.LineLemmas.{lines_nil, lines_join, map-whole, length-lines_in}
 use Rattle.seq_enum.specs.Costs.{AreCosts}
 use Rattle.rule_table.specs.declared.header.HeaderLine.{HeaderLine}
 use Rattle.rule_table.specs.declared.header.HeaderLine.TheVariants as head
@@ -20,38 +22,18 @@ use Rattle.rule_table.specs.Grammar.{Stage, Start, Done, step, run}
 use Rattle.rule_table.specs.Steps.{LineFollows, StepsTo}
 use Rattle.rule_table.specs.declared.errors.TableError.TheVariants as error
 use Rattle.rule_table.specs.Views.{table_of}
-use Rattle.rule_table.specs.Refused.{IsText, Begins, Stops, IsRefused}
+use Rattle.rule_table.specs.Refused.{IsText, IsSomeTable, IsRefused}
 use Rattle.rule_table.specs.Reading.{OneTable, NotBoth, RefusedOnce, WrittenReadsBack}
 use Rattle.rule_table.proofs.ReadBack.{run-append, reads}
 use Rattle.rule_table.proofs.Beginnings.{Opens, read_opens, read_whole}
 use Rattle.rule_table.proofs.HexTexts.{same_front}
-use Rattle.rule_table.proofs.InsideLines.{IsInside}
 use Rattle.rule_table.proofs.LinesTell.{line_inside, lines_tell}
-use Rattle.seq_enum.proofs.EndedLines.{open_content, whole_open}
+use Rattle.ascii_scan.proofs.EndedLines.{line_first, content_ended, is_ended_last, open_content, whole_ended, whole_open}
 
 -- ---- lines with their newlines
 
 abbrev pub ended : Item → List ℕ
 ended i = line_of i ++ 10 ∷ []
-
--- a line whose last byte is its only newline
-line_first : (t bs : List ℕ) → IsInside t → lines_of ((t ++ 10 ∷ []) ++ bs) ≡ (t ++ 10 ∷ []) ∷ lines_of bs
-line_first [] bs h = lines_newline 10 bs refl
-line_first (b ∷ t) bs h = elim (cases_Bool (b == 10)) [
-  | inl e ↦ absurd (true≢false (sym (rw e at h)))
-  | inr e ↦ lines_other b ((t ++ 10 ∷ []) ++ bs) e ∙ ap (onto_first b) (line_first t bs (rw e at h))
-]
-
-content_ended : (t : List ℕ) → IsInside t → content_of (t ++ 10 ∷ []) ≡ t
-content_ended [] h = refl
-content_ended (b ∷ t) h = elim (cases_Bool (b == 10)) [
-  | inl e ↦ absurd (true≢false (sym (rw e at h)))
-  | inr e ↦ rw e (ap (λ us. b ∷ us) (content_ended t (rw e at h)))
-]
-
-is_ended_last : (t : List ℕ) → is_ended (t ++ 10 ∷ []) ≡ true
-is_ended_last [] = refl
-is_ended_last (b ∷ t) = elim (cases_Bool (b == 10)) [ inl e ↦ rw e refl | inr e ↦ rw e (is_ended_last t) ]
 
 pub lines_items : (is : List Item) → All IsItem is → lines_of (text_of_items is) ≡ map ended is
 lines_items [] all = lines_nil
@@ -132,10 +114,10 @@ table_lines t is = lines_items (items_of t) (table_all t is)
 
 -- ---- beginnings
 
-pub begins : (is : List Item) → Opens is → Begins (map ended is)
+pub begins : (is : List Item) → Opens is → Begins IsSomeTable (map ended is)
 begins is o = record {
-  table = o.table;
-  valid = o.valid;
+  bytes = text_of o.table;
+  text = record { table = o.table; text = record { valid = o.valid; whole = refl } };
   rest = map ended o.rest;
   whole = table_lines o.table o.valid ∙ ap (map ended) o.whole ∙ map-append ended is o.rest;
 }
@@ -170,23 +152,23 @@ All-behind : (is : List Item) (j : Item) (rest : List Item) → All IsItem (is +
 All-behind [] j rest h = All-head IsItem j rest h
 All-behind (i ∷ is) j rest h = All-behind is j rest (All-tail IsItem i (is ++ j ∷ rest) h)
 
-goes : (is : List Item) (line : List ℕ) → All IsItem is → Begins (map ended is ++ line ∷ []) → Goes is line
-goes is line all b = from (split (items_of b.table) is (line ∷ b.rest) items all e)
+goes : (is : List Item) (line : List ℕ) → All IsItem is → Begins IsSomeTable (map ended is ++ line ∷ []) → Goes is line
+goes is line all b = from (split (items_of b.text.table) is (line ∷ b.rest) items all e)
   where
-    items : All IsItem (items_of b.table)
-    items = table_all b.table b.valid
+    items : All IsItem (items_of b.text.table)
+    items = table_all b.text.table b.text.text.valid
 
-    e : map ended (items_of b.table) ≡ map ended is ++ line ∷ b.rest
-    e = sym (table_lines b.table b.valid) ∙ b.whole ∙ append_assoc (map ended is) (line ∷ []) b.rest
+    e : map ended (items_of b.text.table) ≡ map ended is ++ line ∷ b.rest
+    e = sym (table_lines b.text.table b.text.text.valid) ∙ ap lines_of b.text.text.whole ∙ b.whole ∙ append_assoc (map ended is) (line ∷ []) b.rest
 
-    from : Split (items_of b.table) is (line ∷ b.rest) → Goes is line
+    from : Split (items_of b.text.table) is (line ∷ b.rest) → Goes is line
     from s = by s.rest s.whole s.left
       where
-        by : (rest : List Item) → items_of b.table ≡ is ++ rest → map ended rest ≡ line ∷ b.rest → Goes is line
+        by : (rest : List Item) → items_of b.text.table ≡ is ++ rest → map ended rest ≡ line ∷ b.rest → Goes is line
         by [] w l = cc
         by (j ∷ rest) w l = record {
-          table = b.table;
-          valid = b.valid;
+          table = b.text.table;
+          valid = b.text.text.valid;
           item = j;
           rest = rest;
           is_item = All-behind is j rest (subst (All IsItem) w items);
@@ -220,9 +202,6 @@ next_run is i s e = run-append Start is (i ∷ []) ∙ ap (option_and_then (λ u
     same : (o : Option Stage) → option_and_then (λ v. Some v) o ≡ o
     same None = refl
     same (Some v) = refl
-
-whole_ended : (p : Placed) → p.is_ended ≡ true → whole p ≡ p.text ++ 10 ∷ []
-whole_ended p e = rw e refl
 
 pub more : (bytes : List ℕ) (p : Placed) (left : List Placed) (s t : Stage) (n : ℕ) → Progress bytes (p ∷ left) s n → LineFollows s p t → Progress bytes left t (n + 1)
 more bytes p left s t n g f = record {
@@ -296,8 +275,10 @@ missing bytes s n g undone = record {
   split = g.split';
   count = omega (arith, g.count, length-map g.items ended);
   begins = begins g.items (read_opens g.items s g.all g.ran);
-  stops = λ t is whole.
-      let found = split (items_of t) g.items [] (table_all t is) g.all (sym (table_lines t is) ∙ whole ∙ sym (append-nil (map ended g.items))) in
+  stops = λ other some none.
+      let t = some.table in
+      let is = some.text.valid in
+      let found = split (items_of t) g.items [] (table_all t is) g.all (sym (table_lines t is) ∙ ap lines_of some.text.whole ∙ none ∙ sym (append-nil (map ended g.items))) in
       undone t (same_Some s (Done t) (sym g.ran ∙ ap (run Start) (no_more t found) ∙ reads t is));
 }
   where
@@ -337,42 +318,10 @@ one_table bytes t u a b =
     same_done t u (sym (reads t a.valid) ∙ ap (run Start) items ∙ reads u b.valid)
 
 pub not_both : NotBoth
-not_both bytes t n a r = by r.rest r.split r.stops
-  where
-    lines : lines_of (text_of t) ≡ lines_of bytes
-    lines = ap lines_of a.whole
-
-    by : (rest : List (List ℕ)) → lines_of bytes ≡ r.before ++ rest → Stops r.before rest → ⊥
-    by [] e stops = stops t a.valid (lines ∙ e ∙ append-nil r.before)
-    by (l ∷ rest) e stops = stops (record { table = t; valid = a.valid; rest = rest; whole = lines ∙ e ∙ sym (append_assoc r.before (l ∷ []) rest) })
-
--- what begins a table begins it with fewer lines too
-fewer : (xs ys : List (List ℕ)) → Begins (xs ++ ys) → Begins xs
-fewer xs ys b = record { table = b.table; valid = b.valid; rest = ys ++ b.rest; whole = b.whole ∙ append_assoc xs ys b.rest }
-
--- no table begins with more lines than come before a stop
-no_longer : (seen xs ys us vs : List (List ℕ)) → xs ++ us ≡ ys ++ vs → Stops (seen ++ xs) us → Begins (seen ++ ys) → length ys ≤ length xs
-no_longer seen [] [] us vs e stops b = omega arith
-no_longer seen [] (y ∷ ys) us vs e stops b =
-    let S : List (List ℕ) → Type 0 = λ w. Stops (seen ++ []) w in
-    let never : Begins ((seen ++ []) ++ y ∷ []) → ⊥ = subst S e stops in
-    let one : Begins (seen ++ y ∷ []) = fewer (seen ++ y ∷ []) ys (subst Begins (sym (append_assoc seen (y ∷ []) ys)) b) in
-    absurd (never (subst Begins (ap (λ w. w ++ y ∷ []) (sym (append-nil seen))) one))
-no_longer seen (x ∷ xs) [] us vs e stops b = omega arith
-no_longer seen (x ∷ xs) (y ∷ ys) us vs e stops b =
-    let first : y ≡ x = cc in
-    let tail : xs ++ us ≡ ys ++ vs = cc in
-    let S : List (List ℕ) → Type 0 = λ w. Stops w us in
-    let next = no_longer (seen ++ x ∷ []) xs ys us vs tail (subst S (sym (append_assoc seen (x ∷ []) xs)) stops)
-    (subst Begins (ap (λ w. seen ++ w ∷ ys) first ∙ sym (append_assoc seen (x ∷ []) ys)) b) in
-    omega (arith, next)
+not_both bytes t n a = refusals.not_both IsSomeTable bytes n (record { table = t; text = a })
 
 pub refused_once : RefusedOnce
-refused_once bytes n m a b =
-    let e = sym a.split ∙ b.split in
-    let less = no_longer [] a.before b.before a.rest b.rest e a.stops b.begins in
-    let more = no_longer [] b.before a.before b.rest a.rest (sym e) b.stops a.begins in
-    omega (arith, less, more, a.count, b.count)
+refused_once = refusals.refused_once IsSomeTable
 
 pub written_reads_back : WrittenReadsBack
 written_reads_back t (Ok u) is r = one_table (text_of t) (table_of u) t r (record { valid = is; whole = refl })

@@ -14,7 +14,7 @@ use Rattle.ascii_scan.specs.FirstLine.{is_inside}
 use Rattle.seq_enum.specs.declared.cost_text.Said.{Said}
 use Rattle.seq_enum.specs.Alphabet.{numbers_from}
 use Rattle.seq_enum.specs.Costs.{mnemonics, line_of, IsSaid}
-use Rattle.seq_enum.proofs.EndedLines.{IsInside}
+use Rattle.ascii_scan.proofs.EndedLines.{IsInside}
 use Rattle.common_lemmas.proofs.Lists.{same_bytes as bytes_same}
 
 same_bytes : (xs ys : List ℕ) → xs ≡ ys → bytes_eq xs ys ≡ true

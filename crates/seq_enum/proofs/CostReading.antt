@@ -8,14 +8,16 @@ use Rattle.std.proofs.lemmas.List.{map-append, length-map, get_or-map, get_or-se
 use Rattle.std.proofs.lemmas.Grind.{get_or-set_at, same_number_lists}
 use Rattle.std.proofs.lemmas.Option.{unwrap_or-slice_get}
 use Rattle.std.proofs.lemmas.List.Elements.{All-nil, All-cons, All-head, All-tail, All-map, All-push, All-weaker, All-from_get_or, All-filter}
+use Rattle.ascii_scan.specs.Refused.{Begins}
+use Rattle.ascii_scan.proofs.Refusals as refusals
 use Rattle.ascii_scan.specs.Lines.{lines_of, is_ended, Placed, placed, placed_from, lines_in, whole}
 use Rattle.ascii_scan.proofs.LineLemmas.{lines_join, map-whole}
 use Rattle.seq_enum.specs.declared.cost_text.Said.{Said}
 use Rattle.seq_enum.specs.Alphabet.{numbers_from}
-use Rattle.seq_enum.specs.Costs.{IsSaid, AreSaid, line_of, costs_said, text_lines, text_of, costs_of, IsCostText, Begins, Stops, IsRefusedCosts}
+use Rattle.seq_enum.specs.Costs.{IsSaid, AreSaid, line_of, costs_said, text_lines, text_of, costs_of, IsCostText, IsSomeCosts, IsRefusedCosts}
 use Rattle.seq_enum.specs.CostSteps.{IsHeading, Says, IsNoted}
 use Rattle.seq_enum.specs.ReadingCosts.{OneMeaning, NotBoth, RefusedOnce}
-use Rattle.seq_enum.proofs.EndedLines.{IsInside, ended, lines_ended, ended_tells, is_ended_last, open_content, whole_ended, whole_open}
+use Rattle.ascii_scan.proofs.EndedLines.{IsInside, ended, lines_ended, ended_tells, is_ended_last, open_content, whole_ended, whole_open}
 use Rattle.seq_enum.proofs.CostLines.{line_inside, lines_tell, all_from, length-from}
 
 -- ---- the lines of a text
@@ -38,11 +40,13 @@ text_lines_are said all =
 is_text : (said : List Said) → AreSaid said → IsCostText (text_of said) (costs_of said)
 is_text said are = record { said = said; valid = are; whole = refl; meant = refl }
 
-pub begins : (said : List Said) → AreSaid said → Begins (ended (codes "costs 1") ∷ lines_said said)
+some_text : (said : List Said) → AreSaid said → IsSomeCosts (text_of said)
+some_text said are = record { costs = costs_of said; text = is_text said are }
+
+pub begins : (said : List Said) → AreSaid said → Begins IsSomeCosts (ended (codes "costs 1") ∷ lines_said said)
 begins said are = record {
   bytes = text_of said;
-  costs = costs_of said;
-  text = is_text said are;
+  text = some_text said are;
   rest = [];
   whole = text_lines_are said are.each ∙ sym (append-nil (ended (codes "costs 1") ∷ lines_said said));
 }
@@ -50,8 +54,8 @@ begins said are = record {
 none_said : AreSaid []
 none_said = record { each = All-nil IsSaid; once = λ m. omega arith }
 
-pub begins_empty : Begins []
-begins_empty = record { bytes = text_of []; costs = costs_of []; text = is_text [] none_said; rest = lines_of (text_of []); whole = refl }
+pub begins_empty : Begins IsSomeCosts []
+begins_empty = record { bytes = text_of []; text = some_text [] none_said; rest = lines_of (text_of []); whole = refl }
 
 -- ---- what follows
 
@@ -88,25 +92,25 @@ All-behind : (said : List Said) (s : Said) (rest : List Said) → All IsSaid (sa
 All-behind [] s rest h = All-head IsSaid s rest h
 All-behind (x ∷ said) s rest h = All-behind said s rest (All-tail IsSaid x (said ++ s ∷ rest) h)
 
-goes : (said : List Said) (line : List ℕ) → All IsSaid said → Begins ((ended (codes "costs 1") ∷ lines_said said) ++ line ∷ []) → Goes said line
-goes said line all b = from (split b.text.said said (line ∷ b.rest) b.text.valid.each all e)
+goes : (said : List Said) (line : List ℕ) → All IsSaid said → Begins IsSomeCosts ((ended (codes "costs 1") ∷ lines_said said) ++ line ∷ []) → Goes said line
+goes said line all b = from (split b.text.text.said said (line ∷ b.rest) b.text.text.valid.each all e)
   where
-    lines : ended (codes "costs 1") ∷ lines_said b.text.said ≡ ended (codes "costs 1") ∷ (lines_said said ++ line ∷ b.rest)
-    lines = sym (text_lines_are b.text.said b.text.valid.each) ∙ ap lines_of b.text.whole ∙ b.whole ∙ append_assoc (ended (codes "costs 1") ∷ lines_said said) (line ∷ []) b.rest
+    lines : ended (codes "costs 1") ∷ lines_said b.text.text.said ≡ ended (codes "costs 1") ∷ (lines_said said ++ line ∷ b.rest)
+    lines = sym (text_lines_are b.text.text.said b.text.text.valid.each) ∙ ap lines_of b.text.text.whole ∙ b.whole ∙ append_assoc (ended (codes "costs 1") ∷ lines_said said) (line ∷ []) b.rest
 
-    e : lines_said b.text.said ≡ lines_said said ++ line ∷ b.rest
+    e : lines_said b.text.text.said ≡ lines_said said ++ line ∷ b.rest
     e = same_rest _ _ _ _ lines
 
-    from : Split b.text.said said (line ∷ b.rest) → Goes said line
+    from : Split b.text.text.said said (line ∷ b.rest) → Goes said line
     from s = by s.rest s.whole s.left
       where
-        by : (rest : List Said) → b.text.said ≡ said ++ rest → lines_said rest ≡ line ∷ b.rest → Goes said line
+        by : (rest : List Said) → b.text.text.said ≡ said ++ rest → lines_said rest ≡ line ∷ b.rest → Goes said line
         by [] w l = cc
         by (next ∷ rest) w l = record {
           next = next;
           rest = rest;
-          are = subst AreSaid w b.text.valid;
-          is = All-behind said next rest (subst (All IsSaid) w b.text.valid.each);
+          are = subst AreSaid w b.text.text.valid;
+          is = All-behind said next rest (subst (All IsSaid) w b.text.text.valid.each);
           is_line = cc;
         }
 
@@ -219,7 +223,7 @@ missing_first bytes e = record {
   split = all_lines bytes ∙ ap (map whole) e;
   count = omega arith;
   begins = begins_empty;
-  stops = λ other costs text none. absurd (let bad : ended (codes "costs 1") ∷ lines_said text.said ≡ [] = sym (text_lines_are text.said text.valid.each) ∙ ap lines_of text.whole ∙ none in cc);
+  stops = λ other some none. absurd (let bad : ended (codes "costs 1") ∷ lines_said some.text.said ≡ [] = sym (text_lines_are some.text.said some.text.valid.each) ∙ ap lines_of some.text.whole ∙ none in cc);
 }
 
 pub bad_first : (bytes : List ℕ) (p : Placed) (left : List Placed) → lines_in bytes ≡ p ∷ left → (IsHeading p → ⊥) → IsRefusedCosts bytes 1
@@ -230,7 +234,7 @@ bad_first bytes p left e not_heading = record {
   count = omega arith;
   begins = begins_empty;
   stops = λ b.
-      let lines : ended (codes "costs 1") ∷ lines_said b.text.said ≡ whole p ∷ b.rest = sym (text_lines_are b.text.said b.text.valid.each) ∙ ap lines_of b.text.whole ∙ b.whole in
+      let lines : ended (codes "costs 1") ∷ lines_said b.text.text.said ≡ whole p ∷ b.rest = sym (text_lines_are b.text.text.said b.text.text.valid.each) ∙ ap lines_of b.text.text.whole ∙ b.whole in
       let first : ended (codes "costs 1") ≡ whole p = cc in
       let text = ended_text (codes "costs 1") p left 1 0 (lines_of bytes) (sym e) first in
       not_heading (record { ended = text.0; is = sym text.1 });
@@ -352,36 +356,7 @@ one_meaning bytes costs others a b =
     sym a.meant ∙ ap costs_of (same_lists_said a.said b.said a.valid.each b.valid.each (same_rest _ _ _ _ lines)) ∙ b.meant
 
 pub not_both : NotBoth
-not_both bytes costs n a r = by r.rest r.split r.stops
-  where
-    by : (rest : List (List ℕ)) → lines_of bytes ≡ r.before ++ rest → Stops r.before rest → ⊥
-    by [] e stops = stops bytes costs a (e ∙ append-nil r.before)
-    by (l ∷ rest) e stops = stops (record { bytes = bytes; costs = costs; text = a; rest = rest; whole = e ∙ sym (append_assoc r.before (l ∷ []) rest) })
-
--- what begins a text begins it with fewer lines too
-fewer : (xs ys : List (List ℕ)) → Begins (xs ++ ys) → Begins xs
-fewer xs ys b = record { bytes = b.bytes; costs = b.costs; text = b.text; rest = ys ++ b.rest; whole = b.whole ∙ append_assoc xs ys b.rest }
-
--- no text begins with more lines than come before a stop
-no_longer : (seen xs ys us vs : List (List ℕ)) → xs ++ us ≡ ys ++ vs → Stops (seen ++ xs) us → Begins (seen ++ ys) → length ys ≤ length xs
-no_longer seen [] [] us vs e stops b = omega arith
-no_longer seen [] (y ∷ ys) us vs e stops b =
-    let S : List (List ℕ) → Type 0 = λ w. Stops (seen ++ []) w in
-    let never : Begins ((seen ++ []) ++ y ∷ []) → ⊥ = subst S e stops in
-    let one : Begins (seen ++ y ∷ []) = fewer (seen ++ y ∷ []) ys (subst Begins (sym (append_assoc seen (y ∷ []) ys)) b) in
-    absurd (never (subst Begins (ap (λ w. w ++ y ∷ []) (sym (append-nil seen))) one))
-no_longer seen (x ∷ xs) [] us vs e stops b = omega arith
-no_longer seen (x ∷ xs) (y ∷ ys) us vs e stops b =
-    let first : y ≡ x = cc in
-    let tail : xs ++ us ≡ ys ++ vs = cc in
-    let S : List (List ℕ) → Type 0 = λ w. Stops w us in
-    let next = no_longer (seen ++ x ∷ []) xs ys us vs tail (subst S (sym (append_assoc seen (x ∷ []) xs)) stops)
-    (subst Begins (ap (λ w. seen ++ w ∷ ys) first ∙ sym (append_assoc seen (x ∷ []) ys)) b) in
-    omega (arith, next)
+not_both bytes costs n a = refusals.not_both IsSomeCosts bytes n (record { costs = costs; text = a })
 
 pub refused_once : RefusedOnce
-refused_once bytes n m a b =
-    let e = sym a.split ∙ b.split in
-    let less = no_longer [] a.before b.before a.rest b.rest e a.stops b.begins in
-    let more = no_longer [] b.before a.before b.rest a.rest (sym e) b.stops a.begins in
-    omega (arith, less, more, a.count, b.count)
+refused_once = refusals.refused_once IsSomeCosts

@@ -11,7 +11,7 @@ use Rattle.thumb_instr.specs.declared.operation.Operation.TheVariants as operati
 use Rattle.thumb_instr.specs.declared.operation.Extension.TheVariants as extension
 use Rattle.thumb_instr.specs.declared.operation.Reversal.TheVariants as reversal
 use Rattle.thumb_instr.specs.Parts.{parts_of}
-use Rattle.ascii_scan.specs.Lines.{lines_of}
+use Rattle.ascii_scan.specs.Refused.{IsRefused}
 use Rattle.seq_enum.specs.declared.cost_text.Said.{Said}
 use Rattle.seq_enum.specs.Alphabet.{numbers_from}
 
@@ -123,24 +123,11 @@ pub record IsCostText (bytes costs : List ℕ) : Type 0 where
   pub whole : text_of said ≡ bytes
   pub meant : costs_of said ≡ costs
 
--- some text of costs begins with these lines
-pub record Begins (lines : List (List ℕ)) : Type 0 where
-  pub bytes : List ℕ
+-- the bytes are a text of some costs
+pub record IsSomeCosts (bytes : List ℕ) : Type 0 where
   pub costs : List ℕ
   pub text : IsCostText bytes costs
-  pub rest : List (List ℕ)
-  pub whole : lines_of bytes ≡ lines ++ rest
 
--- after these lines comes none, and they are no whole text; or one with which they begin none, as one that lacks its newline
-abbrev pub Stops : List (List ℕ) → List (List ℕ) → Type 0
-Stops before [] = (bytes costs : List ℕ) → IsCostText bytes costs → lines_of bytes ≡ before → ⊥
-Stops before (line ∷ rest) = Begins (before ++ line ∷ []) → ⊥
-
--- n is the least number such that the first n lines begin no text of costs; where the text ends too early, the number of the line that is missing or cut
-pub record IsRefusedCosts (bytes : List ℕ) (n : ℕ) : Type 0 where
-  pub before : List (List ℕ)
-  pub rest : List (List ℕ)
-  pub split : lines_of bytes ≡ before ++ rest
-  pub count : n ≡ length before + 1
-  pub begins : Begins before
-  pub stops : Stops before rest
+-- no text of costs begins with the first n lines, and some does with those before
+abbrev pub IsRefusedCosts : List ℕ → ℕ → Type 0
+IsRefusedCosts bytes n = IsRefused IsSomeCosts bytes n

@@ -14,7 +14,7 @@ IsInside bytes = list_all is_inside bytes ≡ true
 abbrev pub ended : List ℕ → List ℕ
 ended line = line ++ 10 ∷ []
 
-line_first : (t bs : List ℕ) → IsInside t → lines_of (ended t ++ bs) ≡ ended t ∷ lines_of bs
+pub line_first : (t bs : List ℕ) → IsInside t → lines_of (ended t ++ bs) ≡ ended t ∷ lines_of bs
 line_first [] bs h = lines_newline 10 bs refl
 line_first (b ∷ t) bs h = elim (cases_Bool (b == 10)) [
   | inl e ↦ absurd (true≢false (sym (rw e at h)))
