@@ -49,23 +49,28 @@ module _ (words : List (List ℕ)) (r : Request) (old new : Seen) (before after 
   stands : (q : Request) → AskFor words q → (line : List ℕ) → ComesTo (plan_of q) old (Refuses line) → ComesTo (plan_of r) old (Refuses line)
   stands q a line h = let same : q ≡ r = asks_once words text q r a asks in subst (λ (p : Request). ComesTo (plan_of p) old (Refuses line)) same h
 
-  full_stands : IsRefusedByFull (plan_of r) old → Ran words old new before after status.Refused → IsCarriedOutOrFull before after status.Refused
+  pub unrefused : IsUnrefused (plan_of r) old → Ran words old new before after status.Refused → ⊥
+  unrefused f h = f h.2.line (stands h.0 h.1 h.2.line h.2.outcome)
+
+  pub full_stands : IsRefusedByFull (plan_of r) old → Ran words old new before after status.Refused → IsCarriedOutOrFull before after status.Refused
   full_stands f h = inr (refl, h.2.line, f h.2.line (stands h.0 h.1 h.2.line h.2.outcome), h.2.wrote)
 
-  pub ends : (s : Status) → Peeps words old new before after s → IsUnhindered (plan_of r) old new before after → IsUnrefused (plan_of r) old → IsCarriedOut s
+  -- a run that nothing hinders and that isn't refused was carried out, or memory ran out
+  pub ends : (s : Status) → Peeps words old new before after s → IsUnhindered (plan_of r) old new before after → (Ran words old new before after status.Refused → ⊥) → IsCarriedOut s
   ends status.Done h u f = inl refl
   ends status.Memory h u f = inr refl
-  ends status.Refused h u f = absurd (f h.2.line (stands h.0 h.1 h.2.line h.2.outcome))
+  ends status.Refused h u f = absurd (f h)
   ends status.Usage h u f = absurd (h.0 r asks)
   ends status.StoreFault h u f = absurd (u.store h.2.rose)
   ends status.SinkFault h u f = absurd (u.sink h.2.rose)
   ends status.TooBig h u f = absurd (stopped (λ n. TooBigAt old new n) (not_too_big old new) u h.0 h.1 h.2.stops)
   ends status.Missing h u f = absurd (stopped (λ n. MissedAt old new n) (not_missed old new) u h.0 h.1 h.2.stops)
 
-  pub ends_full : (s : Status) → Peeps words old new before after s → IsUnhindered (plan_of r) old new before after → IsRefusedByFull (plan_of r) old → IsCarriedOutOrFull before after s
+  -- likewise where what is refused is so by a full table alone
+  pub ends_full : (s : Status) → Peeps words old new before after s → IsUnhindered (plan_of r) old new before after → (Ran words old new before after status.Refused → IsCarriedOutOrFull before after status.Refused) → IsCarriedOutOrFull before after s
   ends_full status.Done h u f = inl (inl refl)
   ends_full status.Memory h u f = inl (inr refl)
-  ends_full status.Refused h u f = full_stands f h
+  ends_full status.Refused h u f = f h
   ends_full status.Usage h u f = absurd (h.0 r asks)
   ends_full status.StoreFault h u f = absurd (u.store h.2.rose)
   ends_full status.SinkFault h u f = absurd (u.sink h.2.rose)
@@ -73,7 +78,7 @@ module _ (words : List (List ℕ)) (r : Request) (old new : Seen) (before after 
   ends_full status.Missing h u f = absurd (stopped (λ n. MissedAt old new n) (not_missed old new) u h.0 h.1 h.2.stops)
 
 pub complete : IsComplete
-complete words r old new before after s text asks h u f = ends words r old new before after text asks s h u f
+complete words r old new before after s text asks h u f = ends words r old new before after text asks s h u (unrefused words r old new before after text asks f)
 
 pub complete_but_for_full : IsCompleteButForFull
-complete_but_for_full words r old new before after s text asks h u f = ends_full words r old new before after text asks s h u f
+complete_but_for_full words r old new before after s text asks h u f = ends_full words r old new before after text asks s h u (full_stands words r old new before after text asks f)
