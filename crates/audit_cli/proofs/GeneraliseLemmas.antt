@@ -1,12 +1,10 @@
 -- A family by the solver: what its answers say, and the table with the family.
-use Rattle.std.proofs.Common.{◌≡◌, ◌∙◌, ℕ, ◌+◌, ◌-◌, ◌^◌, ◌<◌, ◌≤◌, ◌⊎◌, ◌==◌, inl, inr, false, List, [], ◌∷◌, ◌++◌, Bool, Option, Some, None, get_or, length, map, max, refl, sym, ap, subst, arith, length-append, option_map}
-use Rattle.std.specs.Prelude.{All, slice_get}
-use Rattle.std.proofs.lemmas.Nat.Bits.{bit_at-lt}
-use Rattle.std.proofs.lemmas.List.{get_or_past, length-map}
+use Rattle.std.proofs.Common.{◌≡◌, ◌∙◌, ℕ, ◌+◌, ◌-◌, ◌<◌, ◌≤◌, false, List, [], ◌∷◌, ◌++◌, Bool, Option, Some, None, get_or, length, map, max, refl, sym, ap, subst, arith, length-append, option_map}
+use Rattle.std.specs.Prelude.{slice_get}
+use Rattle.std.proofs.lemmas.List.{length-map}
 use Rattle.std.proofs.lemmas.List.Elements.{All-append, All-cons, All-nil}
 use Rattle.std.proofs.lemmas.Option.{same_Some, slice_get-map, slice_get_within, get_or_from_slice_get}
-use Rattle.std.proofs.lemmas.Bool.Decides.{leb_tells}
-use Rattle.std.proofs.lemmas.Bool.{le-leb, true≢false, ne_eqb}
+use Rattle.std.proofs.lemmas.Bool.{le-leb, true≢false}
 use Rattle.thumb_instr.specs.declared.instr.Instr.{Instr}
 use Rattle.thumb_model.specs.Effect.{Values, AreWords, Equal}
 use Rattle.window_exec.specs.declared.state.WState.{WState}
@@ -27,7 +25,8 @@ use Rattle.table_audit.specs.Acceptance.{RaisedVerdict, FamilyVerdict, IsAccepte
 use Rattle.table_audit.specs.Families.{entry_of, symbol_of, IsRaisable, raised_formula}
 use Rattle.table_audit.specs.Soundness.{items_in}
 use Rattle.table_audit.proofs.Growing.{family_added}
-use Rattle.table_audit.proofs.Names.{one_has, of_four}
+use Rattle.table_audit.proofs.Names.{one_has}
+use Rattle.table_audit.proofs.Sound.{are_words}
 use Rattle.table_audit.proofs.Raising.{entry_stands}
 use Rattle.table_audit.proofs.Walking.{mask_more, own_within}
 use Rattle.table_learn.specs.Learnt.{IsRefutation}
@@ -37,40 +36,6 @@ use Rattle.audit_cli.specs.declared.refusal.Refusal.TheVariants as refusal
 use Rattle.audit_cli.specs.Generalise.{with_family, HasNone, IsUnraisable, IsRaisableFor, IsGeneralised, DifferAt, IsSpentOn, IsUnraised, differ, spent}
 use Rattle.audit_cli.proofs.VersionLemmas.{header_raised, in_version, verdict}
 use Rattle.rule_model.proofs.Table.{over_wider}
-
--- ---- the words of a state ----
-
-register_value : (s : WState) (x : ℕ) → (x < 15) ⊎ (19 ≤ x) → values_of s x ≡ get_or s.r x 0
-register_value s x h =
-    let n : (x == 15) ≡ false = ne_eqb x 15 (λ e. elim h [ inl l ↦ omega (arith, e, l) | inr l ↦ omega (arith, e, l) ]) in
-    let z : (x == 16) ≡ false = ne_eqb x 16 (λ e. elim h [ inl l ↦ omega (arith, e, l) | inr l ↦ omega (arith, e, l) ]) in
-    let c : (x == 17) ≡ false = ne_eqb x 17 (λ e. elim h [ inl l ↦ omega (arith, e, l) | inr l ↦ omega (arith, e, l) ]) in
-    let v : (x == 18) ≡ false = ne_eqb x 18 (λ e. elim h [ inl l ↦ omega (arith, e, l) | inr l ↦ omega (arith, e, l) ]) in
-    rw (n, z, c, v) refl
-
-small_word : (s : WState) (x : ℕ) → All (λ w. w < 2 ^ 32) s.r → get_or s.r x 0 < 2 ^ 32
-small_word s x small = elim (leb_tells (length s.r) x) [
-  | inl past ↦ (let none : get_or s.r x 0 ≡ 0 = get_or_past s.r x 0 past.1 in omega (arith, none))
-  | inr low ↦ small x 0 low.1
-]
-
-state_holds_words : (s : WState) → length s.r ≡ 4 → All (λ w. w < 2 ^ 32) s.r → AreWords (values_of s)
-state_holds_words s four small = record {
-  register = λ x low. subst (λ n. n < 2 ^ 32) (sym (register_value s x (inl low))) (small_word s x small);
-  flag = λ x high. elim (leb_tells 19 x) [
-    | inl past ↦ (
-        let long : length s.r ≤ x = omega (arith, four, past.1) in
-        let none : get_or s.r x 0 ≡ 0 = get_or_past s.r x 0 long in
-        let is : values_of s x ≡ 0 = register_value s x (inr past.1) ∙ none in
-        omega (arith, is)
-        )
-    | inr low ↦ (
-        let e : 15 + (x - 15) ≡ x = omega arith in
-        let few : x - 15 < 4 = omega (arith, low.1) in
-        subst (λ y. values_of s y < 2) e (of_four (λ y. values_of s (15 + y) < 2) (bit_at-lt s.nzcv 3) (bit_at-lt s.nzcv 2) (bit_at-lt s.nzcv 1) (bit_at-lt s.nzcv 0) (x - 15) few)
-        )
-  ];
-}
 
 -- ---- a model ----
 
@@ -95,7 +60,7 @@ differs t f e k model s value has masks raisable is few holds four same shown =
       byte = told.0;
       same = told.1 ∙ sym value_is;
       within = told.2;
-      words = state_holds_words s four (state_words s (start_values m registers) four start told.3);
+      words = are_words s.r s.nzcv four (state_words s (start_values m registers) four start told.3);
       tells = family_models_give_states e.left e.right (symbol_of f) e.mask registers low left has.right masks mask small m holds told.0 told.1 (values_of s) start;
     }
 

@@ -9,7 +9,7 @@ use Rattle.thumb_instr.specs.declared.instr.Instr.{Instr}
 use Rattle.thumb_model.specs.Effect.{AreWords, one_of, Equal, AreOver, register_count}
 use Rattle.rule_model.specs.Rules.{IsSoundRule, rule_registers}
 use Rattle.rule_model.proofs.Alone.{count_over}
-use Rattle.window_exec.specs.State.{Seen}
+use Rattle.window_exec.specs.State.{Seen, values_by}
 use Rattle.bit_blast.specs.Slots.{filled, instance}
 use Rattle.bit_blast.specs.Exactness.{IsMask, HasNoModel, AreEqual, AreEqualForAll}
 use Rattle.bit_blast.proofs.Exact.{no_model_is_equal}
@@ -38,34 +38,34 @@ use Rattle.rule_model.proofs.Table.{over_wider}
 
 -- ---- the words of listed states ----
 
-register_value : (s : Seen) (x : ℕ) → (x < 15) ⊎ (19 ≤ x) → values_in s x ≡ get_or s.r x 0
-register_value s x h =
+register_value : (rs : List ℕ) (nzcv x : ℕ) → (x < 15) ⊎ (19 ≤ x) → values_by rs nzcv x ≡ get_or rs x 0
+register_value rs nzcv x h =
     let n : (x == 15) ≡ false = ne_eqb x 15 (λ e. elim h [ inl l ↦ omega (arith, e, l) | inr l ↦ omega (arith, e, l) ]) in
     let z : (x == 16) ≡ false = ne_eqb x 16 (λ e. elim h [ inl l ↦ omega (arith, e, l) | inr l ↦ omega (arith, e, l) ]) in
     let c : (x == 17) ≡ false = ne_eqb x 17 (λ e. elim h [ inl l ↦ omega (arith, e, l) | inr l ↦ omega (arith, e, l) ]) in
     let v : (x == 18) ≡ false = ne_eqb x 18 (λ e. elim h [ inl l ↦ omega (arith, e, l) | inr l ↦ omega (arith, e, l) ]) in
     rw (n, z, c, v) refl
 
-small_word : (s : Seen) (x : ℕ) → IsState s → get_or s.r x 0 < 2 ^ 32
-small_word s x valid = elim (leb_tells (length s.r) x) [
-  | inl past ↦ (let none : get_or s.r x 0 ≡ 0 = get_or_past s.r x 0 past.1 in omega (arith, none))
-  | inr low ↦ valid.words x 0 low.1
+small_word : (rs : List ℕ) (x : ℕ) → All (λ w. w < 2 ^ 32) rs → get_or rs x 0 < 2 ^ 32
+small_word rs x small = elim (leb_tells (length rs) x) [
+  | inl past ↦ (let none : get_or rs x 0 ≡ 0 = get_or_past rs x 0 past.1 in omega (arith, none))
+  | inr low ↦ small x 0 low.1
 ]
 
-are_words : (s : Seen) → IsState s → AreWords (values_in s)
-are_words s valid = record {
-  register = λ x low. subst (λ n. n < 2 ^ 32) (sym (register_value s x (inl low))) (small_word s x valid);
+pub are_words : (rs : List ℕ) (nzcv : ℕ) → length rs ≡ 4 → All (λ w. w < 2 ^ 32) rs → AreWords (values_by rs nzcv)
+are_words rs nzcv four small = record {
+  register = λ x low. subst (λ n. n < 2 ^ 32) (sym (register_value rs nzcv x (inl low))) (small_word rs x small);
   flag = λ x high. elim (leb_tells 19 x) [
     | inl past ↦ (
-        let long : length s.r ≤ x = omega (arith, valid.four, past.1) in
-        let none : get_or s.r x 0 ≡ 0 = get_or_past s.r x 0 long in
-        let is : values_in s x ≡ 0 = register_value s x (inr past.1) ∙ none in
+        let long : length rs ≤ x = omega (arith, four, past.1) in
+        let none : get_or rs x 0 ≡ 0 = get_or_past rs x 0 long in
+        let is : values_by rs nzcv x ≡ 0 = register_value rs nzcv x (inr past.1) ∙ none in
         omega (arith, is)
         )
     | inr low ↦ (
         let e : 15 + (x - 15) ≡ x = omega arith in
         let few : x - 15 < 4 = omega (arith, low.1) in
-        subst (λ y. values_in s y < 2) e (of_four (λ y. values_in s (15 + y) < 2) (bit_at-lt s.nzcv 3) (bit_at-lt s.nzcv 2) (bit_at-lt s.nzcv 1) (bit_at-lt s.nzcv 0) (x - 15) few)
+        subst (λ y. values_by rs nzcv y < 2) e (of_four (λ y. values_by rs nzcv (15 + y) < 2) (bit_at-lt nzcv 3) (bit_at-lt nzcv 2) (bit_at-lt nzcv 1) (bit_at-lt nzcv 0) (x - 15) few)
         )
   ];
 }
@@ -89,7 +89,7 @@ told_differs states left seq mask valid masks told same =
     let s = told.1 in
     let state : IsState s = subst IsState told.3 (valid told.0 s told.2) in
     let differ = told.4 in
-    differ.2 (same (values_in s) (are_words s state) differ.0 (one_has mask differ.0 differ.1 (masks differ.0 differ.1)))
+    differ.2 (same (values_in s) (are_words s.r s.nzcv state.four state.words) differ.0 (one_has mask differ.0 differ.1 (masks differ.0 differ.1)))
 
 mask_over : (t : Table) (k : ℕ) (e : Rule) → k ≡ named_count e.left → HasFormula t.header e → (x : ℕ) → one_of x (items_in e.mask) ≡ true → (x < k) ⊎ ((15 ≤ x) × (x < 19))
 mask_over t k e is f x h =

@@ -1,5 +1,5 @@
 -- Sides of entries, and what is shorter than the left one.
-use Rattle.std.specs.Prelude.{◌≡◌, ◌≤◌, ◌+◌, ℕ, List, length, map, min, ◌<◌, ◌==◌, ◌&&◌, Bool, Any, Option, Some, None, filter, nat_le, nat_lt, slice_get, slice_index, if◌then◌else◌}
+use Rattle.std.specs.Prelude.{◌≡◌, ◌≤◌, ◌+◌, ℕ, List, length, map, min, ◌<◌, ◌==◌, ◌&&◌, Bool, Any, Option, Some, None, filter, nat_le, nat_lt, slice_get, if◌then◌else◌}
 use Rattle.thumb_instr.specs.declared.instr.Instr.{Instr}
 use Rattle.thumb_instr.specs.Window.{normal_of}
 use Rattle.seq_enum.specs.Alphabet.{numbers_from, IsOver, alphabet, words, sequences}
@@ -12,9 +12,8 @@ use Rattle.rule_table.specs.Header.{Header}
 use Rattle.rule_table.specs.Table.{Rule, Table, Opened}
 use Rattle.std.specs.Option.{option_and_then}
 use Rattle.std.specs.List.{flat_map, list_any}
-use Rattle.std.specs.Int.{bit_at}
-use Rattle.thumb_model.specs.Effect.{Values, n_flag, z_flag, c_flag, v_flag}
-use Rattle.window_exec.specs.State.{Tells, Seen}
+use Rattle.thumb_model.specs.Effect.{Values}
+use Rattle.window_exec.specs.State.{Tells, Seen, values_by}
 
 -- The sides that an entry of a table may have.
 
@@ -94,14 +93,9 @@ lighter_at costs k pool left side number = option_and_then (if_below costs left 
 abbrev pub below_at : Header → (left side : List Instr) → ℕ → Option (List Instr)
 below_at h left side number = lighter_at h.costs (alphabet_registers h left) h.pool left side number
 
--- r0 to r3 and the flags of a state, with N as 8, Z as 4, C as 2 and V as 1
+-- what a state that a table lists holds
 abbrev pub values_in : Seen → Values
-values_in s = λ x.
-    if x == n_flag then bit_at s.nzcv 3
-    else if x == z_flag then bit_at s.nzcv 2
-    else if x == c_flag then bit_at s.nzcv 1
-    else if x == v_flag then bit_at s.nzcv 0
-    else slice_index s.r x
+values_in s = values_by s.r s.nzcv
 
 -- some state tells the two sequences apart under a mask
 abbrev pub IsTold : List Seen → List Instr → List Instr → ℕ → Type 0

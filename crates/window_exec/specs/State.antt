@@ -13,16 +13,20 @@ pub record Seen : Type 0 where
   pub r : List ℕ
   pub nzcv : ℕ
 
--- What a state of a window holds, item by item.
+-- What states hold, item by item.
 
--- r0 to r3, and the flags N, Z, C, V as bits 3 to 0; every other item is 0
+-- registers from r0 on, and the flags N, Z, C, V as bits 3 to 0; every other item is 0
+abbrev pub values_by : List ℕ → ℕ → Values
+values_by registers nzcv = λ x.
+    if x == n_flag then bit_at nzcv 3
+    else if x == z_flag then bit_at nzcv 2
+    else if x == c_flag then bit_at nzcv 1
+    else if x == v_flag then bit_at nzcv 0
+    else slice_index registers x
+
+-- what a state of a window holds
 abbrev pub values_of : WState → Values
-values_of s = λ x.
-    if x == n_flag then bit_at s.nzcv 3
-    else if x == z_flag then bit_at s.nzcv 2
-    else if x == c_flag then bit_at s.nzcv 1
-    else if x == v_flag then bit_at s.nzcv 0
-    else slice_index s.r x
+values_of s = values_by s.r s.nzcv
 
 -- what a state holds
 abbrev pub seen : WState → Seen
