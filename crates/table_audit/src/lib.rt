@@ -16,7 +16,11 @@ mod widths;
 
 pub use audited::Audited;
 pub use errors::{AuditError, EntryFault, FamilyKind};
-pub use families::{entry_at, entry_of, family_at, family_formula, is_hole, is_raisable, raised_side};
-pub use sides::{alphabet_registers, entry_formula, named_count, register_count, sides_fit, with_scratch};
+pub use families::{
+    entry_at, entry_of, family_at, family_formula, is_hole, is_raisable, raised_side,
+};
+pub use sides::{
+    alphabet_registers, entry_formula, named_count, register_count, sides_fit, with_scratch,
+};
 pub use verdict::audit;
 pub use widths::{WIDEST, below_at, count_shorter, width};

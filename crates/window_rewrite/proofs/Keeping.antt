@@ -8,7 +8,7 @@ use Rattle.rule_model.specs.Rules.{Rule}
 use Rattle.window_rewrite.specs.declared.shadows.KeptEntries.{KeptEntries}
 use Rattle.window_rewrite.specs.Rules.{is_marked, is_lighter, is_true, AreKept, IsLed}
 use Rattle.window_rewrite.proofs.Heads.{marked_here, marked_still}
-use Rattle.window_rewrite.proofs.Keys.{set_here, set_other, some_head}
+use Rattle.window_rewrite.proofs.Keys.{get_set, set_other, some_head}
 
 -- how many rules may still be looked at, from the last one down
 abbrev pub up_to : Option ℕ → ℕ
@@ -64,7 +64,7 @@ more_kept costs rules n shared rule old new o at within small light x was kept l
       let there : slice_get (slice_set old.lasts.items shared (Some n)) q ≡ Some (Some j) = ap (λ (l : List (Option ℕ)). slice_get l q) (sym lasts) ∙ e in
       elim (cases_eq shared q) [
         | inl same ↦ (
-            let is : j ≡ n = number_head j n (some_head (Some j) (Some n) (sym there ∙ ap (slice_get (slice_set old.lasts.items shared (Some n))) (sym same) ∙ set_here old.lasts.items shared (Some n) (omega (arith, small, x.many_lasts)))) in
+            let is : j ≡ n = number_head j n (some_head (Some j) (Some n) (sym there ∙ ap (slice_get (slice_set old.lasts.items shared (Some n))) (sym same) ∙ get_set old.lasts.items shared (Some n) (omega (arith, small, x.many_lasts)))) in
             (omega arith, ap (is_marked new.kept.items) is ∙ here)
             )
         | inr other ↦ (let w = x.lasts q j (sym (set_other old.lasts.items shared q (Some n) other) ∙ there) in let l = w.0 in (omega arith, still j w.1))
@@ -73,7 +73,7 @@ more_kept costs rules n shared rule old new o at within small light x was kept l
       let there : slice_get (slice_set old.earlier.items n o) q ≡ Some (Some j) = ap (λ (l : List (Option ℕ)). slice_get l q) (sym earlier) ∙ e in
       elim (cases_eq n q) [
         | inl same ↦ (
-            let is : o ≡ Some j = some_head o (Some j) (sym (set_here old.earlier.items n o (omega (arith, within, x.many_earlier))) ∙ ap (slice_get (slice_set old.earlier.items n o)) same ∙ there) in
+            let is : o ≡ Some j = some_head o (Some j) (sym (get_set old.earlier.items n o (omega (arith, within, x.many_earlier))) ∙ ap (slice_get (slice_set old.earlier.items n o)) same ∙ there) in
             let w = x.lasts shared j (was ∙ ap Some is) in
             let l = w.0 in
             (omega arith, still j w.1)

@@ -15,7 +15,7 @@ use Rattle.window_rewrite.specs.declared.chains.Chains.{Chains}
 use Rattle.window_rewrite.specs.Fitting.{Lightens}
 use Rattle.window_rewrite.specs.Choices.{Awaits}
 use Rattle.liveness.proofs.Jumps.{same_target as number_head}
-pub use Rattle.rule_table.proofs.BindingLemmas.{set_here}
+pub use Rattle.common_lemmas.proofs.Lists.{get_set}
 
 -- ---- the rules with some number ----
 
@@ -168,7 +168,7 @@ firsts_more forms kept n own old new at here room e was form first g =
     elim (cases_Bool (own == form)) [
       | inl h ↦ (
           let same : own ≡ form = eqb-true own form h in
-          let put_in : first ≡ Some n = some_head first (Some n) (sym g ∙ ap (λ (xs : List (Option ℕ)). slice_get xs form) e ∙ ap (slice_get (slice_set old own (Some n))) (sym same) ∙ set_here old own (Some n) room) in
+          let put_in : first ≡ Some n = some_head first (Some n) (sym g ∙ ap (λ (xs : List (Option ℕ)). slice_get xs form) e ∙ ap (slice_get (slice_set old own (Some n))) (sym same) ∙ get_set old own (Some n) room) in
           put_in ∙ sym (put true h)
           )
       | inr h ↦ was form first (sym (set_other old own form (Some n) (differ h)) ∙ ap (λ (xs : List (Option ℕ)). slice_get xs form) (sym e) ∙ g) ∙ sym (put false h)
@@ -190,7 +190,7 @@ nexts_more forms kept nexts more n own o within at e is h k form next l f here g
   | inl m ↦ h k form next (omega arith) f here (sym (set_other nexts n k o (λ s. omega arith)) ∙ ap (λ (xs : List (Option ℕ)). slice_get xs k) (sym e) ∙ g)
   | inr m ↦ (
       let same : k ≡ n = omega arith in
-      let put : next ≡ o = some_head next o (sym g ∙ ap (λ (xs : List (Option ℕ)). slice_get xs k) e ∙ ap (slice_get (slice_set nexts n o)) same ∙ set_here nexts n o within) in
+      let put : next ≡ o = some_head next o (sym g ∙ ap (λ (xs : List (Option ℕ)). slice_get xs k) e ∙ ap (slice_get (slice_set nexts n o)) same ∙ get_set nexts n o within) in
       let form_is : form ≡ own = number_head form own (sym f ∙ ap (slice_get forms) same ∙ at) in
       put ∙ is ∙ ap (λ m. first_with kept m (n + 1) (drop (n + 1) forms)) (sym form_is) ∙ ap (λ m. first_with kept form (m + 1) (drop (m + 1) forms)) (sym same)
       )
