@@ -5,3 +5,4 @@ pub mod Numeral
 pub mod Names
 pub mod Tokens
 pub mod Seen
+pub mod Refused

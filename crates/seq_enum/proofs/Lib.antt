@@ -7,7 +7,6 @@ pub mod Mnemonics
 pub mod Words
 pub mod Steps
 pub mod Starts
-pub mod EndedLines
 pub mod CostLines
 pub mod CostReading
 pub mod Weighing
