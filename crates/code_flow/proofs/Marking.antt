@@ -1,34 +1,34 @@
 -- Marking the code points.
-use Rattle.std.proofs.Common.{◌≡◌, ◌≢◌, ℕ, zero, suc, ◌+◌, ◌<◌, ◌==◌, ◌&&◌, ◌||◌, Bool, true, false, List, [], ◌∷◌, ◌++◌, length, drop, drop-cons, map, get_or, replicate, if◌then◌else◌, eq-eqb, ne_eqb, refl, sym, ap, ◌∙◌, inl, inr, arith, add-one, length-append}
+use Rattle.std.proofs.Common.{◌≡◌, ℕ, zero, suc, ◌+◌, ◌<◌, ◌==◌, ◌&&◌, ◌||◌, Bool, true, false, List, [], ◌∷◌, ◌++◌, length, map, if◌then◌else◌, eq-eqb, ne_eqb, refl, sym, ap, ◌∙◌, inl, inr, arith, length-append}
 use Rattle.std.specs.Prelude.{slice_get, slice_set}
 use Rattle.std.proofs.lemmas.Bool.{cases_eq}
-use Rattle.listing_parser.specs.declared.line.ListingLine.{ListingLine as Lines}
-use Rattle.listing_parser.specs.Views.{line_view}
 use Rattle.thumb_instr.proofs.Listed.{one_of_append}
 use Rattle.thumb_model.specs.Effect.{one_of}
 use Rattle.thumb_model.specs.Listing.{Name, Value, Place, Word, Statement, Nothing, Instruction, Words, Aligns, Sets, Label, ListingLine, Code, is_op_place, is_call_instr, labels_at, labels_from, places_in, places_of, label_places, return_places}
-use Rattle.code_flow.specs.Points.{is_true, marked, some_name, is_call_statement, HasPoints}
+use Rattle.kept_places.specs.Marks.{marked}
+use Rattle.kept_places.proofs.Ranks.{marked_set, marked_other}
+use Rattle.std.proofs.lemmas.Option.{same_Some}
+use Rattle.code_flow.specs.Points.{some_name, is_call_statement, HasPoints}
 use Rattle.common_lemmas.proofs.Booleans.{or_false, or_true, or_assoc}
 
 -- ---- one mark ----
 
-pub set_here : (marks : List Bool) (p : ℕ) (b : Bool) → p < length marks → marked (slice_set marks p b) p ≡ b
-set_here [] p b h = absurd (omega arith)
-set_here (m ∷ ms) zero b h = refl
-set_here (m ∷ ms) (suc p) b h = set_here ms p b (omega arith)
+-- a mark that is read
+pub marked_is : (marks : List Bool) (q : ℕ) (b : Bool) → slice_get marks q ≡ Some b → marked marks q ≡ b
+marked_is [] q b e = absurd (cc)
+marked_is (m ∷ ms) zero b e = same_Some m b e
+marked_is (m ∷ ms) (suc q) b e = marked_is ms q b e
 
-pub set_else : (marks : List Bool) (p q : ℕ) (b : Bool) → q ≢ p → marked (slice_set marks p b) q ≡ marked marks q
-set_else [] p q b d = refl
-set_else (m ∷ ms) zero zero b d = absurd (d refl)
-set_else (m ∷ ms) zero (suc q) b d = refl
-set_else (m ∷ ms) (suc p) zero b d = refl
-set_else (m ∷ ms) (suc p) (suc q) b d = set_else ms p q b (λ e. d (ap suc e))
+pub marked_there : (marks : List Bool) (q : ℕ) → marked marks q ≡ true → slice_get marks q ≡ Some true
+marked_there [] q h = absurd (cc)
+marked_there (m ∷ ms) zero h = ap Some h
+marked_there (m ∷ ms) (suc q) h = marked_there ms q h
 
 -- marking a place marks it alone
 pub marks_one : (marks : List Bool) (p q : ℕ) → p < length marks → marked (slice_set marks p true) q ≡ (marked marks q || (q == p))
 marks_one marks p q h = elim (cases_eq q p) [
-  | inl e ↦ ap (marked (slice_set marks p true)) e ∙ set_here marks p true h ∙ sym (ap (λ t. marked marks q || t) (eq-eqb q p e) ∙ or_true (marked marks q))
-  | inr d ↦ set_else marks p q true d ∙ sym (ap (λ t. marked marks q || t) (ne_eqb q p d) ∙ or_false (marked marks q))
+  | inl e ↦ ap (marked (slice_set marks p true)) e ∙ marked_set marks p true h ∙ sym (ap (λ t. marked marks q || t) (eq-eqb q p e) ∙ or_true (marked marks q))
+  | inr d ↦ marked_other marks p q true d ∙ sym (ap (λ t. marked marks q || t) (ne_eqb q p d) ∙ or_false (marked marks q))
 ]
 
 -- ---- labels ----
@@ -98,16 +98,10 @@ line_step old labelled new places q p n l ls k e f =
 
 -- ---- all ----
 
--- at first no place is marked
-pub none_marked : (n q : ℕ) → marked (replicate n false) q ≡ false
-none_marked zero q = refl
-none_marked (suc n) zero = refl
-none_marked (suc n) (suc q) = none_marked n q
-
 -- what marks labels and returns alone marks the code points
 pub points_marked : (code : Code) (marks : List Bool) → ((q : ℕ) → marked marks q ≡ (one_of q (label_places code.places code.labels) || one_of q (return_places 0 code.places))) → HasPoints code marks
 points_marked code marks h q b e =
-    let is : b ≡ one_of q (label_places code.places code.labels ++ return_places 0 code.places) = sym (ap is_true e) ∙ h q ∙ sym (one_of_append q (label_places code.places code.labels) (return_places 0 code.places)) in
+    let is : b ≡ one_of q (label_places code.places code.labels ++ return_places 0 code.places) = sym (marked_is marks q b e) ∙ h q ∙ sym (one_of_append q (label_places code.places code.labels) (return_places 0 code.places)) in
     (λ t. sym is ∙ t, λ t. is ∙ t)
 
 pub places_next : (p n : ℕ) (l : ListingLine) (ls : List ListingLine) → n ≡ length (places_in l.statement) → p + n + length (places_of ls) ≡ p + length (places_of (l ∷ ls))

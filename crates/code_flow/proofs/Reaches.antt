@@ -13,10 +13,11 @@ use Rattle.code_flow.specs.declared.way.Way.{Way}
 use Rattle.code_flow.specs.declared.reaching.Reaching.{Reaching}
 use Rattle.code_flow.specs.Flow.{next_of, AreWays}
 use Rattle.code_flow.specs.Marks.{AreMarks}
-use Rattle.code_flow.specs.Points.{is_true, marked}
+use Rattle.kept_places.specs.Marks.{marked}
 use Rattle.code_flow.specs.Reached.{Reached, point, along}
 use Rattle.code_flow.specs.Reaching.{unmarked, left, GoesTo, IsFollowed, HasAllPoints, IsReaching, MarksMore}
-use Rattle.code_flow.proofs.Marking.{marks_one, none_marked}
+use Rattle.kept_places.proofs.Ranks.{unmarked as none_marked}
+use Rattle.code_flow.proofs.Marking.{marks_one, marked_is}
 
 -- ---- truths ----
 
@@ -58,11 +59,6 @@ one_less (true ∷ ms) zero h f = absurd (cc)
 one_less (false ∷ ms) zero h f = refl
 one_less (true ∷ ms) (suc p) h f = one_less ms p (omega arith) f
 one_less (false ∷ ms) (suc p) h f = let r = one_less ms p (omega arith) f in omega arith
-
-pub marked_within : (ms : List Bool) (q : ℕ) → marked ms q ≡ true → q < length ms
-marked_within [] q h = absurd (cc)
-marked_within (m ∷ ms) zero h = omega arith
-marked_within (m ∷ ms) (suc q) h = let r = marked_within ms q h in omega arith
 
 -- ---- one place ----
 
@@ -274,8 +270,8 @@ pub marks_reached : (code : Code) (r : Reaching) → IsReaching code [] r → Ha
 marks_reached code r a points none = record {
   len = a.len;
   says = λ p mark e. (
-    λ t. a.sound p (ap is_true e ∙ t),
-    λ t. sym (ap is_true e) ∙ complete code r a points none p t (marked_some r.marks.items p mark e),
+    λ t. a.sound p (marked_is r.marks.items p mark e ∙ t),
+    λ t. sym (marked_is r.marks.items p mark e) ∙ complete code r a points none p t (marked_some r.marks.items p mark e),
   );
 }
   where

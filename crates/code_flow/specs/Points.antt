@@ -1,14 +1,6 @@
 -- Marks of the code points.
-use Rattle.std.specs.Prelude.{◌≡◌, ℕ, Bool, true, false, List, [], ◌∷◌, Option, Some, None, slice_get, ◌↔◌}
+use Rattle.std.specs.Prelude.{◌≡◌, ℕ, Bool, true, false, List, [], ◌∷◌, Some, slice_get, ◌↔◌}
 use Rattle.thumb_model.specs.Listing.{Name, Code, Statement, Nothing, Instruction, Words, Aligns, Sets, is_call_instr, IsPoint}
-
--- whether the place is marked
-abbrev pub is_true : Option Bool → Bool
-is_true None = false
-is_true (Some b) = b
-
-abbrev pub marked : List Bool → ℕ → Bool
-marked marks q = is_true (slice_get marks q)
 
 -- whether there is a name
 abbrev pub some_name : List Name → Bool

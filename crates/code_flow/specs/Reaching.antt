@@ -6,7 +6,7 @@ use Rattle.thumb_model.specs.Flow.{Way, ways, Follows}
 use Rattle.code_flow.specs.declared.way.Next.{Next}
 use Rattle.code_flow.specs.declared.way.Next.TheVariants.{Place, Points, Out}
 use Rattle.code_flow.specs.declared.reaching.Reaching.{Reaching}
-use Rattle.code_flow.specs.Points.{marked}
+use Rattle.kept_places.specs.Marks.{marked}
 use Rattle.code_flow.specs.Reached.{Reached}
 
 -- a way that names a place goes there

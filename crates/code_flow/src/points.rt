@@ -3,7 +3,8 @@ ghost use Rattle.std.specs.Prelude.{◌≡◌, ℕ, ◌+◌, ◌<◌, ◌==◌, 
 ghost use Rattle.thumb_model.specs.Effect.{one_of};
 ghost use Rattle.thumb_model.specs.Listing.{code_of, is_op_place, label_places, labels_from, places_of, return_places};
 ghost use Rattle.listing_parser.specs.Views.{line_view, statement_view};
-ghost use Rattle.code_flow.specs.Points.{HasPoints, is_call_statement, marked, some_name};
+ghost use Rattle.kept_places.specs.Marks.{marked};
+ghost use Rattle.code_flow.specs.Points.{HasPoints, is_call_statement, some_name};
 
 use listing_parser::{Listing, ListingLine, Statement, is_call};
 use std::alloc::{AllocError, Global};

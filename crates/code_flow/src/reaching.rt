@@ -2,7 +2,7 @@
 ghost use Rattle.std.specs.Prelude.{[], ◌∷◌, ◌≡◌, ℕ, ◌+◌, ◌<◌, ◌≤◌, true, List, length, IfOk, OnOk};
 ghost use Rattle.thumb_model.specs.Listing.{Code, code_of, places_of};
 ghost use Rattle.code_flow.specs.Marks.{AreMarks};
-ghost use Rattle.code_flow.specs.Points.{marked};
+ghost use Rattle.kept_places.specs.Marks.{marked};
 ghost use Rattle.code_flow.specs.Reached.{Reached as IsReached};
 ghost use Rattle.code_flow.specs.Reaching.{left, GoesTo, HasAllPoints, IsReaching, MarksMore};
 

@@ -1,5 +1,5 @@
 -- The walk that clears, against the law of marks.
-use Rattle.std.proofs.Common.{◌≡◌, ◌≢◌, ℕ, zero, suc, ◌+◌, ◌<◌, ◌≤◌, ◌==◌, ◌&&◌, ◌||◌, not, Bool, true, false, List, [], ◌∷◌, ◌++◌, length, Option, Some, None, refl, sym, ap, ◌∙◌, subst, ◌⊎◌, inl, inr, arith, ◌↔◌, eqb-true}
+use Rattle.std.proofs.Common.{◌≡◌, ◌≢◌, ℕ, zero, suc, ◌+◌, ◌<◌, ◌≤◌, ◌==◌, ◌&&◌, ◌||◌, not, Bool, true, false, List, [], ◌∷◌, ◌++◌, length, Option, Some, refl, sym, ap, ◌∙◌, subst, ◌⊎◌, inl, inr, arith, ◌↔◌, eqb-true}
 use Rattle.std.specs.Prelude.{slice_get}
 use Rattle.std.proofs.lemmas.Bool.{or_cases, not-true, and_parts, and_from, not_from_false}
 use Rattle.thumb_instr.specs.declared.items.Items.{Items}
@@ -15,7 +15,9 @@ use Rattle.code_flow.specs.declared.way.Ways.{Ways}
 use Rattle.code_flow.specs.Flow.{AreWays}
 use Rattle.liveness.specs.declared.graph.Graph.{Graph}
 use Rattle.liveness.specs.Live.{set_at}
-use Rattle.code_flow.specs.Points.{marked, is_true, HasPoints}
+use Rattle.kept_places.specs.Marks.{marked}
+use Rattle.code_flow.specs.Points.{HasPoints}
+use Rattle.code_flow.proofs.Marking.{marked_is, marked_there}
 use Rattle.liveness.specs.Graph.{ways_at}
 use Rattle.liveness.specs.declared.counted.PointSets.{PointSets}
 use Rattle.liveness.specs.declared.walk.Walk.{Walk}
@@ -41,15 +43,11 @@ point_marked code marks q h l i = go (slice_get marks q) refl (there marks q l)
     there (m ∷ ms) zero l = (m, refl)
     there (m ∷ ms) (suc q) l = there ms q (omega arith)
 
-    go : (o : Option Bool) → slice_get marks q ≡ o → (b : Bool) × (slice_get marks q ≡ Some b) → is_true (slice_get marks q) ≡ true
-    go o e t = ap is_true t.1 ∙ (h q t.0 t.1).1 i
+    go : (o : Option Bool) → slice_get marks q ≡ o → (b : Bool) × (slice_get marks q ≡ Some b) → marked marks q ≡ true
+    go o e t = marked_is marks q t.0 t.1 ∙ (h q t.0 t.1).1 i
 
 pub marked_point : (code : Code) (marks : List Bool) (q : ℕ) → HasPoints code marks → marked marks q ≡ true → IsPoint code q
-marked_point code marks q h m = go (slice_get marks q) refl m
-  where
-    go : (o : Option Bool) → slice_get marks q ≡ o → is_true o ≡ true → IsPoint code q
-    go None e t = absurd (cc)
-    go (Some b) e t = (h q b e).0 t
+marked_point code marks q h m = (h q true (marked_there marks q m)).0 refl
 
 -- ---- one step ----
 

@@ -8,7 +8,7 @@ use Rattle.thumb_instr.specs.declared.items.Items.{Items}
 use Rattle.thumb_instr.specs.Items.{has}
 use Rattle.thumb_instr.proofs.Bits.{has_none}
 use Rattle.liveness.specs.Live.{word_of, set_at}
-use Rattle.code_flow.specs.Points.{marked}
+use Rattle.kept_places.specs.Marks.{marked}
 use Rattle.liveness.specs.declared.counted.PointSets.{PointSets}
 use Rattle.liveness.specs.Counted.{points_with, AreCounted}
 pub use Rattle.liveness.proofs.Settles.{nothing_at}

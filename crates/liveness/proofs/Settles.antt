@@ -10,7 +10,7 @@ use Rattle.code_flow.specs.Flow.{way_list}
 use Rattle.liveness.specs.declared.visiting.Found.{Found}
 use Rattle.liveness.specs.declared.waiting.Waiting.{Waiting}
 use Rattle.liveness.specs.Live.{set_at}
-use Rattle.code_flow.specs.Points.{marked}
+use Rattle.kept_places.specs.Marks.{marked}
 use Rattle.liveness.specs.Passes.{total, IsVisit, AreSound, AreClosed}
 use Rattle.liveness.specs.Graph.{some_leads, some_return, ways_at, IsGraph}
 use Rattle.liveness.specs.declared.graph.Graph.{Graph}

@@ -53,7 +53,7 @@ distinct_less (q ∷ ps) p d =
 
 -- ---- how many ----
 
-count_set : (ms : List Bool) (p : ℕ) (b : Bool) → p < length ms → count_marked (slice_set ms p b) + from_bool (marked ms p) ≡ count_marked ms + from_bool b
+pub count_set : (ms : List Bool) (p : ℕ) (b : Bool) → p < length ms → count_marked (slice_set ms p b) + from_bool (marked ms p) ≡ count_marked ms + from_bool b
 unfolding count_marked
 count_set [] p b h = absurd (omega arith)
 count_set (m ∷ ms) zero b h = omega arith

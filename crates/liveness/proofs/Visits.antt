@@ -12,7 +12,7 @@ use Rattle.code_flow.specs.declared.way.Way.{Way}
 use Rattle.code_flow.specs.declared.way.Ways.{Ways}
 use Rattle.code_flow.specs.Flow.{way_list, AreWays}
 use Rattle.liveness.specs.Live.{word_of, set_at}
-use Rattle.code_flow.specs.Points.{marked}
+use Rattle.kept_places.specs.Marks.{marked}
 use Rattle.liveness.specs.Graph.{leads_to, some_leads, is_return, some_return, ways_in, ways_at}
 use Rattle.liveness.specs.Passes.{there, gained, led, weight_below, IsVisit, AreSound, IsClosed}
 use Rattle.liveness.proofs.Weights.{grows, total_set, get_here, get_else}

@@ -7,23 +7,17 @@ use Rattle.std.proofs.lemmas.List.{length-set, length-replicate}
 use Rattle.thumb_instr.specs.Items.{one_of}
 use Rattle.thumb_instr.proofs.Listed.{one_of_append}
 use Rattle.liveness.specs.declared.waiting.Waiting.{Waiting}
-use Rattle.code_flow.specs.Points.{marked}
+use Rattle.kept_places.specs.Marks.{marked}
 use Rattle.liveness.specs.Marked.{count_marked}
 use Rattle.liveness.specs.Waiting.{left, AreWaiting, WaitMore, IsTaken}
-use Rattle.code_flow.proofs.Marking.{set_here, set_else}
+use Rattle.kept_places.proofs.Ranks.{marked_set, marked_other, marked_within}
 use Rattle.liveness.proofs.Paths.{or_left, or_right}
-use Rattle.liveness.proofs.Stacks.{count_bound}
-use Rattle.code_flow.proofs.Reaches.{in_both, marked_within}
+use Rattle.liveness.proofs.Stacks.{count_bound, count_set}
+use Rattle.code_flow.proofs.Reaches.{in_both}
 pub use Rattle.code_flow.proofs.Reaches.{is_one, one_is}
 use Rattle.word_bits.proofs.Words.{from_bool-le}
 
 -- ---- how many are marked ----
-
-count_set : (ms : List Bool) (p : ℕ) (b : Bool) → p < length ms → count_marked (slice_set ms p b) + from_bool (marked ms p) ≡ count_marked ms + from_bool b
-unfolding count_marked
-count_set [] p b h = absurd (omega arith)
-count_set (m ∷ ms) zero b h = omega arith
-count_set (m ∷ ms) (suc p) b h = let r = count_set ms p b (omega arith) in omega arith
 
 count_all : (n : ℕ) → count_marked (replicate n true) ≡ n
 unfolding count_marked
@@ -65,7 +59,7 @@ pushed w w' p a l n f e m = record {
     many = ap length m ∙ length-set w.marks.items p true
 
     other : (q : ℕ) → q ≢ p → marked w'.marks.items q ≡ marked w.marks.items q
-    other q d = ap (λ (ms : List Bool). marked ms q) m ∙ set_else w.marks.items p q true d
+    other q d = ap (λ (ms : List Bool). marked ms q) m ∙ marked_other w.marks.items p q true d
 
     again : (q : ℕ) → one_of q w'.again.items ≡ true → q < length w'.marks.items
     again q h = elim (in_both q p w.again.items (sym (ap (one_of q) e) ∙ h)) [
@@ -108,14 +102,14 @@ taken w w' p a l m less f was still = record {
     many = ap length m ∙ length-set w.marks.items p false
 
     other : (q : ℕ) → q ≢ p → marked w'.marks.items q ≡ marked w.marks.items q
-    other q d = ap (λ (ms : List Bool). marked ms q) m ∙ set_else w.marks.items p q false d
+    other q d = ap (λ (ms : List Bool). marked ms q) m ∙ marked_other w.marks.items p q false d
 
     again : (q : ℕ) → one_of q w'.again.items ≡ true → q < length w'.marks.items
     again q h = let r = a.again q (was q h) in omega (arith, r, many)
 
     listed : (q : ℕ) → marked w'.marks.items q ≡ true → (one_of q w'.again.items ≡ true) ⊎ (q < w'.fresh)
     listed q h = elim (cases_eq q p) [
-      | inl s ↦ absurd (let t : marked w'.marks.items q ≡ false = ap (marked w'.marks.items) s ∙ ap (λ (ms : List Bool). marked ms p) m ∙ set_here w.marks.items p false l in cc)
+      | inl s ↦ absurd (let t : marked w'.marks.items q ≡ false = ap (marked w'.marks.items) s ∙ ap (λ (ms : List Bool). marked ms p) m ∙ marked_set w.marks.items p false l in cc)
       | inr d ↦ still q d (a.listed q (sym (other q d) ∙ h))
     ]
 

@@ -9,7 +9,7 @@ use Rattle.shrinking_sets.specs.Clearing.{IsClearing}
 use Rattle.code_flow.specs.declared.way.Ways.{Ways}
 use Rattle.liveness.specs.declared.graph.Graph.{Graph}
 use Rattle.liveness.specs.Live.{set_at}
-use Rattle.code_flow.specs.Points.{marked}
+use Rattle.kept_places.specs.Marks.{marked}
 use Rattle.liveness.specs.Graph.{ways_at, AreReturns, IsGraph}
 use Rattle.liveness.specs.declared.counted.PointSets.{PointSets}
 use Rattle.liveness.specs.declared.walk.Walk.{Walk}

@@ -7,7 +7,7 @@ use Rattle.code_flow.specs.Flow.{way_list}
 use Rattle.liveness.specs.declared.visiting.Found.{Found}
 use Rattle.liveness.specs.declared.waiting.Waiting.{Waiting}
 use Rattle.liveness.specs.Passes.{total, AreSound, IsClosed}
-use Rattle.code_flow.specs.Points.{marked}
+use Rattle.kept_places.specs.Marks.{marked}
 use Rattle.liveness.specs.Waiting.{left, AreWaiting}
 
 -- the sets have only what is read, and a visit of a place that neither waits nor is pending would change nothing

@@ -3,7 +3,7 @@ use Rattle.std.specs.Prelude.{◌≡◌, ◌≢◌, ℕ, ◌+◌, ◌<◌, ◌�
 use Rattle.thumb_instr.specs.Items.{one_of}
 use Rattle.liveness.specs.Marked.{count_marked}
 use Rattle.liveness.specs.declared.waiting.Waiting.{Waiting}
-use Rattle.code_flow.specs.Points.{marked}
+use Rattle.kept_places.specs.Marks.{marked}
 
 -- how many places wait
 abbrev pub left : Waiting → ℕ

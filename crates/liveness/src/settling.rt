@@ -4,7 +4,7 @@ ghost use Rattle.thumb_instr.specs.Items.{one_of};
 ghost use Rattle.thumb_model.specs.Listing.{code_of};
 ghost use Rattle.code_flow.specs.Flow.{way_list};
 ghost use Rattle.liveness.specs.Ways.{AreAllWays};
-ghost use Rattle.code_flow.specs.Points.{marked};
+ghost use Rattle.kept_places.specs.Marks.{marked};
 ghost use Rattle.liveness.specs.Passes.{AreClosed, AreSound};
 ghost use Rattle.liveness.specs.Graph.{leads_to, some_leads, ways_at, JumpsTo, AreCallers, IsGraph};
 ghost use Rattle.liveness.specs.Waiting.{left, AreWaiting, WaitMore};

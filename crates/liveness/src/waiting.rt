@@ -1,6 +1,6 @@
 //! The places that wait for a visit, each at most once.
 ghost use Rattle.std.specs.Prelude.{◌≡◌, ◌<◌, ℕ, length, true, false, IfOk, IfSome, IfNone, OnOk};
-ghost use Rattle.code_flow.specs.Points.{marked};
+ghost use Rattle.kept_places.specs.Marks.{marked};
 ghost use Rattle.liveness.specs.Waiting.{left, AreWaiting, WaitMore, IsTaken};
 
 use std::alloc::{AllocError, Global};

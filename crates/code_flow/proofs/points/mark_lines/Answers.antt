@@ -2,7 +2,7 @@ use Rattle.std.proofs.Common.{◌≡◌, ◌∙◌, ◌∷◌, ◌+◌, ◌||◌
 use Rattle.thumb_model.specs.Effect.{one_of}
 use Rattle.thumb_model.specs.Listing.{ListingLine, places_of, label_places, labels_from, return_places}
 use Rattle.listing_parser.specs.Views.{line_view}
-use Rattle.code_flow.specs.Points.{marked}
+use Rattle.kept_places.specs.Marks.{marked}
 use Rattle.code_flow.proofs.Marking.{line_step, places_next}
 use Rattle.code_flow.proofs.points.mark_lines.Goals as goal
 use Rattle.listing_parser.proofs.Shared.{next_line}

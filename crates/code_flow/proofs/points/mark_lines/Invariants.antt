@@ -2,7 +2,7 @@ use Rattle.std.proofs.Common.{◌≡◌, ◌+◌, ◌||◌, ℕ, drop, length, m
 use Rattle.thumb_model.specs.Effect.{one_of}
 use Rattle.thumb_model.specs.Listing.{places_of, label_places, labels_from, return_places}
 use Rattle.listing_parser.specs.Views.{line_view}
-use Rattle.code_flow.specs.Points.{marked}
+use Rattle.kept_places.specs.Marks.{marked}
 use Rattle.code_flow.proofs.points.mark_lines.Given as goal
 
 abbrev pub invariant-loop-line : goal.invariant-loop-line

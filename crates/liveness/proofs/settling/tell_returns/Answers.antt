@@ -1,5 +1,5 @@
 use Rattle.std.proofs.Common.{◌∙◌, get_or, add-one, ap, inl, inr, arith}
-use Rattle.code_flow.specs.Points.{marked}
+use Rattle.kept_places.specs.Marks.{marked}
 use Rattle.liveness.proofs.Waits.{more_on}
 use Rattle.liveness.proofs.settling.tell_returns.Goals as goal
 use Rattle.liveness.proofs.Callers.{among, one_taken}

@@ -1,6 +1,6 @@
 use Rattle.std.proofs.Common.{◌≡◌, ℕ, take, true}
 use Rattle.thumb_instr.specs.Items.{one_of}
-use Rattle.code_flow.specs.Points.{marked}
+use Rattle.kept_places.specs.Marks.{marked}
 use Rattle.liveness.specs.Waiting.{WaitMore}
 use Rattle.liveness.proofs.settling.tell_returns.Given as goal
 

@@ -1,6 +1,6 @@
 use Rattle.std.proofs.Common.{◌≡◌, ℕ, ◌<◌, true, [], length}
 use Rattle.thumb_model.specs.Listing.{code_of, places_of, IsPoint}
-use Rattle.code_flow.specs.Points.{marked}
+use Rattle.kept_places.specs.Marks.{marked}
 use Rattle.code_flow.specs.Reaching.{left, IsReaching}
 use Rattle.code_flow.proofs.reaching.Reaching.from_points.Given as goal
 

@@ -1,7 +1,7 @@
-use Rattle.std.proofs.Common.{◌<◌, ◌∙◌, length, refl, ap, arith, true}
+use Rattle.std.proofs.Common.{◌<◌, ◌∙◌, length, refl, arith, true}
 use Rattle.std.proofs.lemmas.Option.{slice_get_read}
-use Rattle.code_flow.specs.Points.{is_true}
-use Rattle.code_flow.proofs.Marking.{set_here}
+use Rattle.kept_places.proofs.Ranks.{marked_set}
+use Rattle.code_flow.proofs.Marking.{marked_is}
 use Rattle.code_flow.proofs.Reaches.{marks_more, still_reaching}
 use Rattle.code_flow.proofs.reaching.Reaching.reach.Goals as goal
 
@@ -12,7 +12,7 @@ returns-clause-reaching c =
     still_reaching code others c.args.self.now _ c.args.place
     (record {
       within = within;
-      new = ap is_true (slice_get_read c.args.self.now.marks.items _ c.args.place c.index.result.now refl within c.index.ensures) ∙ c.if-index.false;
+      new = marked_is c.args.self.now.marks.items c.args.place c.index.result.now (slice_get_read c.args.self.now.marks.items _ c.args.place c.index.result.now refl within c.index.ensures) ∙ c.if-index.false;
       waits = c.in_ok-push.ensures.items;
       marks = refl;
     })
@@ -24,10 +24,10 @@ returns-clause-more c =
     marks_more c.args.self.now _ c.args.place
     (record {
       within = within;
-      new = ap is_true (slice_get_read c.args.self.now.marks.items _ c.args.place c.index.result.now refl within c.index.ensures) ∙ c.if-index.false;
+      new = marked_is c.args.self.now.marks.items c.args.place c.index.result.now (slice_get_read c.args.self.now.marks.items _ c.args.place c.index.result.now refl within c.index.ensures) ∙ c.if-index.false;
       waits = c.in_ok-push.ensures.items;
       marks = refl;
     })
 
 pub returns-clause-here : goal.returns-clause-here
-returns-clause-here c = λ l. set_here c.args.self.now.marks.items c.args.place true l
+returns-clause-here c = λ l. marked_set c.args.self.now.marks.items c.args.place true l

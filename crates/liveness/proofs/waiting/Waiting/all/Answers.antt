@@ -1,5 +1,5 @@
 use Rattle.std.proofs.Common.{◌∙◌, ap, refl, Bool, List}
-use Rattle.code_flow.specs.Points.{marked}
+use Rattle.kept_places.specs.Marks.{marked}
 use Rattle.liveness.proofs.Waits.{all_wait, all_marked}
 use Rattle.liveness.proofs.waiting.Waiting.all.Goals as goal
 
