@@ -14,7 +14,8 @@ use Rattle.clap.specs.declared.parser.matches.ValueSource.TheVariants.{CommandLi
 use Rattle.command_line.specs.Words.{Text, Given, is_named}
 use Rattle.command_line.proofs.Reading.{Mode, free, opened, tail, WordKind, dashes, joined, apart, plain, stray, uses, use_word, word_of, at_end, more, to_positional, once_after}
 use Rattle.command_line.proofs.Level.{word_rule, option_rule, leaf, or_else_nil, or_else_assoc, held, between, fresh}
-use Rattle.common_lemmas.proofs.Booleans.{and_false}
+use Rattle.std.proofs.lemmas.Bool.{cases_Bool}
+use Rattle.common_lemmas.proofs.Booleans.{and_false, and_assoc}
 
 abbrev pub clean : Kinds → Bool
 clean [] = true
@@ -219,10 +220,6 @@ module _ (name : Text) (c : List Rule) (at : ℕ → Option Text) (is_option is_
   option_case : (o : Option Text) → (o ≡ None) ⊎ ((id : Text) × (o ≡ Some id))
   option_case None = inl refl
   option_case (Some id) = inr (id, refl)
-
-  bool_case : (b : Bool) → (b ≡ true) ⊎ (b ≡ false)
-  bool_case true = inl refl
-  bool_case false = inr refl
 
   bad : (w : Walk) (x : Text) (xs : List Text) (k : Kinds) (e : _) → turn_fault (leaf name c) [] w x ≡ e ∷ k → clean (outcome name c w (x ∷ xs)) ≡ false
   bad w x xs k e is = ap clean (out_bad w x xs e k is)
@@ -448,10 +445,6 @@ module _ (name : Text) (c : List Rule) (at : ℕ → Option Text) (is_option is_
     abbrev pub verdict : List Given → Option (List Given) → Bool
     verdict before o = verdict_by complete before o
 
-    and_assoc : (a b d : Bool) → ((a && b) && d) ≡ (a && (b && d))
-    and_assoc true b d = refl
-    and_assoc false b d = refl
-
     verdict_more : (before : List Given) (u : Given) (o : Option (List Given)) → verdict before (more u o) ≡ (not (is_named u.0 before) && verdict (before ++ u ∷ []) o)
     verdict_more before u None = sym (and_false (not (is_named u.0 before)))
     verdict_more before u (Some us) =
@@ -461,7 +454,7 @@ module _ (name : Text) (c : List Rule) (at : ℕ → Option Text) (is_option is_
     pend : (xs : List Text) → Each is_option xs → (before : List Given) (id v : Text) (i : ℕ) (t : Bool) (o : Option (List Given)) → is_known id ≡ true
         → clean (outcome name c (between (rows (before ++ (id, v) ∷ [])) None idle i t) xs) ≡ verdict (before ++ (id, v) ∷ []) o
         → clean (outcome name c (between (rows before) (Some (id, v ∷ [])) idle i t) xs) ≡ verdict before (more (id, v) o)
-    pend xs vs before id v i t o known ih = elim (bool_case (is_named id before)) [
+    pend xs vs before id v i t o known ih = elim (cases_Bool (is_named id before)) [
       | inl again ↦ dup xs vs (rows before) id v i t known (has_rows id before ∙ again) ∙ sym (verdict_more before (id, v) o ∙ rw again refl)
       | inr new ↦ ap clean (flush xs vs (rows before) id v i t known (has_rows id before ∙ new) ∙ ap (λ rs. outcome name c (between rs None idle i t) xs) (rows_more before (id, v)))
           ∙ ih ∙ sym (verdict_more before (id, v) o ∙ rw new refl)
@@ -481,7 +474,7 @@ module _ (name : Text) (c : List Rule) (at : ℕ → Option Text) (is_option is_
     joined_use : (xs : List Text) (before : List Given) (n v : Text) (i : ℕ)
         → clean (outcome name c (between (rows (before ++ (n, v) ∷ [])) None idle i false) xs) ≡ verdict (before ++ (n, v) ∷ []) (uses at is_option xs free i)
         → clean (or_else (use_fault false (option_rule n) (v ∷ []) (rows before)) (outcome name c (between (used (option_rule n) (v ∷ []) (rows before)) None idle i false) xs)) ≡ verdict before (more (n, v) (uses at is_option xs free i))
-    joined_use xs before n v i ih = elim (bool_case (is_named n before)) [
+    joined_use xs before n v i ih = elim (cases_Bool (is_named n before)) [
       | inl again ↦ ap (λ k. clean (or_else k (outcome name c (between (used (option_rule n) (v ∷ []) (rows before)) None idle i false) xs)))
           ((option_acts n).fault v (rows before) ∙ ap (λ b. cond b (kind.ArgumentConflict ∷ []) []) (has_rows n before ∙ again))
           ∙ sym (verdict_more before (n, v) (uses at is_option xs free i) ∙ rw again refl)

@@ -85,11 +85,7 @@ some_in (l ∷ ls) from to = (nat_le from l.place && nat_le l.place to) || some_
 
 some_append : (ks ls : List Label) (from to : ℕ) → some_in (ks ++ ls) from to ≡ (some_in ks from to || some_in ls from to)
 some_append [] ls from to = refl
-some_append (k ∷ ks) ls from to = ap (λ u. (nat_le from k.place && nat_le k.place to) || u) (some_append ks ls from to) ∙ three (nat_le from k.place && nat_le k.place to) (some_in ks from to) (some_in ls from to)
-  where
-    three : (a b c : Bool) → (a || (b || c)) ≡ ((a || b) || c)
-    three true b c = refl
-    three false b c = refl
+some_append (k ∷ ks) ls from to = ap (λ u. (nat_le from k.place && nat_le k.place to) || u) (some_append ks ls from to) ∙ sym (or_assoc (nat_le from k.place && nat_le k.place to) (some_in ks from to) (some_in ls from to))
 
 -- the labels of a line
 some_here : (p : ℕ) (ns : List Name) (from to : ℕ) → p ≤ to → some_in (labels_at p ns) from to ≡ (some_name ns && nat_le from p)

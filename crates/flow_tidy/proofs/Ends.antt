@@ -13,6 +13,7 @@ use Rattle.flow_tidy.proofs.Removed.{code_without}
 use Rattle.flow_tidy.proofs.Aimed.{to_label, aimed_places, aimed_code, get_aimed, get_other, name_stays, code_aimed}
 use Rattle.flow_tidy.proofs.AimedRuns.{last_is_code}
 use Rattle.listing_parser.proofs.ReplaceLemmas.{and_first as first_true}
+use Rattle.common_lemmas.proofs.Booleans.{and_false}
 use Rattle.listing_parser.proofs.ReadingLemmas.{and_second as second_true}
 
 -- ---- hops as a test ----
@@ -134,10 +135,6 @@ module _ (code : Code) (p : ℕ) (label : Name) (g : GoesToEnd code p label) whe
 
   now_free : is_chained code (Op g.i (Some (to_label label))) ≡ false
   now_free = ap (λ t. is_branch g.i && t) (end_stops code label g.end.stops) ∙ and_false (is_branch g.i)
-    where
-      and_false : (b : Bool) → (b && false) ≡ false
-      and_false true = refl
-      and_false false = refl
 
   one_less : (q : ℕ) (xs : List Place) → slice_get xs q ≡ Some (Op g.i (Some g.mention)) → chained code (aimed_places q label xs) + 1 ≡ chained code xs
   one_less q [] e = absurd (cc)

@@ -1,7 +1,7 @@
 -- Sets of live items while they shrink.
 use Rattle.std.proofs.Common.{◌≡◌, ◌≢◌, ℕ, ◌+◌, ◌<◌, ◌≤◌, ◌==◌, ◌&&◌, ◌||◌, not, Bool, true, false, List, length, Option, if◌then◌else◌, refl, sym, ap, ◌∙◌, subst, inl, inr, arith, eq-eqb, ne_eqb}
 use Rattle.std.specs.Prelude.{slice_set}
-use Rattle.std.proofs.lemmas.Bool.{cases_eq, cases_Bool}
+use Rattle.std.proofs.lemmas.Bool.{cases_eq, cases_Bool, or_right}
 use Rattle.std.proofs.lemmas.List.{length-set}
 use Rattle.thumb_instr.specs.declared.items.Items.{Items}
 use Rattle.thumb_instr.specs.Items.{one_of, has}
@@ -16,6 +16,7 @@ use Rattle.liveness.specs.declared.walk.Walk.{Walk}
 use Rattle.liveness.specs.Stack.{Stack}
 use Rattle.liveness.specs.Counted.{AreCounted}
 use Rattle.liveness.specs.Walk.{start_at, IsFitWalk, ClearsOn}
+use Rattle.common_lemmas.proofs.Booleans.{or_false, or_true}
 use Rattle.listing_parser.proofs.ReplaceLemmas.{and_first as and_left}
 
 -- ---- a place that is touched ----
@@ -28,14 +29,6 @@ module _ (k k' : Walk) (p : ℕ) (s : Items) (before : k'.before ≡ k.before) (
     | inr d ↦ ap (λ b. if b then set_at k'.was.items q else set_at k'.before.sets.items q) (members q ∙ ap (λ b. one_of q k.touched.places || b) (ne_eqb q p d) ∙ or_false (one_of q k.touched.places)) ∙ other q d (one_of q k.touched.places)
   ]
     where
-      or_false : (a : Bool) → (a || false) ≡ a
-      or_false true = refl
-      or_false false = refl
-
-      or_true : (a : Bool) → (a || true) ≡ true
-      or_true true = refl
-      or_true false = refl
-
       here : start_at k' p ≡ start_at k p
       here =
           ap (λ b. if b then set_at k'.was.items p else set_at k'.before.sets.items p) (members p ∙ ap (λ b. one_of p k.touched.places || b) (eq-eqb p p refl) ∙ or_true (one_of p k.touched.places))
@@ -176,10 +169,6 @@ module _ (k k₁ k' : Walk) (p : ℕ) (old s lost : Items) (inside : p < length 
         | inl e ↦ ap (λ y. has (set_at k.before.sets.items y) x) e ∙ and_left _ (not (has lost.bits x)) (sym (cleared_here x) ∙ ap (λ y. has (set_at k'.before.sets.items y) x) (sym e) ∙ h)
         | inr d ↦ sym (ap (λ y. has y x) (cleared_else q d)) ∙ h
       ]
-
-      or_right : (a b : Bool) → b ≡ true → (a || b) ≡ true
-      or_right true b e = refl
-      or_right false b e = e
 
       pushed : (q x : ℕ) → has (set_at k.before.sets.items q) x ≡ true → has (set_at k'.before.sets.items q) x ≡ false → one_of q k'.stack.places ≡ true
       pushed q x h n = elim (cases_eq q p) [

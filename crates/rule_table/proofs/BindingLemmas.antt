@@ -8,6 +8,7 @@ use Rattle.thumb_instr.specs.Items.{has as has_item}
 use Rattle.thumb_instr.specs.Window.{Low, item_under}
 use Rattle.common_lemmas.proofs.Lists.{get_set, get_unset}
 use Rattle.rule_table.specs.Canonical.{has}
+use Rattle.std.proofs.lemmas.Bool.{or_left, or_right}
 use Rattle.rule_table.specs.Binding.{given_at, IsOneToOne, Agrees, Binds, Clashes, IsBound}
 
 -- ---- one register more
@@ -81,22 +82,14 @@ put_one_to_one old new taken more own other register p is free not_taken both o 
     | inr i ↦ elim (either old new own y register s p f) [ inl j ↦ absurd (nowhere x r i.1 (g ∙ j.1 ∙ is)) | inr j ↦ o.apart x y r s i.1 j.1 g ]
   ];
   held = λ x r e. elim (either old new own x register r p e) [
-    | inl i ↦ both r.number ∙ right (has_item taken r.number) (r.number == other) (eq-eqb r.number other (i.1 ∙ is))
-    | inr i ↦ both r.number ∙ left (has_item taken r.number) (r.number == other) (o.held x r i.1)
+    | inl i ↦ both r.number ∙ or_right (has_item taken r.number) (r.number == other) (eq-eqb r.number other (i.1 ∙ is))
+    | inr i ↦ both r.number ∙ or_left (has_item taken r.number) (r.number == other) (o.held x r i.1)
   ];
   places = λ n h. place n (n == other) refl (sym (both n) ∙ h);
 }
   where
     nowhere : (x : ℕ) (r : Low) → given_at old x ≡ Some r → r.number ≡ other → ⊥
     nowhere x r e f = true≢false (sym (o.held x r e) ∙ ap (has_item taken) f ∙ not_taken)
-
-    left : (a b : Bool) → a ≡ true → (a || b) ≡ true
-    left true b e = refl
-    left false b e = cc
-
-    right : (a b : Bool) → b ≡ true → (a || b) ≡ true
-    right true b e = refl
-    right false b e = e
 
     stays : (x : ℕ) (r : Low) → given_at old x ≡ Some r → given_at new x ≡ Some r
     stays x r e = p.others x (λ s. (let none : None ≡ Some r = sym free ∙ ap (given_at old) (sym s) ∙ e in cc)) ∙ e
@@ -112,14 +105,10 @@ pub taken_clashes : (given : List (Option Low)) (taken own other : ℕ) → give
     → Clashes given (own ∷ []) (λ registers. item_under registers own ≡ other)
 taken_clashes given taken own other free is o = λ registers h asked apart.
     let k = o.places other is in
-    let same : own ≡ k.0 = apart own k.0 (own_named (is_some (given_at given own))) (left (is_some (given_at given k.0)) (own == k.0 || false) (ap is_some k.2)) (asked ∙ sym (h k.0 k.1 k.2 ∙ k.3)) in
+    let same : own ≡ k.0 = apart own k.0 (own_named (is_some (given_at given own))) (or_left (is_some (given_at given k.0)) (own == k.0 || false) (ap is_some k.2)) (asked ∙ sym (h k.0 k.1 k.2 ∙ k.3)) in
     let none : None ≡ Some k.1 = sym free ∙ ap (given_at given) same ∙ k.2 in
     cc
   where
-    left : (a b : Bool) → a ≡ true → (a || b) ≡ true
-    left true b e = refl
-    left false b e = cc
-
     own_named : (a : Bool) → (a || (own == own || false)) ≡ true
     own_named true = refl
     own_named false = rw (eq-eqb own own refl) refl
@@ -161,12 +150,8 @@ binds_then old mid new xs ys F G false f g = λ registers h asked apart.
 pub clashes_then : (old new : List (Option Low)) (xs ys : List ℕ) (F G : List Low → Type 0) → Clashes old xs F → IsBound false old new (xs ++ ys) (λ registers. F registers × G registers)
 clashes_then old new xs ys F G f = λ registers h asked apart.
     let among : (x : ℕ) → (is_some (given_at old x) || has xs x) ≡ true → (is_some (given_at old x) || has (xs ++ ys) x) ≡ true =
-    λ x k. has_both xs ys x (is_some (given_at old x)) ∙ left (is_some (given_at old x) || has xs x) (has ys x) k in
+    λ x k. has_both xs ys x (is_some (given_at old x)) ∙ or_left (is_some (given_at old x) || has xs x) (has ys x) k in
     f registers h asked.0 (λ x y k l e. apart x y (among x k) (among y l) e)
-  where
-    left : (a b : Bool) → a ≡ true → (a || b) ≡ true
-    left true b e = refl
-    left false b e = cc
 
 -- what is asked may be said otherwise
 pub bound_as : (old new : List (Option Low)) (names : List ℕ) (F G : List Low → Type 0) (b : Bool) → ((registers : List Low) → F registers ↔ G registers) → IsBound b old new names F → IsBound b old new names G

@@ -14,6 +14,7 @@ use Rattle.rule_table.specs.Text.{mask_rows, mask_text}
 use Rattle.rule_table.specs.Table.{IsMask}
 use Rattle.rule_table.specs.Fronts.{strip, left_of, is_taken, and_taken, taken}
 use Rattle.rule_table.proofs.FrontLemmas.{strip_front, strip_sound}
+use Rattle.common_lemmas.proofs.Booleans.{and_false}
 use Rattle.cnf_gates.proofs.Tables.{or_assoc as or_later}
 
 -- the texts of those rows whose items are wanted
@@ -163,11 +164,7 @@ mask_taken bs none = sym (append-nil _) ∙ ap (λ us. row_texts (λ y. one_of y
 
 one_of_picked : (p : ℕ → Bool) (x : ℕ) (rs : List (ℕ × List ℕ)) → one_of x (picked p rs) ≡ (p x && one_of x (items_of_rows rs))
 unfolding picked
-one_of_picked p x [] = sym (and_none (p x))
-  where
-    and_none : (b : Bool) → (b && false) ≡ false
-    and_none true = refl
-    and_none false = refl
+one_of_picked p x [] = sym (and_false (p x))
 one_of_picked p x (r ∷ rs) = by (x == r.0) (p r.0) refl refl (one_of_picked p x rs)
   where
     or_with : (a b : Bool) → (a && (true || b)) ≡ a
