@@ -1,5 +1,5 @@
 //! The top call: all that the program does.
-ghost use Rattle.std.specs.Prelude.{◌≡◌, map, string_bytes};
+ghost use Rattle.std.specs.Prelude.{map, string_bytes};
 ghost use Rattle.outer_store.specs.Answers.{Grows, SinkGrows};
 ghost use Rattle.command_line.specs.Request.{request_of};
 ghost use Rattle.command_runs.specs.Runs.{Runs};

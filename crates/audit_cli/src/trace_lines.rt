@@ -1,5 +1,5 @@
 //! The printed lines of a trace.
-ghost use Rattle.std.specs.Prelude.{◌≡◌, ◌<◌, ◌+◌, ◌++◌, ◌∷◌, [], codes, IfOk, OnOk};
+ghost use Rattle.std.specs.Prelude.{◌≡◌, ◌<◌, ◌+◌, ◌++◌, codes, IfOk, OnOk};
 ghost use Rattle.thumb_machine.specs.Outside.{event_of, events_of};
 ghost use Rattle.audit_cli.specs.Printed.{printed, and_number};
 ghost use Rattle.audit_cli.specs.Trace.{hex_digit as hex_digit_of, word_text as word_text_of, and_word, and_words, event_line, event_lines as event_lines_of, stage_word as stage_word_of, steps_line as steps_line_of};

@@ -1,5 +1,5 @@
 //! The command `trim`: an accepted table is kept with proofs from which all is gone that they don't need.
-ghost use Rattle.std.specs.Prelude.{◌≡◌, ◌<◌, ◌≤◌, ◌+◌, ◌^◌, All, IfOk, map, sum_by, length};
+ghost use Rattle.std.specs.Prelude.{◌≡◌, ◌<◌, ◌+◌, ◌^◌, All, IfOk, map, sum_by, length};
 ghost use Rattle.std.specs.List.{AllZip};
 ghost use Rattle.clause_model.specs.Clauses.{codes_of};
 ghost use Rattle.lrat_check.specs.Runs.{IsRefutation};

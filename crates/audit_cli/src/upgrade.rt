@@ -1,5 +1,5 @@
 //! The command `upgrade`: an accepted table is kept in version 2, whose rules may use a scratch register, with the same entries.
-ghost use Rattle.std.specs.Prelude.{◌≡◌, ◌<◌, ◌^◌, IfOk};
+ghost use Rattle.std.specs.Prelude.{◌≡◌, ◌<◌, IfOk};
 ghost use Rattle.command_runs.specs.Outcomes.{outcome_view};
 ghost use Rattle.rule_table.specs.Views.{table_of};
 ghost use Rattle.audit_cli.specs.Upgrade.{IsKept, Upgrades, upgraded};

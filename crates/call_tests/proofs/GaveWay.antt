@@ -1,11 +1,11 @@
 -- What is asked of live sets that are brought up to date, where a window of two gave way to one instruction.
-use Rattle.std.proofs.Common.{◌≡◌, ◌∙◌, ℕ, zero, suc, ◌+◌, ◌<◌, ◌≤◌, ◌⊎◌, inl, List, [], ◌∷◌, true, false, Option, Some, length, take, drop, map, refl, ap, arith, sym, subst}
+use Rattle.std.proofs.Common.{◌≡◌, ◌∙◌, ℕ, ◌+◌, ◌<◌, ◌≤◌, ◌⊎◌, inl, List, [], ◌∷◌, true, false, Option, Some, length, take, drop, refl, ap, arith, sym, subst}
 use Rattle.std.specs.Prelude.{slice_get, IfSome}
 use Rattle.std.proofs.lemmas.Bool.{and_from}
 use Rattle.std.proofs.lemmas.List.{take_all}
 use Rattle.thumb_instr.specs.declared.instr.Instr.{Instr}
 use Rattle.thumb_instr.specs.Window.{is_in_window}
-use Rattle.thumb_model.specs.Listing.{Place, plain, Label, ListingLine, places_of, labels_from, code_of, is_op_place}
+use Rattle.thumb_model.specs.Listing.{Place, Label, ListingLine, places_of, labels_from, code_of, is_op_place}
 use Rattle.thumb_model.specs.Replaced.{are_joined_from}
 use Rattle.thumb_model.proofs.Lists.{get_drop, get_take}
 use Rattle.listing_parser.specs.Parsing.{own_line}

@@ -1,5 +1,5 @@
 //! Propagation asks that watches stand as they should, so it is run here: units with their reasons, and a clause that becomes false.
-ghost use Rattle.std.specs.Prelude.{◌≡◌, ◌≢◌, ◌<◌, ℕ, IfOk, All, length, get_or};
+ghost use Rattle.std.specs.Prelude.{◌≡◌, ◌≢◌, ◌<◌, IfOk, All, length, get_or};
 ghost use Rattle.clause_arena.specs.Contents.{HasLiteral};
 ghost use Rattle.unit_propagation.specs.Watching.{IsAttached, IsKnown};
 

@@ -1,5 +1,5 @@
 -- Unions of items as lists.
-use Rattle.std.proofs.Common.{◌≡◌, ◌∙◌, ℕ, ◌==◌, ◌&&◌, ◌||◌, not, Bool, true, false, List, [], ◌∷◌, ◌++◌, refl, sym, ap, arith}
+use Rattle.std.proofs.Common.{◌≡◌, ◌∙◌, ℕ, ◌==◌, ◌&&◌, ◌||◌, not, Bool, true, false, List, [], ◌∷◌, ◌++◌, refl, sym, ap}
 use Rattle.std.proofs.Math.Bool.{or-false}
 use Rattle.thumb_instr.specs.Items.{one_of, has, sp}
 use Rattle.thumb_instr.proofs.Listed.{one_of_append, one_of_filter}

@@ -1,6 +1,6 @@
 -- Why texts come to one outcome: tables, listings, layouts, rewritings and images are each determined, and so is the first cause by which one is refused.
 use Rattle.std.proofs.Common.{◌≡◌, ◌∙◌, ◌≤◌, ◌<◌, ◌⊎◌, inl, inr, ℕ, zero, suc, List, [], ◌∷◌, ◌++◌, length, refl, sym, ap, subst, arith, Option, Some, None}
-use Rattle.std.specs.Prelude.{nat_le, nat_lt, false, unwrap_or}
+use Rattle.std.specs.Prelude.{nat_le, nat_lt, false}
 use Rattle.std.proofs.lemmas.Bool.{cases_Bool, leb-true, leb-false, le-ltb}
 use Rattle.std.proofs.lemmas.Option.{slice_get_within, same_Some}
 use Rattle.thumb_model.specs.Listing.{ListingLine}

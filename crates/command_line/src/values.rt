@@ -1,6 +1,6 @@
 //! The values of a command, read from what clap found.
 
-ghost use Rattle.std.specs.Prelude.{◌≡◌, ◌-◌, ◌≤◌, ℕ, List, All, IfOk, MatchOption, Some, true, length, map, option_map, option_and_then, string_bytes};
+ghost use Rattle.std.specs.Prelude.{◌≡◌, ◌-◌, ◌≤◌, ℕ, List, All, IfOk, MatchOption, Some, length, map, option_map, option_and_then, string_bytes};
 ghost use Rattle.clap.specs.Words.{first_value, found_of, subcommand_rows_of};
 ghost use Rattle.command_line.specs.App.{asked_by, asked};
 ghost use Rattle.command_line.specs.CommandLine.{rewrites, audits, learns, exports, traces, demos, upgrades, trims, tidies, generalises, base_of, between_commas, byte_of, number_from, pool_of, steps_of, windows_of};

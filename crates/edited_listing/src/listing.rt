@@ -96,7 +96,7 @@ fn label_lines(labelled: &[bool], stands: &[Standing], place: u32) -> usize
 impl EditedListing {
     ghost use Rattle.std.specs.Prelude.{◌≡◌, ◌+◌, ◌<◌, ◌≤◌, ◌↔◌, ◌⊎◌, ℕ, suc, List, true, false, drop, length, slice_get, IfNone, IfOk, IfSome, Some};
     ghost use Rattle.kept_places.specs.Marks.{is_gone, rank};
-    ghost use Rattle.thumb_model.specs.Listing.{Label, code_of, is_op_place, labels_from, places_of};
+    ghost use Rattle.thumb_model.specs.Listing.{Label, is_op_place, labels_from, places_of};
     ghost use Rattle.thumb_model.specs.Replaced.{replaced_lines};
     ghost use Rattle.listing_parser.specs.Parsing.{own_line};
     ghost use Rattle.padded_code.specs.Exchange.{exchanged, marks_after};
@@ -104,7 +104,6 @@ impl EditedListing {
     ghost use Rattle.padded_code.specs.Windows.{AreRanked};
     ghost use Rattle.window_runs.specs.Rows.{rows_from};
     ghost use Rattle.window_runs.specs.Runs.{instr_at, run};
-    ghost use Rattle.edited_listing.specs.Changes.{marks_of};
     ghost use Rattle.edited_listing.specs.Edited.{instr_in, lines_now, marks, padded, unchanged};
     ghost use Rattle.edited_listing.specs.Known.{HasLabelAt};
 

@@ -1,5 +1,5 @@
 //! The first change that is possible, found among the places that are due.
-ghost use Rattle.std.specs.Prelude.{◌≡◌, ◌<◌, ◌↔◌, IsTrue, IfOk, OnOk, length};
+ghost use Rattle.std.specs.Prelude.{◌<◌, ◌↔◌, IsTrue, IfOk, length};
 ghost use Rattle.thumb_model.specs.Listing.{code_of, places_of};
 ghost use Rattle.code_flow.specs.Marks.{AreMarks};
 ghost use Rattle.flow_tidy.specs.Tidying.{setting};

@@ -1,8 +1,8 @@
 -- Faults of lines: those of the second of two pieces begin where the first ends.
-use Rattle.std.proofs.Common.{◌≡◌, inl, inr, ℕ, ◌+◌, List, [], ◌∷◌, ◌++◌, Option, None, Some, refl}
+use Rattle.std.proofs.Common.{◌≡◌, inl, inr, ℕ, ◌+◌, List, [], ◌∷◌, ◌++◌, Option, None, refl}
 use Rattle.std.proofs.lemmas.Bool.{cases_Bool}
 use Rattle.thumb_model.specs.Listing.{Name, ListingLine}
-use Rattle.thumb_model.specs.Layout.{end_of, fault_at, faults_from, is_among, label_address, or_else, or_first, size_at, Fault}
+use Rattle.thumb_model.specs.Layout.{end_of, fault_at, faults_from, is_among, label_address, or_else, size_at}
 use Rattle.thumb_model.proofs.Shared.{first_none}
 
 -- ---- labels ----

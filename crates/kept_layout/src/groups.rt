@@ -1,5 +1,5 @@
 //! Blocks in groups, of each of which it is known how many places it has: a place that is far away is reached by going over groups.
-ghost use Rattle.std.specs.Prelude.{◌≡◌, ◌+◌, ◌*◌, ◌/◌, ◌≤◌, ℕ, false, true, length, slice_get, IfOk, IfSome, Some};
+ghost use Rattle.std.specs.Prelude.{◌≡◌, ◌+◌, ◌/◌, ◌≤◌, ℕ, false, true, slice_get, IfOk, IfSome, Some};
 ghost use Rattle.kept_layout.specs.Blocks.{footprints_of};
 ghost use Rattle.kept_layout.specs.Kept.{IsRoom, AreRooms, IsLaid};
 

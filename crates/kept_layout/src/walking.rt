@@ -1,6 +1,6 @@
 //! What moves when a block takes fewer bytes, up to where all that is behind moves by one distance that no padding and no literal notices. What comes out of reach is
 //! seen on the way, as soon as it is known where both of its ends lie, and ends the way there.
-ghost use Rattle.std.specs.Prelude.{◌≡◌, suc, ◌+◌, ◌-◌, ◌<◌, ◌≤◌, ◌↔◌, ℕ, Bool, true, length, slice_get, is_some, IfOk, IfSome, IfNone, Some, Contains, false};
+ghost use Rattle.std.specs.Prelude.{◌≡◌, suc, ◌+◌, ◌-◌, ◌<◌, ◌≤◌, ◌↔◌, ℕ, true, length, slice_get, is_some, IfOk, IfSome, IfNone, Some, Contains, false};
 ghost use Rattle.kept_layout.specs.declared.block.Block.{Block as OneBlock};
 ghost use Rattle.kept_layout.specs.declared.block.NameLocation.TheVariants.{Block as AtBlock};
 ghost use Rattle.kept_layout.specs.Blocks.{address_of, later_end, lessen, footprints_of, AllReach, AreWide, Divides, Footprint};

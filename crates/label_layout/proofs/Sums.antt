@@ -1,14 +1,11 @@
 -- Addresses grow from line to line.
-use Rattle.std.proofs.Common.{◌≡◌, ◌∙◌, inl, inr, ℕ, zero, suc, ◌+◌, ◌-◌, ◌*◌, ◌<◌, ◌≤◌, ◌^◌, List, [], ◌∷◌, length, map, drop, get_or, Option, Some, None, refl, sym, ap, arith, add-one, if◌then◌else◌}
+use Rattle.std.proofs.Common.{◌≡◌, ◌∙◌, inl, inr, ℕ, zero, suc, ◌+◌, ◌-◌, ◌*◌, ◌≤◌, ◌^◌, List, [], ◌∷◌, length, map, Option, Some, None, refl, sym, ap, arith, if◌then◌else◌}
 use Rattle.std.specs.Prelude.{slice_get, nat_le, IfSome}
-use Rattle.std.proofs.Math.Seq.{drop-cons}
 use Rattle.std.proofs.lemmas.Bool.{cases_Bool, cases_lt, leb-true, le-leb}
 use Rattle.std.proofs.lemmas.List.{length-append}
 use Rattle.thumb_model.specs.Listing.{Word, places_in, places_of, Name, Value, Statement, Nothing, Instruction, Words, Aligns, Sets, ListingLine}
 use Rattle.thumb_model.specs.Layout.{size_at, end_of, is_among, label_address}
 use Rattle.thumb_model.proofs.Lists.{get_back}
-use Rattle.listing_parser.specs.declared.line.ListingLine.{ListingLine as Lines}
-use Rattle.listing_parser.specs.Views.{line_view}
 use Rattle.label_layout.specs.Addresses.{word_addresses, addresses_in, addresses_from, Addresses, AreAddresses, AreInCode}
 use Rattle.common_lemmas.proofs.Lists.{get_front}
 

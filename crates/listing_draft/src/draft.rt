@@ -82,7 +82,7 @@ fn name_of(place: Option<Place<'_>>) -> Option<&[u8]>
 }
 
 impl Draft {
-    ghost use Rattle.std.specs.Prelude.{◌≡◌, ◌<◌, ◌≤◌, ℕ, suc, [], true, false, Some, length, option_and_then, option_map, slice_get, slice_set, IfNone, IfOk, IfSome};
+    ghost use Rattle.std.specs.Prelude.{◌≡◌, ◌<◌, ◌≤◌, suc, [], true, false, Some, length, option_and_then, option_map, slice_set, IfNone, IfOk, IfSome};
     ghost use Rattle.kept_places.specs.Marks.{is_gone, rank, IsNode};
     ghost use Rattle.thumb_model.specs.Listing.{code_of, is_op_place, labels_from, place_of};
     ghost use Rattle.thumb_model.specs.Steps.{label_place};

@@ -1,6 +1,6 @@
 //! Items are cleared backwards from a window that gives way: from each place that leads to a place without them, unless it reads them itself or they are
 //! read from there for sure.
-ghost use Rattle.std.specs.Prelude.{[], ◌∷◌, ◌≡◌, ◌≢◌, ◌<◌, ◌≤◌, ◌+◌, ◌-◌, ◌^◌, ◌&&◌, ◌||◌, not, true, false, ℕ, length, ◌⊎◌};
+ghost use Rattle.std.specs.Prelude.{[], ◌≡◌, ◌<◌, ◌≤◌, ◌+◌, ◌-◌, ◌&&◌, ◌||◌, true, false, ℕ, length, ◌⊎◌};
 ghost use Rattle.thumb_instr.specs.Items.{has, one_of};
 ghost use Rattle.liveness.specs.Live.{set_at};
 ghost use Rattle.liveness.specs.Graph.{JumpsTo, ways_at, AreCallers, AreReturns};

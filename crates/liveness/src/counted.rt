@@ -1,6 +1,6 @@
 //! A set of items for each place, with how many code points have each item: so the set of all code points is known without a look at them, also where one
 //! of them loses an item.
-ghost use Rattle.std.specs.Prelude.{◌≡◌, ◌<◌, ◌≤◌, ◌+◌, ◌-◌, ◌^◌, ◌&&◌, nat_lt, ◌||◌, ◌==◌, true, false, ℕ, length, get_or, slice_set, replicate, IfOk};
+ghost use Rattle.std.specs.Prelude.{◌≡◌, ◌<◌, ◌≤◌, ◌+◌, ◌-◌, ◌^◌, ◌&&◌, nat_lt, ◌||◌, ◌==◌, true, false, ℕ, length, get_or, slice_set, IfOk};
 ghost use Rattle.std.specs.Int.{from_bool};
 ghost use Rattle.thumb_instr.specs.Items.{has};
 ghost use Rattle.liveness.specs.Live.{set_at};

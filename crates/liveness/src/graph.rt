@@ -1,5 +1,5 @@
 //! The ways of a listing backward: from where they lead to a place, and to any code point.
-ghost use Rattle.std.specs.Prelude.{◌≡◌, ◌<◌, ◌≤◌, ◌+◌, ◌-◌, ◌^◌, ℕ, Some, length, slice_get, true, IfOk, OnOk};
+ghost use Rattle.std.specs.Prelude.{◌≡◌, ◌<◌, ◌+◌, ◌-◌, ◌^◌, Some, length, true, IfOk, OnOk};
 ghost use Rattle.thumb_model.specs.Listing.{code_of, places_of};
 ghost use Rattle.code_flow.specs.Flow.{way_list};
 ghost use Rattle.liveness.specs.Ways.{AreAllWays};

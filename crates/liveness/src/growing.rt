@@ -1,6 +1,6 @@
 //! Sets of live items grow until no place lacks one: a place is visited where it may lack something, and where its set grows those from which ways lead to it
 //! are visited again.
-ghost use Rattle.std.specs.Prelude.{[], ◌∷◌, ◌++◌, ◌≡◌, ◌≢◌, ◌<◌, ◌≤◌, ◌+◌, ◌^◌, ◌||◌, true, false, ℕ, length};
+ghost use Rattle.std.specs.Prelude.{[], ◌≡◌, ◌<◌, ◌≤◌, ◌+◌, ◌^◌, true, ℕ, length};
 ghost use Rattle.thumb_instr.specs.Items.{has, one_of};
 ghost use Rattle.liveness.specs.Live.{set_at};
 ghost use Rattle.liveness.specs.Graph.{JumpsTo, some_leads, ways_at, AreCallers};

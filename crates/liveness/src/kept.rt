@@ -1,5 +1,5 @@
 //! The sets of live items of new instructions, and what is read behind them.
-ghost use Rattle.std.specs.Prelude.{◌≡◌, ◌≤◌, ◌||◌, ◌+◌, ◌++◌, ℕ, drop, false, true, length, IfSome};
+ghost use Rattle.std.specs.Prelude.{◌≡◌, ◌≤◌, ◌||◌, ◌+◌, ℕ, drop, length};
 ghost use Rattle.thumb_instr.specs.Items.{has};
 ghost use Rattle.liveness.specs.Through.{live_through, passed, read_along, AreThrough};
 

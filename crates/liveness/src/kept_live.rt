@@ -1,6 +1,6 @@
 //! What is kept of a code, and how it changes where a window gives way: first what is read for sure is worked out anew, then what the window alone kept live is
 //! cleared, and what is still read grows back.
-ghost use Rattle.std.specs.Prelude.{[], ◌≡◌, ◌<◌, ◌≤◌, ◌+◌, ◌-◌, ◌*◌, ◌^◌, ◌↔◌, ◌⊎◌, slice_get, true, false, ℕ, length, get_or, List};
+ghost use Rattle.std.specs.Prelude.{[], ◌≡◌, ◌<◌, ◌≤◌, ◌+◌, ◌-◌, ◌^◌, ◌↔◌, ◌⊎◌, slice_get, true, false, ℕ, length, get_or, List};
 ghost use Rattle.thumb_instr.specs.declared.instr.Instr.{Instr as AnInstr};
 ghost use Rattle.thumb_instr.specs.Items.{has, one_of};
 ghost use Rattle.thumb_model.specs.Listing.{Code};

@@ -1,5 +1,5 @@
 //! What the ways of a place read, and what they pass on to where they lead.
-ghost use Rattle.std.specs.Prelude.{◌≡◌, ◌&&◌, not, Bool, ℕ};
+ghost use Rattle.std.specs.Prelude.{◌≡◌, ◌&&◌, not, ℕ};
 ghost use Rattle.thumb_instr.specs.Items.{has};
 ghost use Rattle.code_flow.specs.Flow.{way_list};
 ghost use Rattle.liveness.specs.Graph.{leads_to};

@@ -1,5 +1,5 @@
 //! The sets of live items while they shrink: what they were before is kept of each place that was touched.
-ghost use Rattle.std.specs.Prelude.{◌≡◌, ◌≢◌, ◌<◌, ◌&&◌, not, true, false, ℕ, length, IfOk};
+ghost use Rattle.std.specs.Prelude.{◌≡◌, ◌≢◌, ◌<◌, ◌&&◌, not, true, false, ℕ, length};
 ghost use Rattle.thumb_instr.specs.Items.{has, one_of};
 ghost use Rattle.liveness.specs.Live.{set_at};
 ghost use Rattle.liveness.specs.Walk.{start_at, ClearsOn, IsFitWalk};

@@ -1,5 +1,5 @@
 //! A window that gives way: what it reads and writes as a whole, and the ways of the instructions that take its places.
-ghost use Rattle.std.specs.Prelude.{◌≡◌, ◌<◌, ◌≤◌, ◌-◌, ◌^◌, true, false, ℕ, length, get_or, slice_get, Some, None, Option};
+ghost use Rattle.std.specs.Prelude.{◌≡◌, ◌<◌, ◌≤◌, ◌-◌, ◌^◌, false, ℕ, length, get_or, slice_get, Some, None, Option};
 ghost use Rattle.thumb_instr.specs.Items.{has, one_of};
 ghost use Rattle.thumb_model.specs.Flow.{ways_of};
 ghost use Rattle.liveness.specs.Passing.{reads_from, writes_from};

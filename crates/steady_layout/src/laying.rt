@@ -1,5 +1,5 @@
 //! The widest layout: lines one behind the other, each with the most bytes that it takes.
-ghost use Rattle.std.specs.Prelude.{◌≡◌, ◌≤◌, ◌^◌, map, IfOk, MatchOption};
+ghost use Rattle.std.specs.Prelude.{◌≤◌, ◌^◌, map, IfOk, MatchOption};
 ghost use Rattle.listing_parser.specs.Views.{line_view};
 ghost use Rattle.steady_layout.specs.Steady.{first, widest_end};
 ghost use Rattle.steady_layout.specs.Starts.{AreStarts};

@@ -1,5 +1,5 @@
 //! Where lines begin in the widest layout.
-ghost use Rattle.std.specs.Prelude.{◌≡◌, ◌+◌, ◌-◌, ◌≤◌, ◌^◌, ◌<◌, min, length, nat_le, Some, None, if◌then◌else◌};
+ghost use Rattle.std.specs.Prelude.{◌≡◌, ◌+◌, ◌-◌, ◌≤◌, ◌^◌, ◌<◌, min, nat_le, Some, None, if◌then◌else◌};
 ghost use Rattle.label_layout.specs.Addresses.{in_code_region};
 ghost use Rattle.listing_parser.specs.Views.{statement_view};
 ghost use Rattle.steady_layout.specs.Steady.{most_of, aligns_surely as surely_aligns, ends_aligned as stays_aligned, behind};

@@ -1,6 +1,6 @@
 -- Entries fit as more states are found, and pass the audit.
 use Rattle.std.proofs.Common.{◌≡◌, ℕ, suc, ◌+◌, ◌≤◌, ◌⊎◌, ◌==◌, inl, inr, Bool, true, false, not, List, [], ◌∷◌, ◌++◌, Option, Some, None, cond, filter, length, slice_get, refl, sym, ◌∙◌, ap, subst, arith, eqb-true, nat_le}
-use Rattle.std.proofs.lemmas.Bool.{or_cases, or_left, or_right, false≢true, true≢false, and_parts, leb-true, le-leb, not-true}
+use Rattle.std.proofs.lemmas.Bool.{or_cases, or_left, or_right, false≢true, true≢false, and_parts, leb-true, not-true}
 use Rattle.seq_enum.specs.Alphabet.{ascends_from}
 use Rattle.thumb_instr.specs.declared.instr.Instr.{Instr}
 use Rattle.window_exec.specs.State.{Seen}

@@ -1,5 +1,5 @@
 -- How many registers the sequences have that stand against a window: those that it names, and the scratch register where there is one, and four at most.
-use Rattle.std.proofs.Common.{ℕ, ◌<◌, ◌≤◌, List, arith}
+use Rattle.std.proofs.Common.{◌<◌, ◌≤◌, List, arith}
 use Rattle.thumb_instr.specs.declared.instr.Instr.{Instr}
 use Rattle.bit_blast.specs.Exactness.{IsMaskOver}
 use Rattle.table_audit.specs.Shorter.{named_count, alphabet_registers, with_scratch}

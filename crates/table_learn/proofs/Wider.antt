@@ -1,5 +1,5 @@
 -- The alphabet of more registers has each instruction of that of fewer.
-use Rattle.std.proofs.Common.{ℕ, zero, suc, ◌≤◌, inl, inr, Bool, true, List, [], ◌∷◌, Contains, filter, map, refl, subst, arith}
+use Rattle.std.proofs.Common.{ℕ, zero, suc, ◌≤◌, inl, inr, Bool, List, [], ◌∷◌, Contains, filter, map, subst, arith}
 use Rattle.std.specs.List.{flat_map}
 use Rattle.std.proofs.lemmas.List.Elements.{All-nil, All-cons, All-head, All-tail}
 use Rattle.thumb_instr.specs.declared.instr.Instr.{Instr}

@@ -1,5 +1,5 @@
 -- How far the search for a window's right side has come.
-use Rattle.std.specs.Prelude.{ℕ, ◌≡◌, ◌≤◌, ◌⊎◌, ◌+◌, ◌*◌, ◌++◌, Bool, true, false, List, [], ◌∷◌, Contains, Option, Some, None, is_some, length, nat_lt, slice_get, take, if◌then◌else◌}
+use Rattle.std.specs.Prelude.{ℕ, ◌≡◌, ◌≤◌, ◌⊎◌, ◌+◌, ◌*◌, ◌++◌, Bool, true, false, List, [], ◌∷◌, Contains, Some, is_some, length, nat_lt, slice_get, take, if◌then◌else◌}
 use Rattle.std.specs.List.{All}
 use Rattle.thumb_instr.specs.declared.instr.Instr.{Instr}
 use Rattle.seq_enum.specs.Alphabet.{ascends_from, alphabet}

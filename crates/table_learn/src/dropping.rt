@@ -1,5 +1,5 @@
 //! Open numbers that a later state tells are dropped, with their logs.
-ghost use Rattle.std.specs.Prelude.{◌≡◌, ◌<◌, ◌≤◌, ◌+◌, ◌*◌, ℕ, true, All, IfOk, OnOk, filter, length, map};
+ghost use Rattle.std.specs.Prelude.{◌≡◌, ◌<◌, ◌≤◌, ◌+◌, ◌*◌, All, IfOk, OnOk, filter, length, map};
 ghost use Rattle.window_exec.specs.State.{seen};
 ghost use Rattle.thumb_model.specs.Effect.{AreOver};
 ghost use Rattle.rule_table.specs.Table.{Rule};

@@ -1,5 +1,5 @@
 //! How many bytes the lines of a table's text have, without writing the whole.
-ghost use Rattle.std.specs.Prelude.{◌≡◌, ◌<◌, ◌+◌, ◌*◌, [], ◌∷◌, IfOk, length, map, sum_by, decimal};
+ghost use Rattle.std.specs.Prelude.{◌≡◌, ◌<◌, ◌+◌, ◌*◌, [], ◌∷◌, IfOk, map, sum_by};
 ghost use Rattle.lrat_check.specs.Text.{content_of};
 ghost use Rattle.rule_table.specs.Text as item;
 ghost use Rattle.rule_table.specs.Text.{rule_items, open_items};

@@ -1,7 +1,7 @@
 //! Bytes, put behind those of the lines before.
-ghost use Rattle.std.specs.Prelude.{◌≡◌, ◌+◌, ◌*◌, ◌%◌, ◌≤◌, ◌^◌, ◌++◌, true, None, OnOk, length, map};
+ghost use Rattle.std.specs.Prelude.{◌≡◌, ◌+◌, ◌*◌, ◌%◌, ◌≤◌, ◌^◌, ◌++◌, true, None, OnOk, map};
 ghost use Rattle.thumb_model.specs.Listing.{Instruction};
-ghost use Rattle.thumb_model.specs.Layout.{fault_at, instr_fault, lies_in, padding as padding_at};
+ghost use Rattle.thumb_model.specs.Layout.{fault_at, instr_fault, lies_in};
 ghost use Rattle.thumb_assembler.specs.Bytes.{half_bytes, nops, word_bytes, lies_inside};
 ghost use Rattle.listing_parser.specs.Views.{mention_view, statement_view, value_view};
 ghost use Rattle.thumb_assembler.specs.Fair.{IsReady, is_fair};

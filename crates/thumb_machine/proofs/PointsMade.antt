@@ -1,8 +1,7 @@
 -- The least places of words, as they are gathered.
-use Rattle.std.proofs.Common.{◌≡◌, inl, inr, ℕ, zero, suc, ◌+◌, ◌∙◌, true, false, List, [], ◌∷◌, ◌++◌, Option, Some, None, length, drop, refl, sym, ap, arith, add-one, append_assoc, if◌then◌else◌}
+use Rattle.std.proofs.Common.{◌≡◌, inl, inr, ℕ, ◌+◌, ◌∙◌, true, false, List, [], ◌∷◌, ◌++◌, Option, Some, None, length, drop, refl, sym, ap, arith, add-one, append_assoc, if◌then◌else◌}
 use Rattle.std.specs.Prelude.{slice_get}
 use Rattle.std.proofs.lemmas.Bool.{cases_Bool}
-use Rattle.std.proofs.lemmas.Option.{same_Some}
 use Rattle.thumb_model.specs.Listing.{Label, ListingLine, Place, is_call, is_code, is_op_place, labels_at, labels_from, places_in}
 use Rattle.thumb_model.specs.Naming.{Naming, points_of, returns_from}
 use Rattle.thumb_model.specs.Steps.{point_among}

@@ -1,10 +1,9 @@
 -- What it means that a step of the machine does what the model's act says.
-use Rattle.std.specs.Prelude.{◌≡◌, ℕ, List, [], ◌∷◌, ◌++◌, Option, Some, None, Result, Ok, Err}
+use Rattle.std.specs.Prelude.{◌≡◌, ℕ, List, [], ◌∷◌, ◌++◌, Some, Result, Ok, Err}
 use Rattle.thumb_machine.specs.declared.answers.Answer.{Answer}
 use Rattle.thumb_machine.specs.declared.world.World.{World}
 use Rattle.thumb_machine.specs.declared.world.Continuation.{Continuation}
 use Rattle.thumb_machine.specs.declared.world.Continuation.TheVariants as next
-use Rattle.thumb_machine.specs.declared.world.End.{End}
 use Rattle.thumb_machine.specs.declared.world.End.TheVariants as end
 use Rattle.thumb_machine.specs.declared.world.Target.{Target}
 use Rattle.thumb_machine.specs.declared.world.Target.TheVariants as target

@@ -1,5 +1,5 @@
 //! One arm for each form of instruction that does more than compute; what a place decides comes in from outside.
-ghost use Rattle.std.specs.Prelude.{◌≡◌, ◌+◌, ◌%◌, ◌^◌};
+ghost use Rattle.std.specs.Prelude.{◌≡◌, ◌+◌};
 ghost use Rattle.thumb_model.specs.Acts.{act, offset};
 ghost use Rattle.thumb_machine.specs.Acting.{Acts, around_of};
 

@@ -1,5 +1,5 @@
 //! Whether code points at different places have different words.
-ghost use Rattle.std.specs.Prelude.{◌≡◌, ℕ, true, not, ◌==◌, ◌||◌, IsTrue};
+ghost use Rattle.std.specs.Prelude.{◌≡◌, true, ◌==◌, ◌||◌, IsTrue};
 ghost use Rattle.std.specs.List.{list_all};
 ghost use Rattle.thumb_model.specs.Listing.{code_of};
 ghost use Rattle.thumb_model.specs.Naming.{points};

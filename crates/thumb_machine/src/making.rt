@@ -1,5 +1,5 @@
 //! How a program's words are found: by the layout's naming, or by one that is given, which has to fit.
-ghost use Rattle.std.specs.Prelude.{◌≡◌, ◌<◌, ◌≤◌, ◌+◌, ◌/◌, ◌^◌, ℕ, vec_len, Some, option_map, slice_get, take, length, IfOk, if◌then◌else◌};
+ghost use Rattle.std.specs.Prelude.{◌≡◌, ◌<◌, ◌≤◌, ◌+◌, ◌/◌, ◌^◌, ℕ, vec_len, Some, slice_get, take, length, IfOk, if◌then◌else◌};
 ghost use Rattle.thumb_model.specs.Listing.{code_of, call_count, is_call, places_of};
 ghost use Rattle.thumb_model.specs.Steps.{aim_of, literal_at, literal_word, loads_literal, set_bit, target_at, word_of_mention, word_of_place, word_of_value};
 ghost use Rattle.listing_parser.specs.Views.{mention_view, place_view, value_view};

@@ -1,5 +1,5 @@
 //! A branch by a word lands at the least place that has this word, found by one look in a table that is made once.
-ghost use Rattle.std.specs.Prelude.{◌≡◌, ◌==◌, ◌<◌, ◌-◌, ◌^◌, ◌∷◌, [], ◌++◌, ℕ, List, map, nat_eq, length, IfOk, OnOk, if◌then◌else◌};
+ghost use Rattle.std.specs.Prelude.{◌≡◌, ◌==◌, ◌<◌, ◌-◌, ◌^◌, ◌∷◌, [], ◌++◌, ℕ, List, map, nat_eq, IfOk, OnOk, if◌then◌else◌};
 ghost use Rattle.std.specs.HashMap.{get};
 ghost use Rattle.thumb_model.specs.Listing.{code_of, labels_at, labels_from, places_of};
 ghost use Rattle.thumb_model.specs.Naming.{points, points_of, returns_from};

@@ -1,5 +1,5 @@
 //! `pop` with pc is the one load that is also a branch, so it stands by itself.
-ghost use Rattle.std.specs.Prelude.{◌≡◌, ◌<◌, ◌≤◌, ◌+◌, ◌++◌, ◌∷◌, [], length, nat_le, true, if◌then◌else◌};
+ghost use Rattle.std.specs.Prelude.{◌≡◌, ◌<◌, ◌≤◌, ◌+◌, ◌++◌, ◌∷◌, [], length, nat_le, if◌then◌else◌};
 ghost use Rattle.thumb_instr.specs.Items.{has};
 ghost use Rattle.thumb_instr.specs.Shape.{registers_in};
 ghost use Rattle.thumb_model.specs.Effect.{assigned, one_of, sp, written_to};

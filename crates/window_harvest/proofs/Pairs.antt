@@ -1,11 +1,11 @@
 -- The pair of a spot.
-use Rattle.std.proofs.Common.{◌≡◌, ℕ, ◌≤◌, Bool, true, false, List, [], ◌∷◌, length, take, drop, map, Option, refl, sym, ap, ◌∙◌, subst, arith, ◌↔◌}
+use Rattle.std.proofs.Common.{◌≡◌, ℕ, ◌≤◌, Bool, true, false, List, length, take, drop, Option, refl, sym, ap, ◌∙◌, subst, arith, ◌↔◌}
 use Rattle.std.specs.List.{list_all}
 use Rattle.std.proofs.lemmas.List.{length-map}
 use Rattle.thumb_instr.specs.declared.instr.Instr.{Instr}
 use Rattle.thumb_instr.specs.Items.{has as has_item}
 use Rattle.thumb_instr.specs.Window.{is_in_window, Low}
-use Rattle.thumb_model.specs.Listing.{plain, ListingLine, places_of}
+use Rattle.thumb_model.specs.Listing.{ListingLine, places_of}
 use Rattle.rule_table.specs.Canonical.{IsRenamable, IsCanonical}
 use Rattle.rule_table.proofs.Backs.{windows_normal}
 use Rattle.window_harvest.specs.Harvest.{Pair, Limits, WindowSpan, StandsThere, IsPairAt}

@@ -1,9 +1,8 @@
 -- A window of kept places that gives way in a padded code: the code that is left, and its live items.
 use Rattle.std.proofs.Common.{◌≡◌, ℕ, zero, suc, ◌+◌, ◌-◌, ◌<◌, ◌≤◌, Bool, true, false, List, [], ◌∷◌, length, take, drop, map, get_or, Some, refl, sym, ap, ◌∙◌, subst, ◌⊎◌, inl, inr, arith}
-use Rattle.std.specs.Prelude.{slice_get, slice_set}
+use Rattle.std.specs.Prelude.{slice_get}
 use Rattle.std.specs.List.{list_all}
 use Rattle.std.proofs.lemmas.Bool.{and_parts, and_from, cases_lt}
-use Rattle.std.proofs.lemmas.List.{length-set}
 use Rattle.thumb_instr.specs.declared.instr.Instr.{Instr}
 use Rattle.thumb_instr.specs.declared.instr.Instr.TheVariants as instr
 use Rattle.thumb_instr.specs.Window.{is_in_window}
@@ -16,8 +15,8 @@ use Rattle.window_rewrite.specs.Settled.{MayGiveWay}
 use Rattle.kept_places.specs.Marks.{is_gone, rank}
 use Rattle.kept_places.proofs.Ranks.{rank_kept, ranks_ascend, outside_by_rank}
 use Rattle.shrinking_sets.specs.Straight.{is_straight, IsUnlabelled}
-use Rattle.padded_code.specs.Padding.{ranked, nop, IsPadded}
-use Rattle.padded_code.specs.Exchange.{marks_after, places_after, exchanged, AreKeptFrom, GivesWay as GivesWayPadded}
+use Rattle.padded_code.specs.Padding.{ranked, IsPadded}
+use Rattle.padded_code.specs.Exchange.{marks_after, exchanged, AreKeptFrom, GivesWay as GivesWayPadded}
 use Rattle.padded_code.specs.Windows.{AreRanked}
 use Rattle.padded_code.specs.Spread.{spread, last_of}
 use Rattle.padded_code.proofs.Padded.{label_in}

@@ -1,5 +1,5 @@
 //! The places of a listing at which an entry or a family may apply: those that are due are looked at, the least first, until none is.
-ghost use Rattle.std.specs.Prelude.{◌≡◌, ◌+◌, ◌*◌, ◌<◌, ◌≤◌, ℕ, suc, List, true, false, All, length, map, replicate, slice_get, is_some, Some, IfOk, OnOk, IfSome, IfNone};
+ghost use Rattle.std.specs.Prelude.{◌≡◌, ◌+◌, ◌*◌, ◌<◌, ◌≤◌, ℕ, suc, true, false, All, length, map, replicate, slice_get, is_some, Some, IfOk, OnOk, IfSome, IfNone};
 ghost use Rattle.std.specs.Int.{from_bool};
 ghost use Rattle.kept_places.specs.Marks.{is_gone, marked};
 ghost use Rattle.thumb_model.specs.Listing.{places_of};

@@ -1,5 +1,5 @@
 //! The families of a table at a window: a family's number has one value there at most, which is read off the window's canonical form.
-ghost use Rattle.std.specs.Prelude.{◌≡◌, ◌+◌, ◌<◌, ◌≤◌, ◌==◌, length, map, slice_get, true, is_some, IfOk, OnOk, IfSome, IfNone, MatchOption, Some};
+ghost use Rattle.std.specs.Prelude.{◌≡◌, ◌+◌, ◌<◌, ◌≤◌, ◌==◌, length, map, true, is_some, IfOk, OnOk, IfSome, IfNone, MatchOption, Some};
 ghost use Rattle.std.specs.Int.{from_bool};
 ghost use Rattle.std.specs.List.{list_any};
 ghost use Rattle.bit_blast.specs.Slots.{instance, Byte, IsValue};

@@ -1,5 +1,5 @@
 //! The best replacement that can be made at a place.
-ghost use Rattle.std.specs.Prelude.{◌≡◌, ◌+◌, ◌-◌, ◌<◌, ◌≤◌, ◌↔◌, max, List, length, true, false, ◌==◌, is_some, IfOk, OnOk, IfSome, IfNone, OnSome};
+ghost use Rattle.std.specs.Prelude.{◌≡◌, ◌+◌, ◌-◌, ◌<◌, ◌≤◌, ◌↔◌, max, List, length, true, ◌==◌, is_some, IfOk, OnOk, IfSome, IfNone, OnSome};
 ghost use Rattle.std.specs.Int.{from_bool};
 ghost use Rattle.std.specs.List.{list_all};
 ghost use Rattle.thumb_instr.specs.Window.{Low as LowRegister, is_in_window};

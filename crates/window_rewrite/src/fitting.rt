@@ -1,6 +1,6 @@
 //! Whether an entry fits a window, as far as the window and the live items tell. A window's canonical form has its registers: an entry stands in it just where its
 //! left side is that form, and then with these.
-ghost use Rattle.std.specs.Prelude.{◌≡◌, ◌≤◌, List, length, MatchOption};
+ghost use Rattle.std.specs.Prelude.{◌≤◌, List, length, MatchOption};
 ghost use Rattle.thumb_instr.specs.Window.{Low as LowRegister};
 ghost use Rattle.rule_model.specs.Rules.{IsSoundRule};
 ghost use Rattle.table_audit.specs.Shorter.{IsCanonicalSide};

@@ -1,5 +1,4 @@
-use Rattle.std.proofs.Common.{◌≡◌, ◌∙◌, ◌≤◌, ℕ, zero, suc, List, [], ◌∷◌, length, None, refl, sym, ap, arith}
-use Rattle.std.specs.Prelude.{slice_get}
+use Rattle.std.proofs.Common.{◌≡◌, ◌∙◌, None, sym, ap, arith}
 use Rattle.thumb_model.specs.Listing.{places_of}
 use Rattle.listing_draft.specs.Drafted.{aim_at, stands}
 use Rattle.listing_draft.proofs.Stands.{aimed_to, stands_at}

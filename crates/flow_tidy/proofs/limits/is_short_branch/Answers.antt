@@ -1,4 +1,4 @@
-use Rattle.std.proofs.Common.{◌∙◌, List, ℕ, Some, arith, length, rules, sym}
+use Rattle.std.proofs.Common.{◌∙◌, List, ℕ, Some, arith, length, sym}
 use Rattle.std.proofs.lemmas.Bool.{leb-true}
 use Rattle.std.proofs.lemmas.List.Sums.{prefix_len-le-length}
 use Rattle.listing_parser.specs.Parsing.{line_mentioning}

@@ -1,4 +1,4 @@
-use Rattle.std.proofs.Common.{arith, inr, refl, sym, subst, ◌∙◌, ◌≡◌, slice_get, Some, map}
+use Rattle.std.proofs.Common.{inr, refl, sym, subst, ◌∙◌, ◌≡◌, slice_get, Some, map}
 use Rattle.std.proofs.lemmas.Bool.{false≢true}
 use Rattle.rule_table.specs.Views.{opened_of, rule_of, table_of}
 use Rattle.lrat_check.proofs.Turns.{turn_step, turn_fault}

@@ -2,7 +2,7 @@ use Rattle.std.proofs.Common.{ℕ, List, ◌≡◌, ◌+◌, ◌≤◌, ◌<◌,
 use Rattle.std.proofs.lemmas.Option.{slice_get-get_or, slice_get-map, same_Some}
 use Rattle.std.specs.Option.{option_map}
 use Rattle.window_exec.specs.declared.state.WState.{WState}
-use Rattle.window_exec.specs.State.{seen, Seen}
+use Rattle.window_exec.specs.State.{seen}
 use Rattle.fingerprints.specs.declared.trials.Trial.{Trial}
 use Rattle.fingerprints.specs.Outcomes as table
 use Rattle.fingerprints.specs.Outcomes.{Extent}

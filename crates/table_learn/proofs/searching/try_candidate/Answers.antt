@@ -1,4 +1,4 @@
-use Rattle.std.proofs.Common.{sym, subst, arith, refl, map}
+use Rattle.std.proofs.Common.{sym, subst, refl, map}
 use Rattle.std.proofs.lemmas.List.{map_push}
 use Rattle.thumb_model.specs.Effect.{AreOver}
 use Rattle.window_exec.specs.State.{seen}
