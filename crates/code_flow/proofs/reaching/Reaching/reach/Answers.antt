@@ -5,6 +5,9 @@ use Rattle.code_flow.proofs.Marking.{marked_is}
 use Rattle.code_flow.proofs.Reaches.{marks_more, still_reaching}
 use Rattle.code_flow.proofs.reaching.Reaching.reach.Goals as goal
 
+pub returns-then-at-len-clause-here : goal.returns-then-at-len-clause-here
+returns-then-at-len-clause-here c = λ l. absurd (omega (arith, l, c.if-at-len.true, c.len.ensures))
+
 pub returns-clause-reaching : goal.returns-clause-reaching
 returns-clause-reaching c =
     let within : c.args.place < length c.args.self.now.marks.items = omega (arith, c.if-at-len.false, c.len.ensures) in
