@@ -4,9 +4,14 @@ use Rattle.kept_places.proofs.Ranks.{marked_set}
 use Rattle.code_flow.proofs.Marking.{marked_is}
 use Rattle.code_flow.proofs.Reaches.{marks_more, still_reaching}
 use Rattle.code_flow.proofs.reaching.Reaching.reach.Goals as goal
+use Rattle.code_flow.proofs.reaching.Reaching.reach.Goals.{then-at-len-via-then-at-len, then-at-len-via-else-at-len+then-index}
 
 pub returns-then-at-len-clause-here : goal.returns-then-at-len-clause-here
-returns-then-at-len-clause-here c = λ l. absurd (omega (arith, l, c.if-at-len.true, c.len.ensures))
+returns-then-at-len-clause-here c = λ l. elim c.then-at-len.branch [
+  | then-at-len-via-then-at-len w ↦ absurd (omega (arith, l, w.if-at-len.true, c.len.ensures))
+  | then-at-len-via-else-at-len+then-index w ↦
+      marked_is c.args.self.now.marks.items c.args.place w.index.result.now (slice_get_read c.args.self.now.marks.items _ c.args.place w.index.result.now refl l w.index.ensures) ∙ w.if-index.true
+]
 
 pub returns-clause-reaching : goal.returns-clause-reaching
 returns-clause-reaching c =
