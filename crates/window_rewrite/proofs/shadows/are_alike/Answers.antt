@@ -1,10 +1,6 @@
 use Rattle.std.proofs.Common.{◌∙◌, ap, sym, true≢false}
-use Rattle.thumb_model.specs.Effect.{register_count}
 use Rattle.table_audit.specs.Soundness.{items_in}
 use Rattle.window_rewrite.proofs.shadows.are_alike.Goals as goal
-
-pub needs_scratch-2-requires : goal.needs_scratch-2-requires
-needs_scratch-2-requires c = c.register_count-named.ensures ∙ ap register_count (c.are_same.ensures.same c.if-not-are_same.false ∙ c.as_slice.ensures.value)
 
 pub returns-then-not-needs_scratch : goal.returns-then-not-needs_scratch
 returns-then-not-needs_scratch c = λ _. record {
