@@ -1,5 +1,5 @@
 //! Names and the registers' names, told apart byte by byte, so that every reader of words takes the same words for a name.
-ghost use Rattle.std.specs.Prelude.{◌≡◌, map, List, ℕ};
+ghost use Rattle.std.specs.Prelude.{◌≡◌, map};
 ghost use Rattle.std.specs.List.{list_any, prefix_len};
 ghost use Rattle.ascii_scan.specs.Tokens.{front};
 ghost use Rattle.ascii_scan.specs.Names.{is_name_byte, is_opening, is_register, is_spelled, name_length, registers};

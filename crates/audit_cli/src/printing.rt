@@ -1,4 +1,4 @@
-//! What is kept and printed, as bytes.
+//! What commands keep and print, as bytes: the one line or so by which a user learns what came of it.
 ghost use Rattle.std.specs.Prelude.{◌≡◌, ◌∷◌, [], IfOk};
 ghost use Rattle.audit_cli.specs.Printed.{report_of, image_line, entries_line, learnt_line, demo_line, formula_line, trimmed_line, families_line, tidied_report};
 ghost use Rattle.command_runs.specs.Outcomes.{outcome_view};

@@ -1,4 +1,4 @@
-//! Why a run is refused, and the line that tells it.
+//! Why a run is refused, and the one line that tells it.
 ghost use Rattle.std.specs.Prelude.{◌≡◌, IfOk};
 ghost use Rattle.command_runs.specs.Outcomes.{outcome_view};
 ghost use Rattle.command_runs.specs.Plans.{Refuses};

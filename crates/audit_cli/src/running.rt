@@ -1,4 +1,4 @@
-//! A machine's run of at most so many steps.
+//! A machine's run of at most so many steps, for `trace`: it also ends where the outside has no more answers.
 ghost use Rattle.std.specs.Prelude.{◌≡◌, false, IfOk};
 ghost use Rattle.thumb_model.specs.Listing.{Code};
 ghost use Rattle.thumb_model.specs.Naming.{Naming};

@@ -1,4 +1,4 @@
-//! Where a trace begins.
+//! The fixed state and answers from which `trace` runs a listing, so that one listing prints one trace wherever it is run.
 ghost use Rattle.std.specs.Prelude.{◌≡◌, [], IfOk};
 ghost use Rattle.thumb_machine.specs.Outside.{answer_of, answers_of};
 ghost use Rattle.thumb_machine.specs.Starting.{start_values as start_values_of};

@@ -1,4 +1,4 @@
-//! The top call: all that the program does.
+//! The top call: all that the program does with its words, its files and its output. The headline is a clause of its contract.
 ghost use Rattle.std.specs.Prelude.{map, string_bytes};
 ghost use Rattle.outer_store.specs.Answers.{Grows, SinkGrows};
 ghost use Rattle.command_line.specs.Request.{request_of};

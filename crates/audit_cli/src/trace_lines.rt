@@ -1,4 +1,4 @@
-//! The printed lines of a trace.
+//! The lines that `trace` prints, one for each event and one for how the run stands.
 ghost use Rattle.std.specs.Prelude.{◌≡◌, ◌<◌, ◌+◌, ◌++◌, codes, IfOk, OnOk};
 ghost use Rattle.thumb_machine.specs.Outside.{event_of, events_of};
 ghost use Rattle.audit_cli.specs.Printed.{printed, and_number};

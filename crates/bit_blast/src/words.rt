@@ -1,5 +1,5 @@
 //! Words of 32 bits, lowest first, for which no gate is needed: constants, contraries, and shifts by a known amount.
-ghost use Rattle.std.specs.Prelude.{◌≡◌, ◌<◌, ◌≤◌, ◌+◌, ◌++◌, length, map};
+ghost use Rattle.std.specs.Prelude.{◌≡◌, ◌<◌, ◌≤◌, ◌+◌, ◌++◌, length};
 ghost use Rattle.bit_blast.specs.Words.{filled, constant, inverted, fill, moved, moved_out, extended, turned};
 
 use cnf_gates::Bit;

@@ -1,4 +1,4 @@
-//! The learner, over a window that is given.
+//! Cases of the learner: what it makes of one window that is given, without a listing around it.
 ghost use Rattle.std.specs.Prelude.{◌≢◌, ◌↔◌, IsTrue};
 ghost use Rattle.rule_table.specs.Views.{table_of};
 ghost use Rattle.rule_table.specs.Table.{IsTable};

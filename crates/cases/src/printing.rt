@@ -1,4 +1,4 @@
-//! What cases are answered by.
+//! The answer to a case, item by item with one blank between, so that all cases answer in one form.
 use std::alloc::Global;
 
 /// The items of an answer, parted by a blank each, on a line or a few.

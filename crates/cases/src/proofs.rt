@@ -1,4 +1,4 @@
-//! Lines of proofs, their checker, and the solver.
+//! Cases of proofs: lines that a checker takes or refuses, and formulas that the solver is given.
 use crate::rule_part::Given;
 use crate::texts::tell;
 use cdcl_core::Verdict;

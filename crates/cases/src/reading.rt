@@ -1,4 +1,4 @@
-//! The arguments of cases.
+//! The words of a case's line, taken from the front one by one, each as the number or text that the case asks for.
 use crate::escapes::bytes_of;
 use std::alloc::Global;
 

@@ -1,4 +1,4 @@
-//! Tables: their text, and their audit.
+//! Cases of tables: whether the kept text is one or where it is refused, and what its audit says.
 ghost use Rattle.std.specs.Prelude.{IfSome};
 ghost use Rattle.rule_table.specs.Views.{table_of};
 ghost use Rattle.rule_table.specs.Table.{IsTable};

@@ -1,4 +1,4 @@
-//! The text that is kept.
+//! The text that one case keeps for the next: put together from lines, changed in a part, or shown without its states and proofs.
 use crate::rule_part::Given;
 use std::alloc::Global;
 use std::fmt::{Debug, Write};

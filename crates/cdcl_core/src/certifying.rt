@@ -1,4 +1,4 @@
-//! The line that certifies a clause that follows.
+//! The line of the log that certifies a clause, by propagating from its negation with hints for each step.
 
 ghost use Rattle.std.specs.Prelude.{◌≡◌, ℕ, ◌≤◌, OnOk, IfOk, All, List, length, map, take, Contains, Option, pos};
 ghost use Rattle.clause_model.specs.Clauses.{IsFalse};
@@ -50,6 +50,7 @@ impl Solver {
         let high = self.trail.len();
         let Some(conflict) = propagate(&mut self.arena, &mut self.trail, &mut self.reasons, low)?
         else {
+            // For the prover alone: the calls' contracts say that no two true literals are equal or contrary, and that the arena is whole.
             let _trues = self.trail.len();
             let _literals = self.arena.literals();
             unreachable!()

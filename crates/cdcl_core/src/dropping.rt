@@ -72,6 +72,7 @@ fn drop_spare(
     ensures base { OnOk result (IsBase (clauses_of arena.old) (length arena.old.chains) arena.new refs.now reasons.now trail.now None) }
     ensures dropped { OnOk result (AreDropped arena.new refs.now reasons.now trail.now (length refs.now)) }
 {
+    // For the prover alone: the call's contract says that the arena is whole.
     let _whole = arena.literals();
     let marks = mark_reasons(alloc, refs, reasons)?;
     for place in 0..refs.len() {
@@ -101,6 +102,7 @@ fn live_clauses(alloc: Global, arena: &Arena, refs: &[Ref], ids: &[Id]) -> Resul
     requires ids { length ids.now ≡ length refs.now }
     ensures { IfOk result (λ v. Remains arena.now refs.now ids.now (length refs.now) v.refs.items v.ids.items) }
 {
+    // For the prover alone: the call's contract says that the arena is whole.
     let _whole = arena.literals();
     let mut kept = Vec::new(alloc);
     let mut names = Vec::new(alloc);
@@ -183,9 +185,11 @@ impl Solver {
         if rest.dropped_words <= rest.words {
             return Ok(());
         }
+        // For the prover alone: the call's contract says that the arena is whole.
         let _whole = self.arena.literals();
         let mut moved = Vec::from_slice(self.alloc, &rest.refs)?;
         self.arena.compact(&mut moved)?;
+        // For the prover alone: the call's contract says that the arena is whole.
         let _compacted = self.arena.literals();
         self.reasons = rename(self.alloc, &rest.refs, &moved, &self.reasons)?;
         self.refs = moved;

@@ -1,4 +1,4 @@
-//! Formulas as the clauses of an arena.
+//! Formulas as clauses of an arena, which is how propagation holds them, with the numbers that the log's hints will name.
 
 ghost use Rattle.std.specs.Prelude.{◌≡◌, ◌≢◌, ℕ, ◌<◌, ◌≤◌, ◌*◌, OnOk, All, Any, true, false, [], map, length};
 ghost use Rattle.clause_model.specs.Clauses.{code_of, codes_of};

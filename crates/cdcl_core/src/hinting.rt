@@ -62,6 +62,7 @@ impl Solver {
         ensures literals { IfOk result (λ line. line.literals.items ≡ map negated givens.now) }
         ensures hints { IfOk result (λ line. (live : ℕ → Option (List ℕ)) → AreNumbered live (clauses_of self.now.arena) self.now.ids.items → (hints : List ℕ) × (line.hints.items ≡ map pos hints) × RefutesTidily live givens.now hints) }
     {
+        // For the prover alone: the call's contract says that the arena is whole.
         let _whole = self.arena.literals();
         let literals = negations(self.alloc, givens)?;
         seen.truncate(0);

@@ -36,6 +36,7 @@ impl Solver {
         ensures asserting { IfOk result (λ line. IsAsserting (clauses_of self.old.arena) line.literals.items) }
         ensures tidy { IfOk result (λ line. (live : ℕ → Option (List ℕ)) → AreNumbered live (clauses_of self.old.arena) self.old.ids.items → (hints : List ℕ) × (line.hints.items ≡ map pos hints) × TidyPropagation live line.literals.items hints) }
     {
+        // For the prover alone: the call's contract says that no two true literals are equal or contrary.
         let _trues = self.trail.len();
         let (literal, others) = self.analyse(seen, low, start, conflict)?;
         let mut literals = Vec::new(self.alloc);

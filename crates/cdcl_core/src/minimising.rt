@@ -44,6 +44,7 @@ impl Solver {
             return Ok(Vec::new(self.alloc));
         }
         if literals.len() <= 1 {
+            // For the prover alone: the calls' contracts say that no two true literals are equal or contrary, and that the arena is whole.
             let _trues = self.trail.len();
             let _whole = self.arena.literals();
             let part = Vec::from_slice(self.alloc, literals)?;

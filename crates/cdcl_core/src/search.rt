@@ -36,6 +36,7 @@ fn pick(order: &mut Order, variables: u32, trail: &Assignment) -> Option<Literal
     ensures some { IfSome result (λ l. IsUnset trail.now l × (l < 2 * variables)) }
     ensures room { IfSome result (λ l. length trail.now < variables) }
 {
+    // For the prover alone: the call's contract says that no two true literals are equal or contrary.
     let _trues = trail.len();
     match order.propose(variables, trail) {
         Some(literal) => return Some(literal),
@@ -64,6 +65,7 @@ impl Solver {
             Some(_) => Ok(()),
             None => {
                 self.conflict = propagate(&mut self.arena, &mut self.trail, &mut self.reasons, 0)?;
+                // For the prover alone: the call's contract says that no two true literals are equal or contrary.
                 let _trues = self.trail.len();
                 Ok(())
             }
@@ -99,6 +101,7 @@ impl Solver {
         let low = self.trail.len();
         self.order.begin();
         'deciding: loop {
+            // For the prover alone: the call's contract says that the arena is whole.
             let _literals = self.arena.literals();
             let start = self.trail.len();
             let Some(literal) = pick(&mut self.order, self.variables, &self.trail) else {

@@ -1,4 +1,4 @@
-//! The solver.
+//! The solver's one call. It searches until there is a model, the empty clause or no budget left, and keeps a log that says why.
 
 ghost use Rattle.std.specs.Prelude.{◌≡◌, ◌≢◌, ℕ, ◌+◌, ◌*◌, ◌<◌, ◌≤◌, [], IfOk, All, IsTrue, ◌↔◌, length, Contains};
 ghost use Rattle.clause_model.specs.Clauses.{codes_of};
@@ -79,6 +79,7 @@ impl Solver {
             let id = Id::new(formula.clauses() as u32 + round + 1);
             match self.search(&mut seen, id, steps)? {
                 Ending::Model => {
+                    // For the prover alone: the call's contract says that no two true literals are equal or contrary.
                     let _trues = self.trail.len();
                     let model = model_of(self.alloc, self.variables, &self.trail)?;
                     return Ok(Verdict::Sat(model));

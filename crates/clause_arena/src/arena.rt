@@ -1,5 +1,5 @@
 //! All clauses of a solver in one vector of words, so that propagation reads memory in order and makes no list for a clause.
-ghost use Rattle.std.specs.Prelude.{◌≡◌, ◌≢◌, ℕ, ◌+◌, ◌-◌, ◌*◌, ◌<◌, ◌≤◌, ◌^◌, List, [], ◌∷◌, ◌++◌, length, map, replicate, OnOk, OnErr, IfOk, IfSome, Option, Some, None, Contains, false, get_or, slice_get, ◌↔◌, All};
+ghost use Rattle.std.specs.Prelude.{◌≡◌, ◌≢◌, ℕ, ◌+◌, ◌-◌, ◌*◌, ◌<◌, ◌^◌, List, [], ◌∷◌, ◌++◌, length, replicate, OnOk, OnErr, IfOk, IfSome, Option, Some, None, false, slice_get, ◌↔◌, All};
 ghost use Rattle.clause_arena.specs.Contents.{Content, literals_of, chain_of, HasClause, HasLiteral, Watches, IsWatch, WatchesNothing, IsFree, IsWhole, watched, with_chain, with_clause, with_dropped, is_dropped_of, references_of, IsBetween, IsAfter};
 ghost use Rattle.clause_arena.specs.Words.{place_of};
 

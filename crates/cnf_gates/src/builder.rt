@@ -1,5 +1,5 @@
 //! Gates are asked for by key, so that two sides of one formula share what they have in common.
-ghost use Rattle.std.specs.Prelude.{◌≡◌, ◌<◌, ◌≤◌, ◌↔◌, ◌++◌, ℕ, map, IfOk, OnErr, Err, Ok, List};
+ghost use Rattle.std.specs.Prelude.{◌≡◌, ◌<◌, ◌≤◌, ◌↔◌, map, IfOk, OnErr, Err, Ok};
 
 use crate::bit::{Bit, Gate, LIMIT, Signal, Variable};
 use crate::clauses::{clause_of, clauses_of};

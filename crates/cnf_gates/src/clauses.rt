@@ -1,5 +1,5 @@
 //! The clauses of each kind of gate by the transformation of Tseitin, one row a kind.
-ghost use Rattle.std.specs.Prelude.{◌≡◌, IfOk, IfNone, IfSome, map, [], true, false};
+ghost use Rattle.std.specs.Prelude.{◌≡◌, IfOk, IfNone, IfSome, map, true, false};
 ghost use Rattle.cnf_gates.specs.Cnf.{AreLiterals, AreClauses};
 ghost use Rattle.clause_model.specs.Clauses.{number_of};
 ghost use Rattle.cnf_gates.specs.Gates.{clauses_of, among, has_true, has_pair, always_true, literals, distinct};

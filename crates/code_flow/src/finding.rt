@@ -1,4 +1,4 @@
-//! The ways of an instruction, a row for each form.
+//! The ways of an instruction, a row for each form: on to the next place, to a label, to any code point, or out of the listing.
 ghost use Rattle.std.specs.Prelude.{◌≡◌, ◌<◌, ◌≤◌, ◌-◌, ◌^◌, ℕ, List, [], ◌∷◌, Option, Some, None};
 ghost use Rattle.thumb_instr.specs.Items.{one_of, has};
 ghost use Rattle.thumb_instr.specs.Shape.{uses_of, writes_of};

@@ -1,4 +1,4 @@
-//! The ways on from a place of a listing.
+//! The ways on from a place of a listing, as the definitions name them: what stands there, and where a run may go next.
 ghost use Rattle.std.specs.Prelude.{◌≡◌, is_some, option_map, slice_get};
 ghost use Rattle.thumb_model.specs.Listing.{code_of, is_op_place, places_of};
 ghost use Rattle.thumb_model.specs.Steps.{aim_of};

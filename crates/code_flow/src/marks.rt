@@ -1,4 +1,4 @@
-//! Marks of the places that runs may come to.
+//! Marks of the places that runs may come to, from every code point on: what isn't marked may go when a listing is tidied.
 ghost use Rattle.std.specs.Prelude.{◌≡◌, ◌<◌, Some, length, slice_get};
 
 use std::marker::Model;

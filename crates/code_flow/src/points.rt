@@ -26,6 +26,7 @@ fn mark_lines(marks: &mut Vec<bool>, listing: &Listing, lines: &[ListingLine])
     ensures len { length marks.new.items ≡ length marks.old.items }
     ensures marks { (q : ℕ) → marked marks.new.items q ≡ (marked marks.old.items q || one_of q (label_places (places_of listing.now) (labels_from 0 listing.now)) || one_of q (return_places 0 (places_of listing.now))) }
 {
+    // For the prover alone: the type of the answer says that the places are fewer than 2^32.
     let _count = listing.place_count();
     let mut place = 0usize;
     for line in lines {

@@ -1,4 +1,4 @@
-//! Runs of images.
+//! Runs of images given as bytes, with answers of the outside: where such a run ends and what is seen of it.
 use ascii_scan::number;
 use std::alloc::{AllocError, Global};
 use thumb_assembler::ImageMachine;

@@ -1,4 +1,4 @@
-//! How texts are shown.
+//! How a case shows the texts that a command leaves: in full, or by the name of a text that the case knows already, so that outputs stay short.
 use crate::runs::Notes;
 use std::alloc::{AllocError, Global};
 

@@ -1,4 +1,4 @@
-//! The program and its commands, as clap takes them.
+//! The program's commands, words and options as clap takes them. Its own help and messages are off, since the program prints only what its contract tells.
 
 ghost use Rattle.std.specs.Prelude.{◌≡◌, IfOk, false};
 ghost use Rattle.clap.specs.Words.{app_of, with_rule};

@@ -1,4 +1,4 @@
-//! What a command line asks for.
+//! What a command line asks for, with each value in its range, so that nothing behind it looks at words again.
 ghost use Rattle.std.specs.Prelude.{◌≡◌, ◌≤◌, ◌%◌, Some, None, if◌then◌else◌, option_map};
 ghost use Rattle.command_line.specs.CommandLine.{is_base};
 

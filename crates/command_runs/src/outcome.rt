@@ -1,4 +1,5 @@
-//! What the texts of a command come to.
+//! What the texts of a command come to: a line that tells a refusal, or what is kept and printed. Reading and keeping themselves are done elsewhere, once for
+//! all commands.
 ghost use Rattle.std.specs.Prelude.{◌≡◌, IfOk};
 
 use std::alloc::{AllocError, Global};

@@ -1,5 +1,5 @@
 //! The stages of a run: the fetches, what the texts come to, the keeps, and one put.
-ghost use Rattle.std.specs.Prelude.{◌≡◌, ℕ, ◌⊎◌, List, [], ◌∷◌, Result, IfOk, length, map};
+ghost use Rattle.std.specs.Prelude.{◌≡◌, ℕ, ◌⊎◌, List, Result, IfOk, length, map};
 ghost use Rattle.std.specs.Result.{result_map_both};
 ghost use Rattle.command_runs.specs.declared.status.Status.TheVariants as status;
 ghost use Rattle.outer_store.specs.Outside.{SameHeld};

@@ -1,4 +1,4 @@
-//! How a run ended.
+//! How a run of the program ended, with the number that the process gives to the shell for it.
 ghost use Rattle.std.specs.Prelude.{◌≡◌};
 ghost use Rattle.command_runs.specs.Outcomes.{code_of};
 

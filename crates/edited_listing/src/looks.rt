@@ -1,4 +1,4 @@
-//! The runs of instructions from a kept place on.
+//! The runs of instructions from a kept place on, while others give way: what a finder may take as a window now.
 ghost use Rattle.std.specs.Prelude.{◌≡◌, ◌<◌, ◌≤◌, ◌^◌, true, false, drop, length, slice_get, IfSome, None};
 ghost use Rattle.kept_places.specs.Marks.{is_gone, rank};
 ghost use Rattle.thumb_model.specs.Listing.{places_of};

@@ -1,6 +1,6 @@
 -- Numbers that are kept of a list, and which they are.
-use Rattle.std.proofs.Common.{◌≡◌, ℕ, zero, suc, ◌+◌, ◌<◌, ◌≤◌, ◌==◌, ◌&&◌, ◌||◌, not, inl, inr, Bool, true, false, List, [], ◌∷◌, ◌++◌, Contains, Some, cond, filter, length, slice_index, get_or, nat_le, refl, sym, ◌∙◌, ap, subst, arith, eq-eqb, eqb-true}
-use Rattle.std.proofs.lemmas.Bool.{cases_Bool, and_parts, leb-true, le-leb, lt-ltb, false≢true, not-true, not-false}
+use Rattle.std.proofs.Common.{◌≡◌, ℕ, zero, suc, ◌+◌, ◌<◌, ◌≤◌, ◌==◌, ◌&&◌, ◌||◌, not, inl, inr, Bool, true, false, List, [], ◌∷◌, ◌++◌, Contains, Some, cond, filter, length, slice_index, get_or, refl, sym, ◌∙◌, ap, subst, arith, eq-eqb, eqb-true}
+use Rattle.std.proofs.lemmas.Bool.{cases_Bool, lt-ltb, false≢true, not-true, not-false}
 use Rattle.std.proofs.lemmas.List.{get_or_default}
 use Rattle.std.proofs.lemmas.List.Elements.{filter-append, filter_passes}
 use Rattle.std.proofs.lemmas.Option.{get_or_from_slice_get}
@@ -13,7 +13,7 @@ use Rattle.seq_enum.proofs.Numbered.{numbers_at}
 use Rattle.fingerprints.specs.declared.outcome_columns.Columns.{Columns}
 use Rattle.fingerprints.specs.OutcomeColumns.{column_of, outcome_at, AreFull}
 use Rattle.fingerprints.specs.Looks.{flags_differ, keeps_word, IsLike, AreAmong, AreThose}
-use Rattle.seq_enum.proofs.Ascending.{ascends_lower, ascends_numbers, ascends_filter}
+use Rattle.seq_enum.proofs.Ascending.{ascends_numbers, ascends_filter}
 use Rattle.seq_enum.proofs.CostLines.{length-from}
 use Rattle.seq_enum.proofs.Weighing.{numbers_split}
 

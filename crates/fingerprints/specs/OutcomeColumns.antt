@@ -1,5 +1,5 @@
 -- Columns of the states that sequences leave.
-use Rattle.std.specs.Prelude.{ℕ, zero, suc, ◌≡◌, ◌<◌, ◌≤◌, ◌+◌, ◌++◌, ◌∷◌, [], List, Bool, true, Some, if◌then◌else◌, get_or, length, map, nat_lt, slice_get, slice_index}
+use Rattle.std.specs.Prelude.{ℕ, zero, suc, ◌≡◌, ◌<◌, ◌≤◌, ◌+◌, ◌++◌, ◌∷◌, [], List, true, Some, if◌then◌else◌, get_or, length, map, nat_lt, slice_get, slice_index}
 use Rattle.thumb_instr.specs.declared.instr.Instr.{Instr}
 use Rattle.thumb_model.specs.Effect.{after_all}
 use Rattle.window_exec.specs.declared.state.WState.{WState}

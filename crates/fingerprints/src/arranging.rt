@@ -1,4 +1,4 @@
-//! States arranged in columns.
+//! States arranged in columns of eight, so that one operation serves eight of them.
 
 ghost use Rattle.std.specs.Prelude.{◌≡◌, map, IfOk};
 ghost use Rattle.window_exec.specs.State.{values_of};

@@ -1,6 +1,6 @@
 //! States in columns, up to eight side by side in each.
 
-ghost use Rattle.std.specs.Prelude.{◌≡◌, ℕ, ◌<◌, ◌≤◌, Some, slice_get, map, length, IfOk, true};
+ghost use Rattle.std.specs.Prelude.{◌≡◌, ℕ, ◌≤◌, Some, slice_get, map, length, true};
 ghost use Rattle.thumb_instr.specs.Window.{is_in_window, named, AreBelow};
 ghost use Rattle.thumb_model.specs.Effect.{after, after_all, AreOver};
 ghost use Rattle.window_exec.specs.State.{values_of};

@@ -1,4 +1,4 @@
-//! A word of each of eight states.
+//! A word of each of eight states, as the kind of word over which steps are written, so that eight states take a step together.
 ghost use Rattle.std.specs.Prelude.{◌%◌, slice_index};
 ghost use Rattle.fingerprints.specs.WordLanes.{set_at, sum_at, moved_at};
 

@@ -1,6 +1,6 @@
 //! The flags of eight states as the bits of words, and back.
 
-ghost use Rattle.std.specs.Prelude.{◌≡◌, ℕ, ◌<◌, ◌+◌, ◌*◌, ◌==◌, slice_index};
+ghost use Rattle.std.specs.Prelude.{◌≡◌, ℕ, ◌<◌, ◌+◌, ◌*◌, slice_index};
 ghost use Rattle.std.specs.Int.{bit_at, from_bool};
 ghost use Rattle.fingerprints.specs.WordLanes.{zero_at};
 

@@ -1,5 +1,5 @@
 //! States in columns: each register that isn't always the same has one, and the flags.
-ghost use Rattle.std.specs.Prelude.{◌≡◌, ℕ, ◌<◌, ◌≤◌, ◌+◌, ◌-◌, ◌*◌, ◌++◌, ◌∷◌, [], List, IfOk, true, length, map, slice_get, slice_index, get_or, nat_lt, Some};
+ghost use Rattle.std.specs.Prelude.{◌≡◌, ℕ, ◌<◌, ◌≤◌, ◌+◌, ◌-◌, ◌*◌, ◌++◌, [], List, IfOk, true, length, get_or, Some};
 ghost use Rattle.std.specs.List.{flat_map};
 ghost use Rattle.thumb_instr.specs.declared.instr.Instr.{Instr};
 ghost use Rattle.thumb_model.specs.Effect.{after_all, AreOver};

@@ -1,4 +1,4 @@
-//! Prints of what sequences leave in states.
+//! Prints of what sequences leave in states: a number of 64 bits, by which most sequences are told apart without comparing states.
 
 ghost use Rattle.std.specs.Prelude.{◌≡◌, ℕ, ◌<◌, ◌≤◌, fold, map, bit_and, slice_index};
 ghost use Rattle.thumb_model.specs.Effect.{AreOver};

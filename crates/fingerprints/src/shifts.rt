@@ -1,6 +1,6 @@
-//! Shifts of eight words, with their carries.
+//! Shifts of eight words at once, each by an amount of its own, with the carries that the manual gives.
 
-ghost use Rattle.std.specs.Prelude.{◌≡◌, ℕ, Bool, false, ◌<◌, ◌≤◌, ◌==◌, if◌then◌else◌, slice_index};
+ghost use Rattle.std.specs.Prelude.{◌≡◌, ℕ, false, ◌<◌, ◌≤◌, ◌==◌, if◌then◌else◌, slice_index};
 ghost use Rattle.word_bits.specs.Word.{shift_of};
 ghost use Rattle.word_bits.specs.declared.Shift.TheVariants as kinds;
 ghost use Rattle.fingerprints.specs.WordLanes.{set_at, moved_at};

@@ -1,5 +1,5 @@
 //! The sequences that the first of some states doesn't tell from a left side.
-ghost use Rattle.std.specs.Prelude.{◌≡◌, ◌≤◌, ◌+◌, IfOk, OnOk, IfErr};
+ghost use Rattle.std.specs.Prelude.{◌≡◌, ◌≤◌, ◌+◌, IfOk, OnOk};
 ghost use Rattle.seq_enum.specs.Alphabet.{numbers_from};
 ghost use Rattle.step_ledger.specs.Counts.{RisesBy};
 ghost use Rattle.fingerprints.specs.Outcomes.{sequences_below};

@@ -1,5 +1,5 @@
 //! The first 64 states of a table come from its seed alone, so that a table's text can be checked again anywhere.
-ghost use Rattle.std.specs.Prelude.{◌≡◌, ◌<◌, [], ◌∷◌, map, IfOk};
+ghost use Rattle.std.specs.Prelude.{◌≡◌, ◌<◌, map, IfOk};
 ghost use Rattle.window_exec.specs.State.{seen};
 ghost use Rattle.fingerprints.specs.Seeded.{next_state, seeded_states};
 ghost use Rattle.fingerprints.specs.Laws.{FirstOf42};

@@ -1,5 +1,5 @@
 //! One table of outcomes for each count of registers, kept while windows or entries are gone through.
-ghost use Rattle.std.specs.Prelude.{◌≡◌, ℕ, ◌<◌, ◌≤◌, List, IfOk};
+ghost use Rattle.std.specs.Prelude.{ℕ, ◌<◌, ◌≤◌, List, IfOk};
 ghost use Rattle.window_exec.specs.declared.state.WState.{WState as State};
 ghost use Rattle.fingerprints.specs.Tables.{AreTables, IsFor};
 

@@ -1,6 +1,5 @@
 //! Sequences run from the listed states, beside what the left side leaves of each, which is worked out once.
-ghost use Rattle.std.specs.Prelude.{◌≡◌, ◌<◌, ◌≤◌, ◌+◌, ◌*◌, ◌==◌, ◌&&◌, ◌↔◌, not, Any, IfOk, OnOk, IsTrue, length, map};
-ghost use Rattle.thumb_instr.specs.Items.{has};
+ghost use Rattle.std.specs.Prelude.{◌≡◌, ◌<◌, ◌≤◌, ◌+◌, ◌*◌, ◌↔◌, Any, IfOk, OnOk, IsTrue, length, map};
 ghost use Rattle.thumb_model.specs.Effect.{after_all, AreOver};
 ghost use Rattle.window_exec.specs.State.{values_of, seen, Differ};
 ghost use Rattle.step_ledger.specs.Counts.{RisesBy};

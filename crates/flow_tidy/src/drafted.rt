@@ -117,6 +117,7 @@ pub(crate) fn lets_on(draft: &mut Draft, place: u32) -> bool
     ensures on { result ≡ code_lets_on (code_of (lines_now draft.old)) (rank draft.old.gone place) }
     ensures same { draft.new ≡ draft.old }
 {
+    // For the prover alone: the type of the answer says that the places are fewer than 2^32.
     let _places = draft.place_count();
     let next = draft.node(place + 1);
     is_branch_if(draft, place) && is_branch_always(draft, next)

@@ -1,4 +1,4 @@
-//! A change that was made.
+//! A change that tidying made, with the listing after it. Where nothing moved there is no new layout: the old one still says where lines lie.
 use label_layout::Layout;
 use listing_parser::Listing;
 

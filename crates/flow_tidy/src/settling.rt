@@ -42,6 +42,7 @@ fn lets_on(listing: &Listing, place: u32) -> bool
     requires { place < length (places_of listing.now) }
     ensures { result ≡ code_lets_on (code_of listing.now) place }
 {
+    // For the prover alone: the type of the answer says that the places are fewer than 2^32.
     let _places = listing.place_count();
     is_branch_if(listing, place) && is_branch_always(listing, place + 1)
 }

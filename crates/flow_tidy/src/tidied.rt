@@ -1,4 +1,4 @@
-//! What tidying gives.
+//! What tidying gives back: the listing, and the number of changes that a command prints.
 use listing_parser::Listing;
 
 /// A listing that was tidied, and how many changes were made.

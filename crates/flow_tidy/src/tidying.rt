@@ -1,4 +1,4 @@
-//! Tidying until no change is possible any more.
+//! The crate's one call: tidying until no change is possible, by the places that are due and not by going over the listing again.
 ghost use Rattle.std.specs.Prelude.{◌≡◌, ◌+◌, ◌≤◌, length, IfOk, MatchResult};
 ghost use Rattle.thumb_model.specs.Layout.{Layable};
 ghost use Rattle.thumb_model.specs.Listing.{code_of};

@@ -1,4 +1,4 @@
-//! The layout of lines that are being rewritten.
+//! The layout of lines that are being rewritten. A replacement looks only at what depends on where lines lie, not at each line behind it.
 ghost use Rattle.std.specs.Prelude.{◌≡◌, ◌-◌, ◌*◌, ◌≤◌, ◌^◌, length};
 
 use crate::alignments::{Loose, find_loose, note_alignments};

@@ -1,4 +1,4 @@
-//! How many places are gone, by groups.
+//! How many places are gone, by groups, so that a place's number among the kept ones is a sum of a few counts.
 ghost use Rattle.std.specs.Prelude.{◌≡◌, ◌+◌, ◌^◌, ◌<◌, ◌≤◌, length, sum, count_by, slice_index, slice_range, slice_set};
 
 /// The sum of the counts of some groups.

@@ -1,5 +1,5 @@
-//! Which places are kept.
-ghost use Rattle.std.specs.Prelude.{◌≡◌, ℕ, suc, ◌<◌, ◌≤◌, true, false, [], length, replicate, slice_set, IfNone, IfOk, IfSome, IsTrue, ◌↔◌};
+//! Which places are kept. The one from a place on is found by links that are shortened on the way, and how many are gone before a place by counts of groups.
+ghost use Rattle.std.specs.Prelude.{◌≡◌, suc, ◌<◌, ◌≤◌, true, false, [], length, replicate, slice_set, IfNone, IfOk, IfSome, IsTrue, ◌↔◌};
 ghost use Rattle.kept_places.specs.Marks.{is_gone, rank, IsNode, IsStart};
 
 use crate::counting::{add_one, gone_among, total};

@@ -1,4 +1,4 @@
-//! Sets of places.
+//! Sets of places as bits. Work that waits is taken least or greatest first, and a pass over all of it looks at each word once.
 ghost use Rattle.std.specs.Prelude.{◌≡◌, ℕ, ◌<◌, true, false, length, replicate, slice_set, IfOk, IfSome, IfNone};
 ghost use Rattle.kept_places.specs.Marks.{marked, IsLeast, IsGreatest};
 

@@ -1,4 +1,4 @@
-//! Words of 64 bits, a bit a place.
+//! Words of 64 bits, a bit a place: the next member of a set is found by counting zeros, 64 places at a look.
 ghost use Rattle.std.specs.Prelude.{◌≡◌, ◌≢◌, ℕ, ◌+◌, ◌*◌, ◌/◌, ◌<◌, ◌≤◌, nat_lt, true, false, length, slice_index, IfOk};
 ghost use Rattle.std.specs.Int.{bit_at};
 ghost use Rattle.kept_places.specs.Members.{has};

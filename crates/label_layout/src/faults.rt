@@ -1,4 +1,4 @@
-//! What is wrong with a line where it lies.
+//! What is wrong with a line where it lies: what it mentions is out of its encoding's reach, not aligned, or nowhere.
 ghost use Rattle.std.specs.Prelude.{◌≡◌, ◌≤◌, ◌<◌, ◌^◌, option_map};
 ghost use Rattle.thumb_model.specs.Layout.{less, branch_fault as branch_fault_at, literal_fault as literal_fault_at, aim_fault as aim_fault_at, fault_at, lies_in};
 ghost use Rattle.listing_parser.specs.Views.{statement_view};

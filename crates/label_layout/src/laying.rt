@@ -1,4 +1,4 @@
-//! Laying lines out, one behind the other.
+//! Where each line, label and place lies when lines are laid out one behind the other from a base.
 ghost use Rattle.std.specs.Prelude.{◌≡◌, ◌+◌, ◌*◌, ◌≤◌, ◌<◌, ◌^◌, ◌++◌, map, length, IfOk, OnOk, OnErr, MatchResult, Some, None, if◌then◌else◌};
 ghost use Rattle.std.specs.Map.{lookup};
 ghost use Rattle.std.specs.Str.{bytes_eq};

@@ -123,6 +123,7 @@ fn change_standing(
     ensures places { IfOk result (λ p. p.places + length (places_of (drop p.lines (map line_view lines.new.items))) ≡ length kept.now) }
     ensures lines { IfOk result (λ p. take p.lines (map line_view lines.new.items) ++ now_of (drop p.places kept.now) (drop p.places (names_of aims.now)) (drop p.lines (map line_view lines.new.items)) ≡ now_of kept.now (names_of aims.now) (map line_view lines.old.items)) }
 {
+    // For the prover alone: the type of the answer says that the places are fewer than 2^32.
     let _count = kept.len();
     let mut place: u32 = 0;
     for n in 0..lines.len() {
@@ -157,6 +158,7 @@ fn emit_behind(
     requires aims { length aims.now ≡ length kept.now }
     ensures { IfOk result (λ out. map line_view out.items ≡ take passed.lines (map line_view lines.items) ++ now_of (drop passed.places kept.now) (drop passed.places (names_of aims.now)) (drop passed.lines (map line_view lines.items))) }
 {
+    // For the prover alone: the type of the answer says that the places are fewer than 2^32.
     let _count = kept.len();
     let mut out = Vec::with_capacity(alloc, lines.len())?;
     let mut standing = passed.lines;

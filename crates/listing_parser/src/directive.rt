@@ -1,4 +1,4 @@
-//! The directives of a listing, by name.
+//! The directives of a listing by name, a row each: which have a meaning here, and which are kept as they stand.
 ghost use Rattle.std.specs.Prelude.{◌≡◌, map};
 ghost use Rattle.listing_parser.specs.Directives.{directives, directive_in, directive_named};
 ghost use Rattle.listing_parser.specs.DirectiveView.{row_of};

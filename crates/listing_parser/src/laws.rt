@@ -1,4 +1,4 @@
-//! What holds of every listing that is read.
+//! Laws of every listing that is read, each as the contract of a function that does nothing.
 ghost use Rattle.listing_parser.specs.Namings.{CodeLabelsAreLabels, LiteralsStand, SomeNamingFits};
 ghost use Rattle.listing_parser.specs.Verdicts.{OneListing, OneVerdict, PrintsBack};
 ghost use Rattle.listing_parser.specs.ReadAgain.{ReplacedReadsAgain};

@@ -1,4 +1,4 @@
-//! The lines of a listing.
+//! What a line of a listing says, beside the bytes that it was read from: labels, one statement, and what it tells of functions.
 ghost use Rattle.std.specs.Prelude.{◌≡◌};
 ghost use Rattle.thumb_model.specs.Listing.{is_call_instr};
 

@@ -1,4 +1,5 @@
-//! Texts as listings.
+//! The crate's two calls: the listing that a text is, or the first line that is refused and why; and a listing's text, in which untouched lines keep their
+//! bytes.
 ghost use Rattle.std.specs.Prelude.{◌≡◌, IfOk};
 ghost use Rattle.listing_parser.specs.Parsing.{text_of_lines};
 ghost use Rattle.listing_parser.specs.Verdicts.{Parses};

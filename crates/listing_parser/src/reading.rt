@@ -1,5 +1,5 @@
 //! The lines of a text, each by the grammar of lines.
-ghost use Rattle.std.specs.Prelude.{◌≡◌, ◌∷◌, ◌<◌, ◌≤◌, ◌++◌, [], true, false, map, option_map, length, IfOk, MatchOption};
+ghost use Rattle.std.specs.Prelude.{◌≡◌, ◌<◌, ◌≤◌, true, false, map, option_map, length, IfOk, MatchOption};
 ghost use Rattle.ascii_scan.specs.Lines.{lines_in, whole};
 ghost use Rattle.ascii_scan.specs.Source.{line_view as source_view};
 ghost use Rattle.listing_parser.specs.Grammar.{begins_label, body, checked_line, front_name, from_colon, labels_at_front, read_line, read_lines, without_first, without_return};

@@ -1,4 +1,4 @@
-//! Instructions in place of others, by lines.
+//! Instructions in place of others, by lines: labels and comments before a window stay, and all other lines keep their bytes.
 ghost use Rattle.std.specs.Prelude.{◌≡◌, ◌≤◌, ◌&&◌, ◌∷◌, ◌++◌, [], nat_lt, map, take, option_map, IfOk, OnOk};
 ghost use Rattle.thumb_model.specs.Replaced.{is_op, labels_kept, new_line, replaced_lines, without};
 ghost use Rattle.listing_parser.specs.Views.{line_view, mention_view, names_view, statement_view, value_view};

@@ -1,5 +1,5 @@
-//! Fronts of bytes, and what follows them.
-ghost use Rattle.std.specs.Prelude.{◌≡◌, length};
+//! Fronts of bytes and what follows them, such as blanks, names and comments: the grammar of lines is put together from these.
+ghost use Rattle.std.specs.Prelude.{◌≡◌};
 ghost use Rattle.std.specs.List.{prefix_len};
 ghost use Rattle.ascii_scan.specs.Names.{is_name_byte};
 ghost use Rattle.ascii_scan.specs.Tokens.{front, rest, is_blank};

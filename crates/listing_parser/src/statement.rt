@@ -1,5 +1,5 @@
-//! The statement of a line.
-ghost use Rattle.std.specs.Prelude.{◌≡◌, true, map, option_map, IfOk, nat_eq};
+//! The statement of a line, once its labels and comment are off: an instruction, or a directive with what its own grammar asks for.
+ghost use Rattle.std.specs.Prelude.{◌≡◌, true, option_map, IfOk};
 ghost use Rattle.ascii_scan.specs.Tokens.{front, rest, tokens, is_blank};
 ghost use Rattle.ascii_scan.specs.Names.{is_name_byte};
 ghost use Rattle.thumb_syntax.specs.FieldViews.{label_of};

@@ -1,4 +1,4 @@
-//! Names that are defined twice.
+//! The first line that defines a name again. Names that were seen are in a map, so that long listings need no search for each.
 ghost use Rattle.std.specs.Prelude.{◌≡◌, ◌++◌, ◌∷◌, [], true, false, map, Decides, IfOk, MatchOption};
 ghost use Rattle.listing_parser.specs.Views.{line_view, statement_view};
 ghost use Rattle.thumb_model.specs.Layout.{is_among};

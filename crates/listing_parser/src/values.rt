@@ -1,6 +1,5 @@
-//! Words of data.
-ghost use Rattle.std.specs.Prelude.{◌≡◌, ◌==◌, ◌&&◌, map, option_map, IfOk, Some};
-ghost use Rattle.std.specs.List.{prefix_len};
+//! The words of data of a `.word` line: numerals, negated ones, and names with a number added, whose address only a layout knows.
+ghost use Rattle.std.specs.Prelude.{◌≡◌, ◌==◌, map, option_map, IfOk, Some};
 ghost use Rattle.ascii_scan.specs.Tokens.{rest, tokens};
 ghost use Rattle.thumb_syntax.specs.Operands.{is_name};
 ghost use Rattle.listing_parser.specs.Values.{added, named_value, negated, sum, value, values};

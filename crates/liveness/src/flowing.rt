@@ -89,6 +89,7 @@ fn flow_at(listing: &Listing, place: u32) -> Flow
     requires { place < length (places_of listing.now) }
     ensures { FlowOf (ways (code_of listing.now) place) result }
 {
+    // For the prover alone: the type of the answer says that the places are fewer than 2^32.
     let _count = listing.place_count();
     match listing.place(place) {
         None => nothing(),

@@ -1,5 +1,5 @@
 -- Words with one blank between two, and what they are read as.
-use Rattle.std.proofs.Common.{◌≡◌, ℕ, ℤ, pos, negsuc, ◌+◌, ◌<◌, ◌≤◌, ◌&&◌, List, [], ◌∷◌, ◌++◌, get_or, map, take, length, length-append, refl, sym, ◌∙◌, ap, subst, arith, zero, suc, Bool, true, false, true≢false, w64, append_assoc, decimal}
+use Rattle.std.proofs.Common.{◌≡◌, ℕ, ℤ, pos, negsuc, ◌+◌, ◌<◌, ◌≤◌, List, [], ◌∷◌, ◌++◌, get_or, map, take, length, length-append, refl, sym, ◌∙◌, ap, subst, arith, zero, suc, true, false, true≢false, w64, append_assoc, decimal}
 use Rattle.std.specs.Prelude.{All, FitsSigned}
 use Rattle.std.specs.Fmt.{signed_decimal}
 use Rattle.std.specs.Char.{is_ascii_digit}

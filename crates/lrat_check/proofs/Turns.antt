@@ -1,8 +1,6 @@
 -- A loop over a list has the answer of a verdict on the elements in turn, where what is left has it.
-use Rattle.std.proofs.Common.{ℕ, ◌≡◌, ◌<◌, ◌≤◌, ◌+◌, ◌∷◌, ◌⊎◌, inl, inr, List, Option, Some, None, length, get_or, slice_get, drop, sym, ◌∙◌, ap, subst, add-one, refl, [], zero, suc, arith}
-use Rattle.std.proofs.Math.Seq.{drop-cons}
+use Rattle.std.proofs.Common.{ℕ, ◌≡◌, ◌≤◌, ◌+◌, ◌∷◌, ◌⊎◌, inl, inr, List, Option, Some, None, length, slice_get, drop, sym, subst, [], zero, suc, arith}
 use Rattle.std.proofs.lemmas.List.{drop_all}
-use Rattle.std.proofs.lemmas.Option.{slice_get-get_or, get_or_from_slice_get, slice_get_within}
 use Rattle.lrat_check.specs.Proofs.{Then, InTurn}
 use Rattle.cnf_gates.proofs.Text.{drop_from}
 

@@ -1,4 +1,4 @@
-//! Clauses, and whether one is part of another.
+//! Clauses as the checker holds them, and whether one is part of another, which is all that unit propagation and new clauses ask.
 ghost use Rattle.std.specs.Prelude.{◌≡◌, ℕ, ◌+◌, ◌≤◌, ◌↔◌, List, All, Contains, IsTrue, IfOk, length, sum_by};
 ghost use Rattle.step_ledger.specs.Counts.{RisesByAtLeast};
 ghost use Rattle.clause_model.specs.Clauses.{IsNew};

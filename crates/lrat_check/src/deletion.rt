@@ -1,5 +1,5 @@
 //! Deletions only save memory. An id that isn't live is refused before anything is deleted, so that a refused line changes nothing.
-ghost use Rattle.std.specs.Prelude.{◌≡◌, ℕ, IfOk, MatchOption, Option, List};
+ghost use Rattle.std.specs.Prelude.{ℕ, IfOk, MatchOption, Option, List};
 ghost use Rattle.lrat_check.specs.Live.{clause_at};
 ghost use Rattle.lrat_check.specs.Text.{Deletes, DeadAt, IsAfter};
 

@@ -1,5 +1,5 @@
 //! The three kinds of numbers in a line are read and written by one trait, since their texts differ in limits and signs alone.
-ghost use Rattle.std.specs.Prelude.{◌≡◌, ◌<◌, ◌≤◌, ◌+◌, ◌^◌, ℕ, ℤ, List, [], ◌∷◌, ◌++◌, map, length, decimal, All, MatchOption, OnOk, IfOk, IsTrue, ◌↔◌, FitsSigned};
+ghost use Rattle.std.specs.Prelude.{◌≡◌, ◌<◌, ◌≤◌, ◌+◌, ◌^◌, ℕ, ℤ, List, ◌++◌, map, length, decimal, All, MatchOption, OnOk, IsTrue, ◌↔◌, FitsSigned};
 ghost use Rattle.std.specs.Int.{w64};
 ghost use Rattle.std.specs.Fmt.{signed_decimal};
 ghost use Rattle.lrat_check.specs.Text.{spaced};

@@ -1,5 +1,5 @@
 //! Ids, hints and literals are types of their own, so that none can stand in another's place.
-ghost use Rattle.std.specs.Prelude.{◌≡◌, ◌≢◌, ℕ, ℤ, pos, ◌<◌, ◌≤◌, ◌^◌, unsigned_abs, MatchOption};
+ghost use Rattle.std.specs.Prelude.{◌≡◌, ℕ, ℤ, pos, ◌<◌, unsigned_abs, MatchOption};
 ghost use Rattle.lrat_check.specs.Numbers.{is_negative, IsId, IsHint, AllWithin};
 ghost use Rattle.clause_model.specs.Clauses.{HasDistinctVariables};
 

@@ -1,6 +1,6 @@
 //! An open name isn't proved to differ, so its log is the evidence that the search was really made: as many lines as the budget allows, each of which
 //! follows.
-ghost use Rattle.std.specs.Prelude.{◌≡◌, ◌≢◌, ℕ, ◌+◌, ◌≤◌, ◌∷◌, ◌↔◌, List, [], All, IsTrue, IfOk, IfSome, MatchOption, Option, length};
+ghost use Rattle.std.specs.Prelude.{◌≡◌, ◌+◌, ◌≤◌, ◌∷◌, ◌↔◌, [], IsTrue, IfOk, IfSome, MatchOption, Option};
 ghost use Rattle.step_ledger.specs.Counts.{RisesByAtLeast};
 ghost use Rattle.clause_model.specs.Clauses.{codes_of, HasDistinctVariables};
 ghost use Rattle.lrat_check.specs.Text.{content_of};

@@ -1,6 +1,6 @@
 //! The clauses that the ids in a proof mean: those of the formula, and those that its additions add. What is deleted keeps its meaning, so no
 //! addition's clause is copied or moved, and each is found at its place.
-ghost use Rattle.std.specs.Prelude.{◌≡◌, ℕ, ◌<◌, List, All, AllPairs, IfOk, IfSome, IsTrue, MatchOption, Some, None, ◌↔◌, length, map, slice_index_or};
+ghost use Rattle.std.specs.Prelude.{◌≡◌, ℕ, ◌<◌, All, AllPairs, IfOk, IfSome, IsTrue, MatchOption, Some, None, ◌↔◌, length, map, slice_index_or};
 ghost use Rattle.clause_model.specs.Clauses.{codes_of, numbered};
 ghost use Rattle.lrat_check.specs.Text.{id_of, HasEmpty};
 ghost use Rattle.lrat_check.specs.Ending.{add_of, clause_of, literals_in, slices_in};

@@ -1,5 +1,5 @@
 //! A whole proof: its lines in turn, and that they come to the empty clause.
-ghost use Rattle.std.specs.Prelude.{◌≡◌, ℕ, ◌+◌, ◌≤◌, ◌↔◌, ◌⊎◌, IsTrue, IfOk, OnOk, Bool, true, Some};
+ghost use Rattle.std.specs.Prelude.{◌≡◌, ℕ, ◌+◌, ◌≤◌, ◌↔◌, ◌⊎◌, IsTrue, IfOk, OnOk, Bool, true};
 ghost use Rattle.cnf_gates.specs.Meaning.{all_true};
 ghost use Rattle.clause_model.specs.Clauses.{codes_of};
 ghost use Rattle.step_ledger.specs.Counts.{RisesByAtLeast};

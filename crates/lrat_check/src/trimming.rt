@@ -1,6 +1,6 @@
 //! A proof without the lines and hints that it doesn't need. It is gone by from the first empty clause back, and only the lines that this clause stands
 //! on are looked at: the proof was accepted already, so nothing else is checked once more.
-ghost use Rattle.std.specs.Prelude.{◌≡◌, ℕ, ◌+◌, ◌<◌, ◌≤◌, List, [], AllPairs, IfOk, length, map};
+ghost use Rattle.std.specs.Prelude.{◌≡◌, ℕ, ◌+◌, ◌<◌, ◌≤◌, List, [], AllPairs, IfOk, length};
 ghost use Rattle.clause_model.specs.Clauses.{codes_of, hint_lengths};
 ghost use Rattle.step_ledger.specs.Counts.{RisesByAtLeast, RisesBy};
 ghost use Rattle.lrat_check.specs.Text.{Content, content_of, names_of, IsTrimmed, IsUsedPart, EachIsNamed, used_lengths};

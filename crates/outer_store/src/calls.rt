@@ -1,4 +1,4 @@
-//! Calls that fail by number.
+//! The numbers of calls, by which a store or a sink in memory fails just where a test asks for it.
 ghost use Rattle.std.specs.Prelude.{◌≡◌, ◌≤◌, ◌↔◌, false, IsTrue, Contains, if◌then◌else◌};
 ghost use Rattle.outer_store.specs.Outside.{counted};
 ghost use Rattle.outer_store.specs.Scripts.{is_some_number};

@@ -1,5 +1,5 @@
 //! The calls of a store or a sink so far, with their answers. They exist only in contracts: a history has no bytes, and what notes a call does nothing when the program runs.
-ghost use Rattle.std.specs.Prelude.{◌≡◌, ℕ, List, [], ◌∷◌, ◌++◌, Result};
+ghost use Rattle.std.specs.Prelude.{◌≡◌, List, [], ◌∷◌, ◌++◌, Result};
 ghost use Rattle.std.specs.Result.{result_map_both};
 ghost use Rattle.std.specs.Borrow.{ftrue};
 ghost use Rattle.outer_store.specs.Outside.{Event, Fetching, Keeping, Putting};

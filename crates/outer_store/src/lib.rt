@@ -5,7 +5,7 @@
 //! contract can say what was asked of them.
 #![tactic(auto)]
 
-ghost use Rattle.std.specs.Prelude.{◌≡◌, ℕ, List, [], ◌∷◌, ◌++◌, Result};
+ghost use Rattle.std.specs.Prelude.{◌≡◌, [], ◌∷◌, ◌++◌, Result};
 ghost use Rattle.std.specs.Result.{result_map_both};
 ghost use Rattle.outer_store.specs.Outside.{Fetching, Keeping, Putting, Seen, SameHeld, Sunk};
 ghost use Rattle.outer_store.specs.Answers.{Grows, OthersStay, Fetches, Keeps, SinkGrows, Puts};

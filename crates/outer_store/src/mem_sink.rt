@@ -1,5 +1,5 @@
-//! A sink in memory.
-ghost use Rattle.std.specs.Prelude.{◌≡◌, ◌↔◌, [], ◌∷◌, ◌++◌, IsErrOf, OnErr, true};
+//! A sink whose bytes can be looked at, and whose calls fail by their numbers, so that each fault of an output can be tried.
+ghost use Rattle.std.specs.Prelude.{◌≡◌, ◌↔◌, [], ◌∷◌, ◌++◌, IsErrOf, OnErr};
 ghost use Rattle.outer_store.specs.Outside.{Putting};
 ghost use Rattle.outer_store.specs.Answers.{SinkGrows, Puts};
 ghost use Rattle.outer_store.specs.Scripts.{Bytes, IsCalled, FailsNext, RaisesBytes, seen_bytes};

@@ -1,5 +1,5 @@
-//! A store in memory.
-ghost use Rattle.std.specs.Prelude.{◌≡◌, ◌↔◌, ℕ, List, [], ◌∷◌, ◌++◌, Some, find, slice_get, if◌then◌else◌, OnOk, OnErr, IsErrOf, true};
+//! A store whose texts can be looked at, and whose calls fail by their numbers, so that each fault of a file can be tried.
+ghost use Rattle.std.specs.Prelude.{◌≡◌, ◌↔◌, ℕ, List, [], ◌∷◌, ◌++◌, Some, find, if◌then◌else◌, OnOk, OnErr, IsErrOf};
 ghost use Rattle.std.specs.List.{position};
 ghost use Rattle.std.specs.Option.{option_copied};
 ghost use Rattle.std.specs.Result.{result_map_both};

@@ -1,4 +1,4 @@
-//! Standard output.
+//! The sink that the shipped program has: standard output. Nothing of it can be looked at, so contracts speak of the pieces that were put.
 ghost use Rattle.std.specs.Prelude.{◌≡◌, []};
 ghost use Rattle.outer_store.specs.Scripts.{RealOutput, seen_output};
 

@@ -1,4 +1,4 @@
-//! Files by name.
+//! The store that the shipped program has: the system's files by name. Nothing of their contents is told, so contracts speak of what was read and handed over.
 ghost use Rattle.std.specs.Prelude.{◌≡◌, []};
 ghost use Rattle.outer_store.specs.Scripts.{RealFiles, seen_files};
 

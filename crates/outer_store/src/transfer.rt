@@ -1,4 +1,4 @@
-//! Reading and writing to the end.
+//! Reading and writing to the end: the system may read or take fewer bytes than it is asked, so it is asked again until all is through.
 ghost use Rattle.std.specs.Prelude.{◌≡◌, ◌≢◌, ◌<◌, ◌≤◌, ℕ, IfOk, IfSome, IsErrOf, Err, length, take};
 ghost use Rattle.std.specs.Bool.{OnTrue};
 ghost use Rattle.std.specs.Io.KnownBytes.{Appends};

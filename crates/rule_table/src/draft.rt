@@ -1,5 +1,5 @@
 //! What has been read of a table. A line changes it in place.
-ghost use Rattle.std.specs.Prelude.{◌≡◌, ◌<◌, ◌∷◌, ◌++◌, [], map, length, IfOk, OnOk, MatchOption};
+ghost use Rattle.std.specs.Prelude.{◌≡◌, ◌<◌, [], IfOk, OnOk, MatchOption};
 ghost use Rattle.window_exec.specs.State.{seen};
 ghost use Rattle.rule_table.specs.Table.{Table as Held};
 ghost use Rattle.rule_table.specs.Views.{header_in, table_of, rule_of, opened_of, family_of};

@@ -1,4 +1,4 @@
-//! The least line at which a text is no table.
+//! Why a text is no table: the least line with which none goes on, or want of memory.
 use std::alloc::AllocError;
 use thiserror::Error;
 

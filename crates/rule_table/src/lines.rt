@@ -1,5 +1,5 @@
 //! The lines of a table's text, each written behind what is there.
-ghost use Rattle.std.specs.Prelude.{◌≡◌, ◌++◌, ◌<◌, ◌∷◌, [], decimal, codes, OnOk, map};
+ghost use Rattle.std.specs.Prelude.{◌≡◌, ◌++◌, ◌<◌, ◌∷◌, [], decimal, OnOk, map};
 ghost use Rattle.lrat_check.specs.Text.{content_of};
 ghost use Rattle.window_exec.specs.State.{seen};
 ghost use Rattle.rule_table.specs.Text.{hex_digit, hex_of, line_of, instr_text, after_blanks, named};

@@ -1,5 +1,5 @@
 //! Numbers of lines, each read exactly as it is written.
-ghost use Rattle.std.specs.Prelude.{◌≡◌, ℕ, List, [], ◌∷◌, ◌++◌, ◌<◌, ◌≤◌, ◌^◌, map, decimal, MatchOption, IfOk, IfSome, IsSome, IsTrue, ◌↔◌, ◌==◌, length};
+ghost use Rattle.std.specs.Prelude.{◌≡◌, ℕ, List, ◌∷◌, ◌++◌, ◌<◌, ◌≤◌, ◌^◌, map, decimal, MatchOption, IfOk, IfSome, IsSome, IsTrue, ◌↔◌, ◌==◌, length};
 ghost use Rattle.std.specs.List.{slice_split};
 ghost use Rattle.lrat_check.specs.Reading.{all_now};
 ghost use Rattle.rule_table.specs.Text.{after_blanks, hex_of};

@@ -1,4 +1,4 @@
-//! The table of a text.
+//! A text's table in one pass over its lines, or the least line with which no table goes on.
 ghost use Rattle.std.specs.Prelude.{IfOk};
 ghost use Rattle.ascii_scan.specs.Source.{line_view};
 ghost use Rattle.rule_table.specs.StageView.{stage_of, goes};

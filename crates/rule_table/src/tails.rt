@@ -1,5 +1,5 @@
-//! What stands behind the words of lines.
-ghost use Rattle.std.specs.Prelude.{◌≡◌, ℕ, List, [], ◌∷◌, ◌++◌, ◌<◌, ◌^◌, ◌||◌, true, map, decimal, MatchOption, IfOk, IsTrue, ◌↔◌, nat_lt};
+//! What stands behind the first word of a line of a table, read just as it is written: one blank before each part, and nothing left over.
+ghost use Rattle.std.specs.Prelude.{◌≡◌, ℕ, List, [], ◌∷◌, ◌<◌, ◌||◌, true, map, decimal, MatchOption, IfOk, IsTrue, ◌↔◌, nat_lt};
 ghost use Rattle.std.specs.List.{list_all};
 ghost use Rattle.thumb_instr.specs.Items.{has as has_item, one_of};
 ghost use Rattle.thumb_instr.specs.declared.instr.Instr.{Instr};

@@ -1,5 +1,5 @@
-//! What a line says.
-ghost use Rattle.std.specs.Prelude.{◌≡◌, [], ℕ, IfOk, MatchOption};
+//! What one line of a table says by itself, before it is judged whether it may stand where it does.
+ghost use Rattle.std.specs.Prelude.{◌≡◌, [], IfOk, MatchOption};
 ghost use Rattle.rule_table.specs.Told.{Tells, Says};
 ghost use Rattle.rule_table.specs.declared.header.HeaderLine.TheVariants as head;
 ghost use Rattle.rule_table.specs.declared.words.FirstWord.TheVariants as word;

@@ -1,4 +1,4 @@
-//! The words that lines of a table begin with.
+//! The words that lines of a table begin with, in one list: the reader finds the kind of a line by it, and the writer begins the line with it.
 ghost use Rattle.std.specs.Prelude.{◌≡◌, option_map};
 ghost use Rattle.rule_table.specs.Fronts.{words, word_text, strip, front_in, front, seen_front};
 

@@ -1,5 +1,5 @@
-//! The text of a table.
-ghost use Rattle.std.specs.Prelude.{◌≡◌, ◌++◌, ◌∷◌, [], codes, OnOk, IfOk, map};
+//! The one text of a table, line by line. Reading takes this form alone, so that a table has no second text.
+ghost use Rattle.std.specs.Prelude.{◌≡◌, ◌++◌, [], OnOk, IfOk, map};
 ghost use Rattle.std.specs.List.{flat_map};
 ghost use Rattle.lrat_check.specs.Text.{content_of};
 ghost use Rattle.window_exec.specs.State.{seen};

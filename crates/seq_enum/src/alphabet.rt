@@ -1,5 +1,5 @@
 //! Instructions of an alphabet by number, row by row: the sizes of the rows before are added up, so that no list of the alphabet is kept.
-ghost use Rattle.std.specs.Prelude.{◌≡◌, ◌≢◌, ◌+◌, ◌-◌, ◌≤◌, ◌<◌, ◌*◌, length, slice_get, IfSome, IsSome, All};
+ghost use Rattle.std.specs.Prelude.{◌≡◌, ◌+◌, ◌-◌, ◌≤◌, ◌<◌, ◌*◌, length, slice_get, IfSome, IsSome, All};
 ghost use Rattle.seq_enum.specs.Places.{rank};
 ghost use Rattle.std.specs.List.{flat_map};
 ghost use Rattle.seq_enum.specs.Alphabet.{IsPlace, those_within, alphabet, members};
@@ -21,6 +21,7 @@ pub fn size(k: u8, pool: &Pool) -> u64
         + k * k * (length (those_within 1 32 pool.now) + 2 * length (those_within 1 33 pool.now) + 26) }
     ensures small { result ≤ 1952 }
 {
+    // For the prover alone: the call's contract says that the pool is valid.
     let _numbers = pool.numbers();
     total_of(rows(), k, pool)
 }

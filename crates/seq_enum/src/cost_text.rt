@@ -1,5 +1,5 @@
 //! The costs of a text. Its lines are read exactly as they are written, and what they say is kept by mnemonic, so that none is said twice.
-ghost use Rattle.std.specs.Prelude.{◌≡◌, ◌<◌, ◌≤◌, ℕ, ◌==◌, [], map, length, get_or, codes, decimal, MatchOption, IfSome, IsTrue, ◌↔◌, All};
+ghost use Rattle.std.specs.Prelude.{◌≡◌, ◌<◌, ◌≤◌, ℕ, ◌==◌, [], map, length, get_or, decimal, MatchOption, IfSome, IsTrue, ◌↔◌, All};
 ghost use Rattle.std.specs.List.{position};
 ghost use Rattle.std.specs.Option.{unwrap_or};
 ghost use Rattle.std.specs.Str.{bytes_eq};

@@ -1,5 +1,5 @@
 //! What sequences cost. A table of rules that goes by costs has a number for each mnemonic; where there is none, a sequence weighs as much as it is long.
-ghost use Rattle.std.specs.Prelude.{◌≡◌, ◌≤◌, MatchOption, Some, length};
+ghost use Rattle.std.specs.Prelude.{◌≡◌, ◌≤◌, MatchOption, Some};
 ghost use Rattle.seq_enum.specs.Costs.{AreCosts, cost_in, mnemonic, weight_under};
 
 use std::marker::Model;

@@ -65,6 +65,7 @@ pub(crate) fn weights(
     ensures value { IfOk result (λ v. v.items ≡ map (weight_under (Some costs.now)) (flat_map (words (alphabet k pool.now)) (numbers_from 0 (longest + 1)))) }
     ensures small { IfOk result (λ v. All (λ weight. weight ≤ 320) v.items) }
 {
+    // For the prover alone: the call's contract says that the costs are valid.
     let _numbers = costs.numbers();
     let alphabet = alphabet_instrs(alloc, k, pool)?;
     let instr_costs = instr_costs(alloc, &alphabet, costs)?;

@@ -1,4 +1,4 @@
-//! Whether what a line mentions stays within reach.
+//! Whether what a line mentions stays within reach however lines between come nearer.
 ghost use Rattle.std.specs.Prelude.{◌≡◌, ◌≤◌, ◌^◌, Some};
 ghost use Rattle.thumb_model.specs.Layout.{cleared};
 ghost use Rattle.listing_parser.specs.Views.{mention_view, statement_view};

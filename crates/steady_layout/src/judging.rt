@@ -1,4 +1,4 @@
-//! Whether a listing is steady.
+//! Whether a listing is steady: whatever rewriting does to it, each mention stays within reach, so that no layout need be asked on the way.
 ghost use Rattle.std.specs.Prelude.{◌≡◌, ◌%◌, ◌↔◌, true, IfOk};
 ghost use Rattle.steady_layout.specs.Steady.{IsSteady, all_steady as are_all_steady, first, labels_in, sets_in};
 ghost use Rattle.steady_layout.specs.Starts.{AreStarts};

@@ -1,4 +1,4 @@
-//! Where lines begin in the widest layout.
+//! Where lines begin in the widest layout, and which surely lie at a multiple of 4, whichever instructions before them give way.
 ghost use Rattle.std.specs.Prelude.{◌≡◌, ◌+◌, ◌-◌, ◌≤◌, ◌^◌, ◌<◌, min, nat_le, Some, None, if◌then◌else◌};
 ghost use Rattle.label_layout.specs.Addresses.{in_code_region};
 ghost use Rattle.listing_parser.specs.Views.{statement_view};

@@ -1,4 +1,4 @@
-//! The numbers that an entry names open.
+//! The numbers that an entry names open: each must be one that no state tells, and its log must spend the whole budget, so that none is named for convenience.
 ghost use Rattle.std.specs.Prelude.{◌≡◌, ◌<◌, ◌≤◌, ◌+◌, ◌*◌, ◌↔◌, true, IfOk, IsTrue, length, map, sum_by};
 ghost use Rattle.window_exec.specs.State.{seen};
 ghost use Rattle.seq_enum.specs.Alphabet.{ascends_from};

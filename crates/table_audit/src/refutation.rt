@@ -1,4 +1,4 @@
-//! The proof of an entry.
+//! Whether the proof of an entry is accepted: the formula that its sides differ is made, and the proof has to come to the empty clause.
 ghost use Rattle.std.specs.Prelude.{◌≡◌, ◌≤◌, ◌+◌, [], IsTrue};
 ghost use Rattle.rule_table.specs.Views.{header_in, rule_of, table_of};
 ghost use Rattle.lrat_check.specs.Proofs.{Answers};

@@ -1,4 +1,4 @@
-//! A table, window by window.
+//! The learner's one call: window by window an entry is learnt, with the states that its queries found, until a table's text would be too long.
 ghost use Rattle.std.specs.Prelude.{◌≡◌, ◌<◌, ◌≤◌, ◌+◌, ◌-◌, ◌∷◌, ◌++◌, [], List, IfErr, IfOk, drop, length, map};
 ghost use Rattle.rule_table.specs.Table.{IsTable};
 ghost use Rattle.window_exec.specs.State.{seen};

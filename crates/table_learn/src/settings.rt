@@ -11,6 +11,7 @@ pub(crate) fn hold(settings: &Settings)
     ensures pool { is_pool settings.now.pool ≡ true }
     ensures costs { IfSome settings.now.costs AreCosts }
 {
+    // For the prover alone: the reads' types and contracts say it.
     let _seed = settings.seed;
     let _numbers = settings.pool.numbers();
     if let Some(costs) = &settings.costs {

@@ -1,4 +1,4 @@
-//! A window that is learnt.
+//! A window that is learnt. The number of registers that sequences against it may name is worked out once here.
 ghost use Rattle.std.specs.Prelude.{◌≡◌, ◌<◌, ◌≤◌, ◌-◌, IfSome, length, min};
 ghost use Rattle.thumb_model.specs.Effect.{AreOver};
 ghost use Rattle.table_audit.specs.Shorter.{alphabet_registers, IsCanonicalSide, below_at, weight_in};

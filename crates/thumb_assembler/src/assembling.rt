@@ -1,4 +1,4 @@
-//! The image of a listing.
+//! The image of a listing: codes, data and padding, each line's bytes where the layout has that line.
 ghost use Rattle.std.specs.Prelude.{◌≡◌, ◌+◌, ◌%◌, IfOk, MatchResult, None, length};
 ghost use Rattle.thumb_model.specs.Layout.{Layable};
 ghost use Rattle.listing_parser.specs.Parsing.{IsListing, text_of_lines};

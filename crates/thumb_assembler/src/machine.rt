@@ -1,4 +1,4 @@
-//! The machine over an image.
+//! A machine that reads its instructions from an image and decodes them, so that an image's run can be held against its listing's.
 ghost use Rattle.std.specs.Prelude.{◌≡◌, [], ◌∷◌, ℕ, IfOk, OnErr};
 ghost use Rattle.thumb_instr.specs.declared.instr.Instr.{Instr};
 ghost use Rattle.thumb_model.specs.States.{Fell, with_bytes};

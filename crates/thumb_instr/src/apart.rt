@@ -1,4 +1,4 @@
-//! Instructions taken apart.
+//! Instructions taken apart into a kind, registers and numbers, so that codes, texts and renaming can each be a table of rows.
 ghost use Rattle.std.specs.Prelude.{◌≡◌};
 ghost use Rattle.thumb_instr.specs.Parts.{of, parts_of};
 

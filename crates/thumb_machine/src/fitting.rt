@@ -1,4 +1,4 @@
-//! Whether a naming fits a listing.
+//! Whether a naming fits a listing: only then does a word tell which code point it is, as branches to registers need it.
 ghost use Rattle.std.specs.Prelude.{◌≡◌, ◌<◌, ◌%◌, ◌^◌, ◌&&◌, ◌==◌, ℕ, Decides, Some, slice_index};
 ghost use Rattle.std.specs.List.{list_all};
 ghost use Rattle.thumb_model.specs.Listing.{Name, code_of, labels_from, places_of};

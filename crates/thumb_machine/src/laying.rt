@@ -1,4 +1,4 @@
-//! The naming that a listing is laid out with.
+//! The naming that a listing is laid out with: which word each name and return point has in an image.
 ghost use Rattle.std.specs.Prelude.{◌≡◌, ◌<◌, ◌≤◌, ◌+◌, ◌^◌, ◌++◌, ◌∷◌, [], ℕ, true, false, List, Some, map, length, take, option_map, slice_get, IfOk, OnOk, MatchOption};
 ghost use Rattle.thumb_model.specs.Listing.{ListingLine as LineModel, Name, call_count, places_of};
 ghost use Rattle.thumb_model.specs.Naming.{last_is_call, return_address};

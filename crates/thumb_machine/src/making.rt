@@ -173,6 +173,7 @@ fn past(listing: &Listing) -> u32
     ensures value { result ≡ 0 }
     ensures few { length (places_of listing.now) < 2 ^ 32 }
 {
+    // For the prover alone: the type of the answer says that the places are fewer than 2^32.
     let _count = listing.place_count();
     0
 }

@@ -68,6 +68,7 @@ fn add_labels(
     requires { map line_view lines.now ≡ listing.now }
     ensures { OnOk result ((w : ℕ) (rest : List (ℕ × ℕ)) → merged (get nat_eq points.new w) (point_among w rest) ≡ merged (get nat_eq points.old w) (point_among w (points_of (naming_of naming.now) (places_of listing.now) (labels_from 0 (map line_view lines.now)) ++ rest))) }
 {
+    // For the prover alone: the type of the answer says that the places are fewer than 2^32.
     let _count = listing.place_count();
     let mut place = 0usize;
     for line in lines {

@@ -95,6 +95,7 @@ impl Naming {
     pub(crate) fn points_pass<T: PointTest>(&self, test: &mut T, listing: &Listing) -> bool
         ensures { result ≡ all_pass T.passes T.after test.old (points_from (naming_of self.now) (places_of listing.now) 0 0 listing.now) }
     {
+        // For the prover alone: the type of the answer says that the places are fewer than 2^32.
         let _count = listing.place_count();
         let mut place = 0usize;
         let mut call = 0usize;

@@ -1,4 +1,4 @@
-//! What the operands of a form hold.
+//! What the operands of a form hold: registers, numbers and a label, each in the range of its place, gathered one operand after the other.
 ghost use Rattle.std.specs.Prelude.{◌≡◌, map, option_map};
 ghost use Rattle.thumb_syntax.specs.Views.{view};
 ghost use Rattle.thumb_syntax.specs.FieldViews.{fields_view};

@@ -1,4 +1,4 @@
-//! The forms of instructions' texts.
+//! The forms that texts of instructions have: for each mnemonic, which operands stand behind it in which order. Reading goes by them.
 use thumb_instr::Kind;
 
 /// A register or number of an instruction, in the order of its canonical text.

@@ -1,4 +1,4 @@
-//! Operands that are still to be read.
+//! Operands that are still to be read. The first few are read ahead, so that each form that is tried doesn't read them again.
 ghost use Rattle.std.specs.Prelude.{◌≡◌, ◌∷◌, ◌++◌, [], MatchOption, map};
 ghost use Rattle.ascii_scan.specs.Tokens.{tokens};
 ghost use Rattle.thumb_syntax.specs.Operands.{operand};

@@ -1,4 +1,4 @@
-//! Lists of registers.
+//! Lists of registers in braces, such as those of `push` and `ldm`, read as the bits that their code holds.
 ghost use Rattle.std.specs.Prelude.{◌≡◌, ◌<◌, ◌≤◌, ◌+◌, ◌-◌, ◌^◌, option_map};
 ghost use Rattle.thumb_syntax.specs.Views.{view};
 ghost use Rattle.thumb_syntax.specs.LeftView.{left};

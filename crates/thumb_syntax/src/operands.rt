@@ -1,4 +1,4 @@
-//! What a token stands for.
+//! What a word or mark among an instruction's operands stands for, before it is known which form it is to fill.
 ghost use Rattle.std.specs.Prelude.{◌≡◌, ◌∷◌, [], MatchOption, map};
 ghost use Rattle.std.specs.List.{prefix_len};
 ghost use Rattle.ascii_scan.specs.Tokens.{tokens, front, rest};

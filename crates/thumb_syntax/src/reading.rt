@@ -1,4 +1,4 @@
-//! Which instruction a text is.
+//! Which instruction a text is: of the forms that its mnemonic has, the first that its operands fill.
 ghost use Rattle.std.specs.Prelude.{◌≡◌, ◌<◌, map, option_map};
 ghost use Rattle.ascii_scan.specs.Tokens.{tokens};
 ghost use Rattle.thumb_syntax.specs.Operands.{operand, first_some};

@@ -1,4 +1,4 @@
-//! The names of registers.
+//! The names of registers, in either case, with the second names of the calling standard. One is found by its second letter, without a search.
 ghost use Rattle.std.specs.Prelude.{◌≡◌, ◌<◌, map, length};
 ghost use Rattle.ascii_scan.specs.Names.{is_spelled};
 ghost use Rattle.thumb_syntax.specs.Operands.{register_named, register_in};

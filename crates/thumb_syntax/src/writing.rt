@@ -1,4 +1,4 @@
-//! The canonical text of an instruction.
+//! The canonical text of an instruction, which is what rewriting writes and what tables hold.
 ghost use Rattle.std.specs.Prelude.{◌≡◌, ◌++◌, ◌∷◌, [], OnOk, IfOk};
 ghost use Rattle.std.specs.Fmt.{decimal};
 ghost use Rattle.thumb_syntax.specs.FieldViews.{fields_view, label_of};

@@ -1,4 +1,4 @@
-//! Rows of bits, packed and taken apart.
+//! Rows of bits, packed into codes and taken apart again. That one undoes the other is proved here once, for every row.
 ghost use Rattle.std.specs.Prelude.{◌≡◌, ◌+◌, ◌%◌, ◌<◌, ◌≤◌, ◌^◌, true, if◌then◌else◌};
 ghost use Rattle.thumb_table.specs.Table.{width_of, width, number, same, value_of, packed};
 ghost use Rattle.thumb_table.specs.ReadBits.{holds, agrees, is_operand, is_about, told, read_on, is_narrow, are_narrow, most_of, most};

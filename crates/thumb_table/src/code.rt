@@ -1,4 +1,4 @@
-//! Instructions to codes and back.
+//! Instructions to codes and back, both by the rows of `table`, bit by bit.
 ghost use Rattle.std.specs.Prelude.{◌≡◌, ◌+◌, ◌*◌, ◌^◌, ◌==◌, ◌<◌, ◌≤◌, Some, IfSome, IfNone, if◌then◌else◌};
 ghost use Rattle.thumb_instr.specs.declared.instr.Instr.{Instr};
 ghost use Rattle.thumb_table.specs.Table.{width, packed, pieces, Encodes};

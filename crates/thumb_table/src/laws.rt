@@ -1,4 +1,4 @@
-//! What holds of codes and instructions together.
+//! Laws of codes and instructions together, each as the contract of a function that does nothing.
 ghost use Rattle.std.specs.Prelude.{◌≡◌, Some};
 ghost use Rattle.thumb_table.specs.Decoding.{AreApart};
 

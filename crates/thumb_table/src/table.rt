@@ -1,4 +1,5 @@
-//! The rows.
+//! The manual's encodings as rows, one a kind of instruction: its fixed bits, and where its registers and numbers lie. Encoding and decoding go by the same
+//! row, so that neither can differ from the other.
 ghost use Rattle.std.specs.Prelude.{◌≡◌, ◌<◌};
 ghost use Rattle.thumb_table.specs.Table.{pieces};
 ghost use Rattle.thumb_table.specs.Kinds.{kinds_at};

@@ -1,5 +1,5 @@
 //! Clauses enter the arena watched, where two of their literals are open, or unwatched, where they say only what is set.
-ghost use Rattle.std.specs.Prelude.{◌≡◌, ◌≢◌, ℕ, ◌<◌, length, Contains, All, IfOk, ◌∷◌, [], ◌++◌, false};
+ghost use Rattle.std.specs.Prelude.{◌≢◌, ◌<◌, Contains, IfOk};
 ghost use Rattle.clause_arena.specs.Contents.{HasLiteral, Watches};
 ghost use Rattle.unit_propagation.specs.Watching.{IsAdded};
 
@@ -16,6 +16,7 @@ pub fn attach(arena: &mut Arena, literals: &[u32], first: u32, second: u32) -> R
     ensures first { IfOk result (λ at. Watches arena.new at 0 first) }
     ensures second { IfOk result (λ at. Watches arena.new at 1 second) }
 {
+    // For the prover alone: the call's contract says that the arena is whole.
     let _count = arena.literals();
     let at = arena.push(literals)?;
     arena.watch(at, 0, first);
@@ -27,8 +28,10 @@ pub fn attach(arena: &mut Arena, literals: &[u32], first: u32, second: u32) -> R
 pub fn store(arena: &mut Arena, literals: &[u32]) -> Result<Ref, Memory>
     ensures { IfOk result (λ at. IsAdded arena.old at literals.now arena.new) }
 {
+    // For the prover alone: the call's contract says that the arena is whole.
     let _count = arena.literals();
     let at = arena.push(literals)?;
+    // For the prover alone: the call's contract says that the arena is whole.
     let _whole = arena.literals();
     Ok(at)
 }

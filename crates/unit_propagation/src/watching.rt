@@ -1,5 +1,5 @@
 //! What becomes of each watch of a literal that has become false: kept, moved, or its clause is unit or false.
-ghost use Rattle.std.specs.Prelude.{◌≡◌, ◌≢◌, ℕ, ◌+◌, ◌-◌, ◌<◌, ◌≤◌, ◌⊎◌, List, [], ◌∷◌, ◌++◌, length, take, Contains, All, Any, IfOk, OnOk, IfSome, slice_get, Option, Some, None, true, false};
+ghost use Rattle.std.specs.Prelude.{◌≡◌, ◌≢◌, ℕ, ◌+◌, ◌-◌, ◌<◌, ◌≤◌, ◌⊎◌, List, length, take, Contains, All, IfOk, OnOk, IfSome, slice_get, Option, Some, None, true, false};
 ghost use Rattle.clause_model.specs.Clauses.{negated, IsFalse, AllFalse};
 ghost use Rattle.clause_arena.specs.Contents.{HasClause, HasLiteral, Watches, IsWhole, literals_of, IsBetween, IsAfter};
 ghost use Rattle.unit_propagation.specs.declared.watching.WatchOutcome.TheVariants.{Kept, Moved, Conflict};
@@ -95,8 +95,10 @@ fn visit(
     }
     match find_free(arena.lits(at), other, assignment) {
         Some(free) => {
+            // For the prover alone: the call's contract says that no two true literals are equal or contrary.
             let _trues = assignment.len();
             arena.move_watch(before, at, slot, free);
+            // For the prover alone: the call's contract says that the arena is whole.
             let _literals = arena.literals();
             Ok(WatchOutcome::Moved)
         }
@@ -164,6 +166,7 @@ pub fn propagate(
 {
     let mut head = from;
     while head < assignment.len() {
+        // For the prover alone: the call's contract says that the arena is whole.
         let _count = arena.literals();
         let falsified = assignment.literals()[head].negated();
         head += 1;

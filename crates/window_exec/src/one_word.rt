@@ -1,4 +1,5 @@
-//! The word of one state.
+//! The operations of instructions on the word of one state. The steps are written once, over any kind of word: `fingerprints` has the words of eight states
+//! side by side.
 
 use crate::words::Word;
 use word_bits::{Shift, Sum, shift_c};

@@ -1,4 +1,4 @@
-//! Lists of states that contracts see as lists.
+//! Lists of states behind a type of their own, so that contracts see them as the model's lists.
 ghost use Rattle.std.specs.Prelude.{◌≡◌};
 
 use crate::state::WState;

@@ -1,4 +1,4 @@
-//! A table as the finder looks into it.
+//! A table as the finder looks into it: marks that reject most windows at once, and for the others the rules by their left sides.
 ghost use Rattle.std.specs.Prelude.{◌≡◌, IfOk, length, map, replicate, true};
 ghost use Rattle.rule_table.specs.Views.{family_of, rule_of};
 ghost use Rattle.window_rewrite.specs.Rules.{left_forms, raised_forms, rules_in, AreChains, AreLed, IsIndex};

@@ -1,4 +1,4 @@
-//! Replacing until no rule applies.
+//! The crate's one call: replacing until no rule applies, with the headline's clauses on the listing that is left.
 ghost use Rattle.std.specs.Prelude.{◌+◌, ◌≤◌, All, length, map, IfOk, MatchResult};
 ghost use Rattle.step_ledger.specs.Counts.{RisesByAtLeast};
 ghost use Rattle.rule_table.specs.Views.{table_of};

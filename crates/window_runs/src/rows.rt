@@ -1,4 +1,4 @@
-//! The places of a listing as windows see them.
+//! The places of a listing as windows see them: which instruction may stand in one, and whether it goes on from the place before.
 ghost use Rattle.std.specs.Prelude.{◌≡◌, ◌++◌, ◌&&◌, false, map, IfOk, OnOk, option_map};
 ghost use Rattle.thumb_model.specs.Listing.{Words};
 ghost use Rattle.listing_parser.specs.Views.{line_view, mention_view, statement_view, value_view};

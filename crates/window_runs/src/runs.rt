@@ -1,4 +1,4 @@
-//! Runs of instructions that may stand in a window.
+//! Runs of instructions that may stand in a window: no label and no alignment line lies inside.
 ghost use Rattle.std.specs.Prelude.{◌≡◌, ◌≤◌, ◌<◌, ◌^◌, drop, true};
 ghost use Rattle.window_runs.specs.Runs.{instr_at, run};
 

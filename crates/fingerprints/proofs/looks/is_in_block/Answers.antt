@@ -1,6 +1,6 @@
-use Rattle.std.proofs.Common.{◌≡◌, Bool, true, false, not, eqb, map, refl, sym, ◌∙◌, arith, w32}
+use Rattle.std.proofs.Common.{◌≡◌, eqb, map, sym, ◌∙◌, arith, w32}
 use Rattle.std.specs.Simd.Lanes.{chunk, mask_l}
-use Rattle.std.proofs.lemmas.Bool.{eqb-true, false≢true, not-false}
+use Rattle.std.proofs.lemmas.Bool.{eqb-true, not-false}
 use Rattle.std.proofs.lemmas.Simd.{length-chunk, bitmask_splat, none_from_empty_mask}
 use Rattle.fingerprints.proofs.looks.is_in_block.Goals as goal
 
