@@ -1,5 +1,5 @@
 -- Refusals of the shared steps.
-use Rattle.std.proofs.Common.{◌≡◌, ◌∙◌, ap, ◌⊎◌, inl, inr, ℕ, List, Option, Some, None, Result, Ok, Err, IfOk, sym, subst}
+use Rattle.std.proofs.Common.{◌≡◌, ◌∙◌, ap, ◌⊎◌, inl, inr, ℕ, List, Option, Some, Result, Ok, Err, IfOk, sym, subst}
 use Rattle.std.specs.Result.{result_map_both}
 use Rattle.rule_table.specs.Table.{Table}
 use Rattle.rule_table.specs.Refused.{IsText, IsRefused as IsRefusedTable}
@@ -30,9 +30,6 @@ refused_verdict {A} x d e V h is same other = go (subst (λ (y : Result A AuditE
   go : (e ≡ audit.Memory) ⊎ V (Some e) → V (Some e)
   go (inl m) = absurd (other m)
   go (inr v) = v
-
-pub accepted_verdict : {A : Type 0} (x : Result A AuditError) (a : A) (V : Option AuditError → Type 0) → Answers audit.Memory x V → x ≡ Ok a → V None
-accepted_verdict {A} x a V h is = subst (λ (y : Result A AuditError). Answers audit.Memory y V) is h
 
 pub is_unread : (text : List ℕ) (line : ℕ) (k : ListingFault) → IsRefused text line k → IsUnread text (refusal.Listing line k)
 is_unread text line k h = unread line k h

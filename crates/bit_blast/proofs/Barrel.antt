@@ -207,14 +207,6 @@ shift_by_gives low b kind amount s straight wa ws k pa ps pc =
 
 -- ---- rotations
 
--- the value of a rotation, also by none
-rotation_value : (x n : ℕ) (c : Bool) → x < 2 ^ 32 → (shift_of Ror x n c).0 ≡ shifted Ror x n
-rotation_value x n c h =
-    ⊎_elim
-    (λ (none : n ≡ 0). ap (λ k. (shift_of Ror x k c).0) none ∙ sym (ap (shifted Ror x) none ∙ not_rotated x h))
-    (λ (some : n ≡ 0 → ⊥). ap (λ p. p.0) (shift_of-some Ror x n c (omega arith)))
-    (cases_eq n 0)
-
 choice_of_rotation : (a : Bool) (x n : ℕ) → x < 2 ^ 32 → cond a (shifted Ror x n) x ≡ shifted Ror x (from_bool a * n)
 choice_of_rotation true x n h = ap (shifted Ror x) (let e : n ≡ 1 * n = omega arith in e)
 choice_of_rotation false x n h = sym (ap (shifted Ror x) (let e : 0 * n ≡ 0 = omega arith in e) ∙ not_rotated x h)

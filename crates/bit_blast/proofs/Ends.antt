@@ -17,9 +17,6 @@ small_power j h = let p : 2 ^ j ≤ 2 ^ 5 = pow_le j 5 (omega arith) in omega ar
 
 -- ---- numbers
 
-number_bits-step : (n x : ℕ) → Constant (eqb (x % 2) 1) ∷ number_bits n (x / 2) ≡ number_bits (suc n) x
-number_bits-step n x = refl
-
 pub constant_step : (i rest : ℕ) (bits r : List Bit) → i < 32 → length bits ≡ 32 → take i bits ++ number_bits (32 - i) rest ≡ r
     → take (i + 1) (set bits i (Constant (eqb (rest % 2) 1))) ++ number_bits (32 - (i + 1)) (rest / 2) ≡ r
 constant_step i rest bits r h wide e =

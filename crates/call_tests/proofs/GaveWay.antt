@@ -6,7 +6,7 @@ use Rattle.std.proofs.lemmas.List.{take_all}
 use Rattle.thumb_instr.specs.declared.instr.Instr.{Instr}
 use Rattle.thumb_instr.specs.Window.{is_in_window}
 use Rattle.thumb_model.specs.Listing.{Place, Label, ListingLine, places_of, labels_from, code_of, is_op_place}
-use Rattle.thumb_model.specs.Replaced.{are_joined_from}
+use Rattle.thumb_model.specs.Replaced.{are_joined_from, IsWindow}
 use Rattle.thumb_model.proofs.Lists.{get_drop, get_take}
 use Rattle.listing_parser.specs.Parsing.{own_line}
 use Rattle.liveness.specs.Live.{Sets, IsLive}
@@ -14,7 +14,6 @@ use Rattle.liveness.specs.Changes.{WasLive}
 use Rattle.window_runs.specs.declared.rows.WindowPlace.{WindowPlace}
 use Rattle.window_runs.specs.Rows.{rows_from}
 use Rattle.window_runs.specs.Runs.{run}
-use Rattle.window_runs.specs.Windows.{IsWindow}
 use Rattle.window_runs.proofs.Joined.{run_window}
 use Rattle.window_rewrite.proofs.Settled.{IsGap, settled_stay}
 use Rattle.window_rewrite.proofs.WindowPlaces.{first_op, window_within}

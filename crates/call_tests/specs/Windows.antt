@@ -2,9 +2,8 @@
 use Rattle.std.specs.Prelude.{◌≡◌, ℕ, List, [], ◌∷◌, length}
 use Rattle.thumb_instr.specs.declared.instr.Instr.{Instr}
 use Rattle.thumb_model.specs.Listing.{ListingLine}
-use Rattle.thumb_model.specs.Replaced.{replaced_lines}
+use Rattle.thumb_model.specs.Replaced.{replaced_lines, IsWindow}
 use Rattle.listing_parser.specs.Parsing.{own_line}
-use Rattle.window_runs.specs.Windows.{IsWindow}
 
 -- a window of two instructions from the place on gave way to the one
 pub record GaveWay (before : List ListingLine) (place : ℕ) (instr : Instr) (lines : List ListingLine) : Type 0 where

@@ -68,9 +68,6 @@ never_true size a literals tried r s t h w g y =
     let all : All (Contains h.under) t = within_under literals tried r a s t h.under g (λ x c. All-contains (Contains literals) tried x w c) h.contains h.falsifies in
     h.consistent y.1 (All-contains (Contains h.under) t y.1 all y.4) (All-contains (IsFalse h.under) literals y.1 h.falsifies (y.0, y.2, y.3))
 
-pub assumed_grows : (literals : List ℕ) (r : List (Option ℕ)) (a : List ℕ) (s : List (Option ℕ)) (t : List ℕ) → IsAssumed literals r a s t → All (Contains t) a
-assumed_grows literals r a s t h = rw h.trail (All-weaker (Contains a) (Contains (a ++ h.added)) (λ l p. Contains-append_left a h.added l p) a (All-contains_itself a))
-
 module _ (size : ℕ) (a literals : List ℕ) (h : CanFalsify size a literals) (r s : List (Option ℕ)) (t : List ℕ) (g : IsAssumed literals r a s t) where
   pub assumed_under : All (Contains h.under) t
   assumed_under = within_under literals literals r a s t h.under g (λ x c. c) h.contains h.falsifies

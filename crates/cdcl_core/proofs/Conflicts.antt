@@ -195,9 +195,6 @@ some_seen trail seen start n b h =
     let w = place_in_part trail start n h.1 b (h.0, h.2, h.3) in
     (w.0, w.1, w.2, subst (Contains seen) (sym w.3) h.4)
 
-pub contrary_is : (trail : List ℕ) (n t u : ℕ) → n < length trail → t ≡ get_or trail n t → u ≡ negated t → u ≡ negated (get_or trail n 0)
-contrary_is trail n t u b e f = f ∙ ap negated (e ∙ get_or_default trail n t 0 b)
-
 -- the contraries of the seen literals so far
 pub record Turned (seen part whole found : List ℕ) : Type 0 where
   pub all : All (λ t. Contains seen t → Contains found (negated t)) part

@@ -106,8 +106,5 @@ place_in_part xs from to x b h =
     let e : get_or part h.0 0 ≡ get_or xs (from + h.0) 0 = get_or-take (to - from) (drop from xs) h.0 0 k ∙ subst (λ (y : ℕ). get_or (drop from xs) y 0 ≡ get_or xs (from + h.0) 0) z (get_or-drop_at xs from (from + h.0) (omega arith)) in
     (from + h.0, omega arith, omega arith, sym e ∙ (get_or_default part h.0 0 x h.1 ∙ h.2))
 
-pub reason_at : (reasons : List (Option ℕ)) (n : ℕ) (r : Option ℕ) → n < length reasons → get_or reasons n None ≡ r → slice_get reasons n ≡ Some r
-reason_at reasons n r b f = slice_get-get_or reasons n None b ∙ ap (λ (x : Option ℕ). Some x) f
-
 pub reason_of : (reasons : List (Option ℕ)) (n : ℕ) (r v : Option ℕ) → n < length reasons → r ≡ get_or reasons n r → r ≡ v → slice_get reasons n ≡ Some v
 reason_of reasons n r v b e f = slice_get-get_or reasons n r b ∙ ap (λ (x : Option ℕ). Some x) (sym e ∙ f)

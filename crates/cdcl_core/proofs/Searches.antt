@@ -16,15 +16,12 @@ use Rattle.cdcl_core.specs.declared.search.Ending.TheVariants.{Model, Refuted, T
 use Rattle.cdcl_core.specs.Implied.{clauses_of, IsConflict, IsJustified, IsCovered, BeginsAtRoot, Level, level_of}
 use Rattle.cdcl_core.specs.Assumed.{IsAssumed}
 use Rattle.cdcl_core.specs.Analysed.{AtConflict}
-use Rattle.cdcl_core.specs.Hinted.{HasReasons}
-use Rattle.cdcl_core.specs.Solved.{RefutesTidily, TidyPropagation}
 use Rattle.cdcl_core.specs.declared.solver.Solver.{Solver}
 use Rattle.cdcl_core.specs.Searched.{IsBase, HasBase, IsModelOf, IsSearched, EndsOver, GoesOn}
 use Rattle.cdcl_core.proofs.Roots.{found_at, root_assumed, root_later, root_closed, justified_assumed, justified_later, justified_more}
 use Rattle.cdcl_core.proofs.Refuted.{root_forces}
 use Rattle.cdcl_core.proofs.Assumptions.{part_in}
 use Rattle.cdcl_core.proofs.Covered.{covers_grown}
-use Rattle.unit_propagation.proofs.Attached.{none_in}
 
 -- literals of distinct variables are as many as these at most
 pub count_variables : (variables : ℕ) (trail : List ℕ) → IsConsistent trail → AllPairs (λ l m. l ≢ m) trail → All (λ l. l < 2 * variables) trail → length trail ≤ variables
@@ -174,20 +171,6 @@ module _ (level : Level) (content : Content) (reasons : List (Option ℕ)) (trai
       order = omega (arith, d.root.within, e);
       forced = λ a p o. rw (later_root.base) (root_forces level content' reasons' trail' later_root a p (subst (λ (cs : List (List ℕ)). IsClosed cs a) later_root.clauses o));
     }
-
--- a false clause before any decision
-pub base_reasons : (clauses : List (List ℕ)) (size : ℕ) (content : Content) (refs : List ℕ) (reasons : List (Option ℕ)) (trail : List ℕ) (at : ℕ) → IsBase clauses size content refs reasons trail (Some at) → HasReasons content reasons trail [] at
-base_reasons clauses size content refs reasons trail at b = record {
-  aligned = b.justified.aligned;
-  because = b.justified.because;
-  given = λ k e. absurd (none_in (negated (get_or trail k 0)) (b.justified.given k e));
-  proper = λ k r e c. none_in (get_or trail k 0) c;
-  part = All-nil (Contains trail);
-  falsified = b.falsified at refl;
-}
-
-pub tidy_empty : (live : ℕ → Option (List ℕ)) (literals hints : List ℕ) → literals ≡ [] → RefutesTidily live [] hints → TidyPropagation live literals hints
-tidy_empty live literals hints e r = rw e r
 
 -- what holds over the same clauses, where more is true before any decision
 module _ (before after : Solver) (e : clauses_of after.arena ≡ clauses_of before.arena) (w : All (Contains after.trail) before.trail) where

@@ -7,14 +7,13 @@ use Rattle.std.proofs.lemmas.Option.{slice_get_past, same_Some}
 use Rattle.thumb_instr.specs.Items.{one_of}
 use Rattle.thumb_instr.proofs.Listed.{one_of_append}
 use Rattle.thumb_model.specs.Listing.{Code, IsPoint}
-use Rattle.thumb_model.specs.Flow.{Way as ModelWay, Leads, Onward, ToPlace, AnyPoint, Out, ways, ways_on, Follows}
+use Rattle.thumb_model.specs.Flow.{Way as ModelWay, Leads, Onward, ToPlace, AnyPoint, Out, ways, ways_on, Follows, Reached, point, along}
 use Rattle.code_flow.specs.declared.way.Next.{Next}
 use Rattle.code_flow.specs.declared.way.Way.{Way}
 use Rattle.code_flow.specs.declared.reaching.Reaching.{Reaching}
 use Rattle.code_flow.specs.Flow.{next_of, AreWays}
 use Rattle.code_flow.specs.Marks.{AreMarks}
 use Rattle.kept_places.specs.Marks.{marked}
-use Rattle.code_flow.specs.Reached.{Reached, point, along}
 use Rattle.code_flow.specs.Reaching.{unmarked, left, GoesTo, IsFollowed, HasAllPoints, IsReaching, MarksMore}
 use Rattle.kept_places.proofs.Ranks.{unmarked as none_marked}
 use Rattle.code_flow.proofs.Marking.{marks_one, marked_is}

@@ -1,7 +1,7 @@
 -- The places that are reached, as marks.
 use Rattle.std.specs.Prelude.{◌≡◌, ◌↔◌, ℕ, Bool, true, List, length, Some, slice_get}
 use Rattle.thumb_model.specs.Listing.{Code}
-use Rattle.code_flow.specs.Reached.{Reached}
+use Rattle.thumb_model.specs.Flow.{Reached}
 
 -- a mark for each place, which says whether it is reached
 pub record AreMarks (code : Code) (marks : List Bool) : Type 0 where

@@ -2,12 +2,11 @@
 use Rattle.std.specs.Prelude.{◌≡◌, ℕ, ◌+◌, ◌<◌, Bool, true, List, [], ◌∷◌, length, Some, slice_get, ◌⊎◌, if◌then◌else◌}
 use Rattle.thumb_instr.specs.Items.{one_of}
 use Rattle.thumb_model.specs.Listing.{Code, IsPoint}
-use Rattle.thumb_model.specs.Flow.{Way, ways, Follows}
+use Rattle.thumb_model.specs.Flow.{Way, ways, Follows, Reached}
 use Rattle.code_flow.specs.declared.way.Next.{Next}
 use Rattle.code_flow.specs.declared.way.Next.TheVariants.{Place, Points, Out}
 use Rattle.code_flow.specs.declared.reaching.Reaching.{Reaching}
 use Rattle.kept_places.specs.Marks.{marked}
-use Rattle.code_flow.specs.Reached.{Reached}
 
 -- a way that names a place goes there
 abbrev pub GoesTo : Next → ℕ → Type 0

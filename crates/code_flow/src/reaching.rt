@@ -3,7 +3,7 @@ ghost use Rattle.std.specs.Prelude.{[], ◌∷◌, ◌≡◌, ℕ, ◌+◌, ◌<
 ghost use Rattle.thumb_model.specs.Listing.{Code, code_of, places_of};
 ghost use Rattle.code_flow.specs.Marks.{AreMarks};
 ghost use Rattle.kept_places.specs.Marks.{marked};
-ghost use Rattle.code_flow.specs.Reached.{Reached as IsReached};
+ghost use Rattle.thumb_model.specs.Flow.{Reached as IsReached};
 ghost use Rattle.code_flow.specs.Reaching.{left, GoesTo, HasAllPoints, IsReaching, MarksMore};
 
 use crate::leaving::ways;

@@ -11,7 +11,6 @@ use Rattle.command_line.proofs.Items.{is_name}
 use Rattle.command_line.proofs.Law.{rows}
 use Rattle.command_line.proofs.Views.{AreTexts}
 use Rattle.command_line.proofs.NamedValues.{are_apart, first_row, values}
-use Rattle.command_line.proofs.Exact.{command_agrees}
 use Rattle.command_line.proofs.Commands.{Finds, command_finds, finds_command}
 use Rattle.command_line.proofs.Top.{enters}
 use Rattle.command_line.proofs.Pools.{all_some}
@@ -140,26 +139,6 @@ pub form_complete : (form : Form) (ws : List Text) → AreTexts ws → (r : Requ
 form_complete form ws texts r ps gs c e =
     let f = command_finds (name_of form) (words_for form) (options_of form) (is_form form).few (is_form form).names (is_form form).apart (enters form) ws texts ps gs c (counted form ps (λ n. value_of n gs) r e) in
     (f.1.fine, ap (option_and_then asked) f.1.found ∙ asked_named form (rows f.0) ∙ asked_is form f.0 gs ps f.1.in_order f.1.options ∙ e)
-
--- words ask for one thing of a form
-pub form_one : (form : Form) (ws : List Text) (r s : Request) (ps qs : List Text) (gs hs : List Given)
-    → IsCommand (name_of form) (options_of form) (name_of form ∷ ws) ps gs → request_by form ps (λ n. value_of n gs) ≡ Some r
-    → IsCommand (name_of form) (options_of form) (name_of form ∷ ws) qs hs → request_by form qs (λ n. value_of n hs) ≡ Some s → r ≡ s
-form_one form ws r s ps qs gs hs c e d h =
-    let f = command_agrees (name_of form) (words_for form) (options_of form) (is_form form).names (is_form form).apart ws ps gs c (counted form ps (λ n. value_of n gs) r e) in
-    let g = command_agrees (name_of form) (words_for form) (options_of form) (is_form form).names (is_form form).apart ws qs hs d (counted form qs (λ n. value_of n hs) s h) in
-    let us : List Given = f.0 in
-    let vs : List Given = g.0 in
-    let read : Some us ≡ Some vs = sym f.1.read ∙ g.1.read in
-    let same : us ≡ vs = cc in
-    let one = asked_is form us gs ps f.1.words f.1.options ∙ e in
-    let other = asked_is form vs hs qs g.1.words g.1.options ∙ h in
-    let both : Some r ≡ Some s = sym one ∙ ap (λ (k : List Given). asked_by form (λ id. first_of id (rows k))) same ∙ other in
-    cc
-
--- two forms of one name are one
-pub same_form : (form other : Form) → name_of form ≡ name_of other → form ≡ other
-same_form form other e = let both : Some form ≡ Some other = sym (is_form form).named ∙ ap form_of e ∙ (is_form other).named in cc
 
 -- what is asked for is told by the values alone
 pub same_asked : (form : Form) (f g : Text → Option Text) → ((id : Text) → f id ≡ g id) → asked_by form f ≡ asked_by form g

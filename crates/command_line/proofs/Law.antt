@@ -21,10 +21,6 @@ abbrev pub clean : Kinds → Bool
 clean [] = true
 clean (k ∷ ks) = false
 
-clean_or : (a b : Kinds) → clean (or_else a b) ≡ (clean a && clean b)
-clean_or [] b = refl
-clean_or (k ∷ ks) b = refl
-
 -- the row of a use
 abbrev pub row : Given → Row
 row u = record { id = u.0; values = u.1 ∷ []; count = None; source = Some CommandLine; reading = reading_by (option_rule u.0) }

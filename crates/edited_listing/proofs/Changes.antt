@@ -12,10 +12,6 @@ use Rattle.edited_listing.specs.Changes.{is_none, marks_of, home_at, giving, giv
 
 -- ---- one place at a time ----
 
-pub giving_none : (is : List Instr) (home : ℕ) (ss : List Standing) → giving 0 is home ss ≡ ss
-giving_none is home [] = refl
-giving_none is home (s ∷ ss) = refl
-
 pub giving_from_none : (p : ℕ) (is : List Instr) (home : ℕ) (ss : List Standing) → giving_from p 0 is home ss ≡ ss
 giving_from_none p is home [] = refl
 giving_from_none zero is home (s ∷ ss) = refl

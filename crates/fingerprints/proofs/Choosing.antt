@@ -13,7 +13,7 @@ use Rattle.seq_enum.specs.Alphabet.{numbers_from, alphabet}
 use Rattle.fingerprints.specs.declared.trials.Trial.{Trial}
 use Rattle.fingerprints.specs.Outcomes.{Extent, sequences_below, AreAgreeing, grown_to, added}
 use Rattle.fingerprints.specs.Tables.{IsFor}
-use Rattle.fingerprints.specs.Candidates.{TellsFrom, AreCandidates, BeginsAt, grown_for, added_for}
+use Rattle.fingerprints.specs.Candidates.{TellsFrom, AreCandidates, BeginsAt, grown_for}
 use Rattle.fingerprints.proofs.Looking.{number_here}
 use Rattle.fingerprints.proofs.Growing.{below_longest}
 use Rattle.seq_enum.proofs.Ascending.{ascends_numbers as numbers_ascend}
@@ -75,14 +75,6 @@ candidates_are e later (t ∷ ts) d longest mask count numbers some begins c gro
     agreeing_candidates e t ts longest mask count numbers begins c (subst (λ (x : Extent). AreAgreeing x (values_of t.end) mask count numbers) grown agree)
 
 -- ---- the table ----
-
-pub grown_none : (trials : List Trial) (longest : ℕ) (e : Extent) → length trials ≤ 0 → (grown_for trials longest e ≡ e) × (added_for trials longest e ≡ 0)
-grown_none [] longest e h = (refl, refl)
-grown_none (t ∷ ts) longest e h = absurd (omega (arith, h))
-
-pub grown_some : (trials : List Trial) (longest : ℕ) (e : Extent) → 0 < length trials → (grown_for trials longest e ≡ grown_to longest e) × (added_for trials longest e ≡ added longest e)
-grown_some [] longest e h = absurd (omega (arith, h))
-grown_some (t ∷ ts) longest e h = (refl, refl)
 
 -- the table gets no more sequences than there are shorter ones
 pub few_added : (e : Extent) (longest : ℕ) → added longest e ≤ length (sequences_below e.alphabet (longest + 1))

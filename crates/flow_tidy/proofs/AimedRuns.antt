@@ -12,11 +12,10 @@ use Rattle.thumb_model.specs.Naming.{Naming, points}
 use Rattle.thumb_model.specs.States.{World, Around, Target, Event, Position, Here, Ended, State, On, puts}
 use Rattle.thumb_model.specs.Acts.{holds, act, jumps}
 use Rattle.thumb_model.specs.Steps.{does, around_of, aim_of, target_at, landing, point_among, step_on, step_at, step, times}
-use Rattle.thumb_model.specs.Flow.{Way, way, Leads, Onward, ToPlace, AnyPoint, Out, jump_way, ways, ways_on, ways_of, Follows}
+use Rattle.thumb_model.specs.Flow.{Way, way, Leads, Onward, ToPlace, AnyPoint, Out, jump_way, ways, ways_on, ways_of, Follows, Reached, point, along}
 use Rattle.thumb_model.specs.Same.{Alike, begun, here_or_ended}
 use Rattle.thumb_model.proofs.Simulation.{Advance, sooner, reached}
 use Rattle.thumb_model.proofs.Follow.{Keeps, state}
-use Rattle.code_flow.specs.Reached.{Reached, point, along}
 use Rattle.flow_tidy.specs.Tidying.{is_always, Hops, HopsBy, Setting, is_branch, GoesToEnd}
 use Rattle.listing_parser.specs.Targets.{aimed_lines}
 use Rattle.flow_tidy.proofs.Ways.{label_is_point}

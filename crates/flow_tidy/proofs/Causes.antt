@@ -8,7 +8,7 @@ use Rattle.thumb_instr.specs.declared.instr.Instr.{Instr}
 use Rattle.thumb_model.specs.Listing.{Name, Mention, Place, Op, Code, place_of}
 use Rattle.thumb_model.specs.Steps.{aim_of}
 use Rattle.thumb_model.specs.Replaced.{moved, replaced}
-use Rattle.code_flow.specs.Reached.{point}
+use Rattle.thumb_model.specs.Flow.{point}
 use Rattle.flow_tidy.specs.Tidying.{is_always, Hops, HopsBy, IsEnd, Cause, ToNext, ToEnd, Idle, is_branch, GoesToNext, GoesToEnd, IsIdle, HasCause}
 use Rattle.flow_tidy.specs.Due.{IsCaused, is_branch_always, is_branch_if, lets_on}
 use Rattle.flow_tidy.proofs.Ways.{aim_is_point}

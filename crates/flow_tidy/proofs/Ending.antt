@@ -16,7 +16,7 @@ use Rattle.flow_tidy.specs.Tidying.{is_always, Hops, HopsBy, is_branch}
 use Rattle.flow_tidy.specs.Due.{HasEnd}
 use Rattle.flow_tidy.specs.Made.{label_of_always, label_of_branch}
 use Rattle.flow_tidy.specs.Quick.{EndsAt}
-use Rattle.flow_tidy.specs.ChainEnds.{hop_at, known_by, known_in, AreEnds, AreWalked, IsLast, IsStamped, LastBy, LastOf}
+use Rattle.flow_tidy.specs.ChainEnds.{hop_at, known_by, known_in, AreEnds, AreWalked, IsLast, LastBy, LastOf}
 use Rattle.flow_tidy.proofs.Hopping.{goes, some_of}
 use Rattle.common_lemmas.proofs.Lists.{get_set as is_set}
 
@@ -211,20 +211,11 @@ stays_set (z ∷ xs) (suc p) (suc q) x e = stays_set xs p q x e
 last_same : (d : Drafted) (p q : ℕ) (a b : Option ℕ) → q ≡ p → Last a ≡ Last b → IsLast d p a → IsLast d q b
 last_same d p q a b e f h = let same : a ≡ b = cc in subst (λ x. IsLast d x b) (sym e) (subst (IsLast d p) same h)
 
-pub noted_last : (d : Drafted) (known : List Known) (p : ℕ) (last : Option ℕ) → IsLast d p last → AreEnds d known → AreEnds d (slice_set known p (Last last))
-noted_last d known p last h a = record {
-  many = set_length known p (Last last) ∙ a.many;
-  each = λ q o g e. elim (get_set known p q (Last last) (Last o) e) [ inl s ↦ last_same d p q last o s.0 s.1 h | inr s ↦ a.each q o g s ];
-}
-
 pub noted_walk : (d : Drafted) (known : List Known) (p : ℕ) → AreEnds d known → AreEnds d (slice_set known p Walked)
 noted_walk d known p a = record {
   many = set_length known p Walked ∙ a.many;
   each = λ q o g e. elim (get_set known p q Walked (Last o) e) [ inl s ↦ absurd (let no : Walked ≡ Last o = s.1 in cc) | inr s ↦ a.each q o g s ];
 }
-
-pub walked_less : (d : Drafted) (known : List Known) (p : ℕ) (last : Option ℕ) → AreWalked d known last → AreWalked d (slice_set known p (Last last)) last
-walked_less d known p last a = λ q g e. elim (get_set known p q (Last last) Walked e) [ inl s ↦ absurd (let no : Last last ≡ Walked = s.1 in cc) | inr s ↦ a q g s ]
 
 -- where nothing is known, that is true of every draft of so many places
 pub none_known : (d : Drafted) (n : ℕ) (known : List Known) → known ≡ replicate n Nothing → n ≡ length d.gone → AreEnds d known
@@ -417,12 +408,3 @@ map_set {B = B} f (y ∷ xs) (suc p) x = ap (λ (ys : List B). f y ∷ ys) (map_
 pub noted : (since latest p : ℕ) (found : List Found) (known : Known) → since ≤ latest → map (known_in since latest) (slice_set found p (record { stamp = latest; known = known })) ≡ slice_set (map (known_in since latest) found) p known
 noted since latest p found known h =
     map_set (known_in since latest) found p (record { stamp = latest; known = known }) ∙ ap (slice_set (map (known_in since latest) found) p) (noted_now since latest known h)
-
-pub noted_stamps : (since latest p : ℕ) (found : List Found) (known : Known) → IsStamped since latest found → IsStamped since latest (slice_set found p (record { stamp = latest; known = known }))
-noted_stamps since latest p found known h = record {
-  since_then = h.since_then;
-  stamps = λ q f e. elim (get_set found p q (record { stamp = latest; known = known }) f e) [
-    | inl s ↦ (let same : latest ≡ f.stamp = ap (λ (g : Found). g.stamp) s.1 in omega arith)
-    | inr s ↦ h.stamps q f s
-  ];
-}

@@ -8,11 +8,10 @@ use Rattle.thumb_instr.specs.declared.instr.Instr.{Instr}
 use Rattle.thumb_model.specs.Effect.{one_of}
 use Rattle.thumb_model.specs.Listing.{Mention, Place, Op, Word, Label, Code, is_op_place, is_code, is_call, is_call_instr, label_places, return_places, IsPoint}
 use Rattle.thumb_model.specs.Steps.{aim_of}
-use Rattle.thumb_model.specs.Flow.{Way, Leads, Onward, ToPlace, AnyPoint, Out, ways_of, ways_on, ways, Follows}
+use Rattle.thumb_model.specs.Flow.{Way, Leads, Onward, ToPlace, AnyPoint, Out, ways_of, ways_on, ways, Follows, Reached, point, along}
 use Rattle.thumb_model.specs.Replaced.{moved, move_label, replaced}
 use Rattle.thumb_model.proofs.Lists.{get_drop, get_take, get_back, take_all}
 use Rattle.thumb_model.proofs.Moved.{AreNoCalls, IsReplacement, IsOutside, fetch_outside, points_moved, place_moved}
-use Rattle.code_flow.specs.Reached.{Reached, point, along}
 use Rattle.padded_code.proofs.Padded.{lead_to, way_to, ways_of_to, way_back, way_forth}
 use Rattle.flow_tidy.proofs.Ways.{points_to}
 use Rattle.common_lemmas.proofs.Lists.{get_front}

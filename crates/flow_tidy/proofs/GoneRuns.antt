@@ -11,7 +11,7 @@ use Rattle.thumb_model.specs.States.{World, Answer, Around, Event, Landing, Leav
 use Rattle.thumb_model.specs.Acts.{act}
 use Rattle.thumb_model.specs.Steps.{label_place, loads_literal, word_of_mention, word_of_place, word_behind, literal_word, literal_at, arrives, around_of, aim_of, target_at, landing, point_among, step_on, step, times}
 use Rattle.thumb_model.specs.Literals.{HasLiterals}
-use Rattle.thumb_model.specs.Flow.{Leads, Onward, ways, ways_on, ways_of, Follows}
+use Rattle.thumb_model.specs.Flow.{Leads, Onward, ways, ways_on, ways_of, Follows, Reached, point, along}
 use Rattle.thumb_model.specs.Same.{has_ended, Alike, here_or_ended, begun}
 use Rattle.thumb_model.specs.Replaced.{replaced}
 use Rattle.thumb_model.proofs.Law.{Matches, Taken, law, keys}
@@ -20,7 +20,6 @@ use Rattle.thumb_model.proofs.Tied.{TargetTied, LandingTied, NextTied, ActTied, 
 use Rattle.thumb_model.proofs.Moved.{data_moved, label_place_moved, point_at_moved, count_stays, place_moved, fits_stays, literals_stay}
 use Rattle.thumb_model.proofs.Points.{point_is}
 use Rattle.thumb_model.proofs.Follow.{Keeps, state, is_some_moved}
-use Rattle.code_flow.specs.Reached.{Reached, point, along}
 use Rattle.flow_tidy.proofs.Ways.{label_is_point, aim_is_point}
 use Rattle.flow_tidy.proofs.Going.{MayGo, new, to, is_replacement, all_outside, fetch, next_place, same_next, aim_moved}
 use Rattle.thumb_model.proofs.Window.{aim_is as inside_is}

@@ -6,7 +6,7 @@ use Rattle.std.proofs.lemmas.Option.{same_Some}
 use Rattle.thumb_instr.specs.declared.instr.Instr.{Instr}
 use Rattle.thumb_model.specs.Listing.{Name, Mention, Place, Op, Word, Code, is_call_instr, place_of}
 use Rattle.thumb_model.specs.Steps.{aim_of}
-use Rattle.code_flow.specs.Reached.{Reached}
+use Rattle.thumb_model.specs.Flow.{Reached}
 use Rattle.kept_places.specs.Marks.{is_gone, rank, IsNode}
 use Rattle.kept_places.proofs.Ranks.{rank_kept, ranks_ascend, ranks_grow}
 use Rattle.listing_draft.specs.Drafted.{instr_in}
@@ -41,17 +41,6 @@ branch_from code r q (Some (Op i (Some m))) e h k = on (is_branch i) refl h
 
 pub nowhere_next : (code : Code) (r : ℕ) → goes code r ≡ None → GoesToNext code r → ⊥
 nowhere_next code r e g = let no : None ≡ Some (r + 1) = sym e ∙ aim_is code r g.i g.mention g.stands g.branch ∙ g.next in absurd (cc)
-
--- where no branch stands
-pub no_branch_next : (code : Code) (r : ℕ) → label_of_branch (slice_get code.places r) ≡ None → GoesToNext code r → ⊥
-no_branch_next code r e = nowhere_next code r (ap (option_and_then (place_of code)) e)
-
-pub no_branch_ends : (code : Code) (r : ℕ) → label_of_branch (slice_get code.places r) ≡ None → HasEnd code r → ⊥
-no_branch_ends code r e h =
-    let label : label_of_branch (slice_get code.places r) ≡ Some h.goes.mention.name =
-    ap label_of_branch h.goes.stands ∙ ap (λ (b : Bool). if b then Some h.goes.mention.name else None) h.goes.branch in
-    let no : None ≡ Some h.goes.mention.name = sym e ∙ label in
-    absurd (cc)
 
 pub is_next : (code : Code) (r q : ℕ) → goes code r ≡ Some q → (q ≡ r + 1) ↔ GoesToNext code r
 is_next code r q e = (
@@ -117,22 +106,12 @@ end_goes_on code r h =
 pub nowhere_ends : (code : Code) (r : ℕ) → goes code r ≡ None → HasEnd code r → ⊥
 nowhere_ends code r e h = let g = end_goes_on code r h in let no : None ≡ Some g.first = sym e ∙ g.goes in absurd (cc)
 
-pub stop_ends : (code : Code) (r q : ℕ) → goes code r ≡ Some q → hops code q ≡ None → HasEnd code r → ⊥
-stop_ends code r q e f h =
-    let g = end_goes_on code r h in
-    let at : q ≡ g.first = same_Some q g.first (sym e ∙ g.goes) in
-    let no : None ≡ Some g.second = sym f ∙ ap (hops code) at ∙ g.hops in
-    absurd (cc)
-
 -- ---- what nothing reaches ----
 
 idle_from : (code : Code) (r : ℕ) (i : Instr) (x : Option Place) → slice_get code.places r ≡ x → instr_in x ≡ Some i → is_call_instr i ≡ false → (Reached code r → ⊥) → IsIdle code r
 idle_from code r i None e f n u = absurd (cc)
 idle_from code r i (Some (Word v)) e f n u = absurd (cc)
 idle_from code r i (Some (Op j m)) e f n u = record { i = j; mention = m; stands = e; no_call = ap is_call_instr (same_Some j i f) ∙ n; unreached = u }
-
-pub idle_none : (code : Code) (r : ℕ) → instr_in (slice_get code.places r) ≡ None → IsIdle code r → ⊥
-idle_none code r e h = let no : None ≡ Some h.i = sym e ∙ ap instr_in h.stands in absurd (cc)
 
 pub idle_call : (code : Code) (r : ℕ) (i : Instr) → instr_in (slice_get code.places r) ≡ Some i → is_call_instr i ≡ true → IsIdle code r → ⊥
 idle_call code r i e c h =

@@ -13,7 +13,7 @@ use Rattle.thumb_model.specs.Naming.{Naming}
 use Rattle.thumb_model.specs.States.{World, Target, Inside, Event, Here, puts, On}
 use Rattle.thumb_model.specs.Acts.{holds, jumps}
 use Rattle.thumb_model.specs.Steps.{target_at, does, step_on, aim_of}
-use Rattle.thumb_model.specs.Flow.{Way, way, Onward, jump_way, ways_on, ways_of, Follows}
+use Rattle.thumb_model.specs.Flow.{Way, way, Onward, jump_way, ways_on, ways_of, Follows, Reached, point}
 use Rattle.thumb_model.specs.Replaced.{moved, replaced}
 use Rattle.thumb_model.specs.Cuts.{AreOps}
 use Rattle.thumb_model.proofs.Lists.{get_drop}
@@ -21,7 +21,6 @@ use Rattle.thumb_model.proofs.Moved.{one_of_back}
 use Rattle.thumb_model.proofs.LinesReplaced.{code_replaced}
 use Rattle.thumb_model.proofs.LinesReplaced.{outside_of}
 use Rattle.thumb_model.proofs.Follow.{Keeps, state}
-use Rattle.code_flow.specs.Reached.{Reached, point}
 use Rattle.flow_tidy.specs.Tidying.{Setting, is_branch, GoesToNext, IsIdle, lines_without}
 use Rattle.flow_tidy.proofs.Ways.{one_of_first, aim_is_point}
 use Rattle.flow_tidy.proofs.Going.{MayGo, reached_forth, reached_back}

@@ -11,7 +11,7 @@ use Rattle.thumb_model.specs.Layout.{Layable}
 use Rattle.thumb_model.specs.Replaced.{moved, replaced}
 use Rattle.thumb_model.proofs.Lists.{get_back, get_drop, get_take, take_all}
 use Rattle.code_flow.specs.Marks.{AreMarks}
-use Rattle.code_flow.specs.Reached.{Reached}
+use Rattle.thumb_model.specs.Flow.{Reached}
 use Rattle.label_layout.specs.Addresses.{Addresses, AreAddresses}
 use Rattle.flow_tidy.specs.Tidying.{Setting, Cause, ToNext, ToEnd, Idle, GoesToNext, GoesToEnd, IsIdle, HasCause, lines_by}
 use Rattle.flow_tidy.specs.Due.{before_is_due, lets_on, AreDue, IsCaused, IsKnown, IsLeast, IsNextAt}

@@ -3,7 +3,7 @@ use Rattle.std.proofs.Common.{◌↔◌, ℕ, List, [], ◌∷◌, sym, subst}
 use Rattle.thumb_model.specs.Listing.{ListingLine, code_of}
 use Rattle.thumb_model.specs.Layout.{Layable}
 use Rattle.thumb_model.proofs.Follow.{Keeps, keeps_refl, keeps_trans}
-use Rattle.code_flow.specs.Reached.{Reached}
+use Rattle.thumb_model.specs.Flow.{Reached}
 use Rattle.flow_tidy.specs.Tidying.{Setting, Cause, ToNext, ToEnd, Idle, Change, HasCause, lines_by, lines_after, AreTidied}
 use Rattle.flow_tidy.specs.Laws.{came_to, came_to_by, came_through, IsKept, IsKeptBy, AreKept}
 use Rattle.flow_tidy.proofs.Removed.{next_may_go, next_does_nothing, idle_may_go, idle_does_nothing, lines_without_keep, reached_without}

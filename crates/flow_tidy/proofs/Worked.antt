@@ -14,8 +14,7 @@ use Rattle.thumb_instr.specs.Shape.{condition_uses, uses_of, writes_of}
 use Rattle.thumb_model.specs.Listing.{Name, Mention, Op, ListingLine, Code, code_of, place_of, is_call_instr, IsPoint}
 use Rattle.thumb_model.specs.States.{registers_left}
 use Rattle.thumb_model.specs.Steps.{aim_of}
-use Rattle.thumb_model.specs.Flow.{Way, way, Onward, AnyPoint, Out, jump_way, ways, Follows}
-use Rattle.code_flow.specs.Reached.{Reached, point, along}
+use Rattle.thumb_model.specs.Flow.{Way, way, Onward, AnyPoint, Out, jump_way, ways, Follows, Reached, point, along}
 use Rattle.flow_tidy.specs.Tidying.{is_always, Hops, HopsBy, IsEnd, Cause, ToNext, ToEnd, Idle, is_branch, GoesToNext, GoesToEnd, IsIdle, HasCause, line_length, rank, IsFirst, AreTidied}
 use Rattle.flow_tidy.specs.Worked.{roomy, labels, does, goes, change, a, c, e, f, crossing, crossed, next_branch, loop, idle_call, SmallListings}
 use Rattle.flow_tidy.proofs.Whole.{change_keeps}

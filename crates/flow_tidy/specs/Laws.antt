@@ -5,7 +5,7 @@ use Rattle.thumb_model.specs.Literals.{HasLiterals}
 use Rattle.thumb_model.specs.Layout.{Layable}
 use Rattle.thumb_model.specs.Same.{Same}
 use Rattle.thumb_model.specs.Replaced.{moved}
-use Rattle.code_flow.specs.Reached.{Reached}
+use Rattle.thumb_model.specs.Flow.{Reached}
 use Rattle.flow_tidy.specs.Tidying.{Setting, Cause, ToNext, ToEnd, Idle, Change, HasCause, lines_after, NonePossible, AreTidied, AllPossible}
 
 -- ---- all changes ----

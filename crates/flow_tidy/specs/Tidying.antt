@@ -7,7 +7,7 @@ use Rattle.thumb_model.specs.Steps.{aim_of}
 use Rattle.thumb_model.specs.Layout.{Layable}
 use Rattle.thumb_model.specs.Replaced.{replaced_lines}
 use Rattle.listing_parser.specs.Targets.{aimed_lines}
-use Rattle.code_flow.specs.Reached.{Reached}
+use Rattle.thumb_model.specs.Flow.{Reached}
 use Rattle.label_layout.specs.Refusals.{fault_of, first_fault}
 use Rattle.label_layout.specs.declared.errors.LayoutError.{LayoutError}
 use Rattle.label_layout.specs.declared.errors.LayoutError.TheVariants as layout

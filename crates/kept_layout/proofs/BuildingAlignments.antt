@@ -163,12 +163,6 @@ pub record AreFound (of : Loose) (ss : List Block) (number : ℕ) (loose : List 
   pub all : (j : ℕ) (s : Block) → j < number → slice_get ss j ≡ Some s → is_loose of j s.head ≡ true → Contains loose j
   pub within : (j : ℕ) → Contains loose j → j < length ss
 
-pub found_none : (of : Loose) (ss : List Block) (loose : List ℕ) → loose ≡ [] → AreFound of ss 0 loose
-found_none of ss loose e = record {
-  all = λ j s h f g. absurd (omega arith);
-  within = λ j c. absurd (let d = subst (λ xs. Contains xs j) e c in let l = d.1 in omega arith);
-}
-
 pub found_one : (of : Loose) (ss : List Block) (number following : ℕ) (loose more : List ℕ) → AreFound of ss number loose → more ≡ loose ++ number ∷ [] → number < length ss → following ≡ suc number → AreFound of ss following more
 found_one of ss number following loose more a e h f = record {
   all = λ j s l g k. subst (λ xs. Contains xs j) (sym e) (elim (cases_lt j number) [

@@ -7,11 +7,10 @@ use Rattle.thumb_instr.specs.declared.instr.Instr.{Instr}
 use Rattle.thumb_instr.specs.Window.{is_in_window}
 use Rattle.thumb_model.specs.Listing.{Name, Mention, Value, Statement, Nothing, Instruction, Words, Aligns, Sets, ListingLine, Word, places_in, places_of}
 use Rattle.thumb_model.specs.Layout.{cleared, instr_size, is_among, set_address}
-use Rattle.thumb_model.specs.Replaced.{is_op, labels_kept, new_line, replaced_lines, without}
+use Rattle.thumb_model.specs.Replaced.{is_op, labels_kept, new_line, replaced_lines, without, IsWindow}
 use Rattle.thumb_model.proofs.Lists.{drop_back, length_map}
 use Rattle.window_runs.specs.declared.rows.WindowPlace.{WindowPlace}
 use Rattle.window_runs.specs.Rows.{is_unlabelled, window_instr, word_row, rows_of, rows_from, stays_joined}
-use Rattle.window_runs.specs.Windows.{IsWindow}
 use Rattle.window_runs.proofs.Joined.{window_fits, Fits, no_place as not_first}
 use Rattle.window_runs.proofs.Lengths.{rows_length}
 use Rattle.kept_layout.specs.declared.block.NameLocation.{NameLocation}

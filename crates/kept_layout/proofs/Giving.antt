@@ -6,10 +6,9 @@ use Rattle.thumb_instr.specs.declared.instr.Instr.{Instr}
 use Rattle.thumb_instr.specs.Window.{is_in_window}
 use Rattle.thumb_model.specs.Layout.{Layable}
 use Rattle.thumb_model.specs.Listing.{Name, ListingLine, places_in, places_of}
-use Rattle.thumb_model.specs.Replaced.{replaced_lines}
+use Rattle.thumb_model.specs.Replaced.{replaced_lines, IsWindow}
 use Rattle.thumb_model.proofs.Lists.{length_map, present_at}
 use Rattle.window_runs.specs.Rows.{rows_from}
-use Rattle.window_runs.specs.Windows.{IsWindow}
 use Rattle.window_runs.proofs.Joined.{window_fits}
 use Rattle.window_runs.proofs.Lengths.{rows_length}
 use Rattle.kept_layout.specs.declared.kept.KeptLayout.{KeptLayout}

@@ -1,5 +1,5 @@
 -- Groups of blocks: how many places each has.
-use Rattle.std.proofs.Common.{◌≡◌, ◌∙◌, inl, inr, ℕ, zero, suc, ◌+◌, ◌*◌, ◌-◌, ◌/◌, ◌%◌, ◌<◌, ◌≤◌, List, [], ◌∷◌, ◌++◌, length, take, Some, refl, sym, ap, subst, arith, div-add-mod', length-append}
+use Rattle.std.proofs.Common.{◌≡◌, ◌∙◌, inl, inr, ℕ, zero, suc, ◌+◌, ◌*◌, ◌-◌, ◌/◌, ◌<◌, ◌≤◌, List, [], ◌∷◌, ◌++◌, length, take, Some, refl, sym, ap, subst, arith, div-add-mod', length-append}
 use Rattle.std.specs.Prelude.{slice_get}
 use Rattle.std.proofs.lemmas.Bool.{cases_lt}
 use Rattle.std.proofs.lemmas.Nat.{mod_below}
@@ -8,8 +8,8 @@ use Rattle.thumb_model.proofs.Lists.{get_back, present_at}
 use Rattle.kept_layout.specs.declared.kept.KeptLayout.{KeptLayout}
 use Rattle.kept_layout.specs.declared.block.Block.{Block}
 use Rattle.kept_layout.specs.Blocks.{lessen, footprint_of, footprints_of, total_places, Footprint}
-use Rattle.kept_layout.specs.Kept.{AreRooms, IsLaid, IsRoom}
-use Rattle.kept_layout.proofs.MovingPlaces.{elsewhere, places_more, footprint_at}
+use Rattle.kept_layout.specs.Kept.{AreRooms, IsLaid}
+use Rattle.kept_layout.proofs.MovingPlaces.{places_more, footprint_at}
 use Rattle.common_lemmas.proofs.Lists.{get_front}
 
 -- ---- those of the first ones ----
@@ -142,25 +142,6 @@ pub rooms_of : (k : KeptLayout) (found : List Block) → found ≡ k.blocks.item
 rooms_of k found e r = subst (λ (xs : List Block). AreRooms k.rooms.items (footprints_of xs)) e r
 
 -- ---- going over a group ----
-
-pub is_room_at : (footprints : List Footprint) (rooms : List ℕ) (number group room : ℕ) → AreRooms rooms footprints → number % 128 ≡ 0 → group ≡ number / 128 → slice_get rooms group ≡ Some room → IsRoom footprints number room
-is_room_at footprints rooms number group room are whole at e =
-    let split = div-add-mod' number 128 in
-    let same : group * 128 ≡ number = omega arith in
-    subst (λ n. IsRoom footprints n room) same (are group room e)
-
-pub leapt_on : (k : KeptLayout) (room here first : ℕ) → IsLaid k → IsRoom (footprints_of k.blocks.items) k.here room → here ≡ k.here + 128 → first ≡ k.first + room → here < length k.blocks.items → IsLaid (record k { here = here; first = first })
-leapt_on k room here first l r e f h =
-    let was = l.first in
-    let same : total_places (take here (footprints_of k.blocks.items)) ≡ total_places (take (k.here + 128) (footprints_of k.blocks.items)) = ap (λ n. total_places (take n (footprints_of k.blocks.items))) e in
-    elsewhere k here first l h (omega arith)
-
-pub leapt_back : (k : KeptLayout) (room here : ℕ) → IsLaid k → IsRoom (footprints_of k.blocks.items) here room → here + 128 ≡ k.here → (room ≤ k.first) × IsLaid (record k { here = here; first = k.first - room })
-leapt_back k room here l r e =
-    let was = l.first in
-    let within = l.here in
-    let same : total_places (take k.here (footprints_of k.blocks.items)) ≡ total_places (take (here + 128) (footprints_of k.blocks.items)) = ap (λ n. total_places (take n (footprints_of k.blocks.items))) (sym e) in
-    (omega arith, elsewhere k here (k.first - room) l (omega arith) (omega arith))
 
 -- ---- the block that it stands at loses places ----
 

@@ -157,9 +157,6 @@ refused_by k bytes gone new by at next h w b reach j = subst (λ m. IsRightIf tr
 
 -- ---- what is looked at ----
 
-pub passed_if : (known is : Bool) (k : KeptLayout) (new : List ℕ) (by j : ℕ) → ((s : Block) → slice_get k.blocks.items j ≡ Some s → is ≡ is_known k new j s.head) → (is ≡ known → ⊥) → IsRightIf known k new by j
-passed_if known is k new by j told other s e same = absurd (other (told s e ∙ same))
-
 pub right_of : (known is : Bool) (k : KeptLayout) (new : List ℕ) (by j : ℕ) → j < length k.blocks.items → ((s : Block) → slice_get k.blocks.items j ≡ Some s → is ≡ is_known k new j s.head) → is ≡ known → IsRightIf known k new by j
     → IsRight (moved_starts k new by) k.blocks.items j
 right_of known is k new by j within told same r = let there = present_at k.blocks.items j within in r there.0 there.1 (sym (told there.0 there.1) ∙ same)
@@ -185,6 +182,3 @@ open_right k new by j l m known within r =
         | inr stays ↦ stays_right k new by j s l m e (omega arith)
       ]
     ]
-
-pub right_if : (known : Bool) (k : KeptLayout) (new : List ℕ) (by : ℕ) → ((j : ℕ) → IsRight (moved_starts k new by) k.blocks.items j) → (j : ℕ) → IsRightIf known k new by j
-right_if known k new by r j s e is = r j

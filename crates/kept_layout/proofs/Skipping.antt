@@ -19,7 +19,7 @@ use Rattle.kept_layout.proofs.ShrinkingKnown.{own_before}
 use Rattle.kept_layout.proofs.ShrinkingPlaces.{count_of, moved_among, moved_behind}
 use Rattle.kept_layout.proofs.ShrinkingReach.{AreMet}
 use Rattle.kept_layout.proofs.ShrinkingStarts.{starts_order}
-use Rattle.kept_layout.proofs.Walls.{bounds, end_news, few_low, label_is_right, less_apart, less_order, news_calm, no_literal_at, no_literal_of, starts_less, was_right}
+use Rattle.kept_layout.proofs.Walls.{end_news, few_low, label_is_right, less_apart, less_order, news_calm, no_literal_at, no_literal_of, starts_less, was_right}
 
 -- how a layout moves
 pub record Goes (k : KeptLayout) (bytes : ℕ) (at : List ℕ) (by first : ℕ) : Type 0 where
@@ -158,26 +158,6 @@ looked_at k bytes at by first number g met over loose absolute =
     }
 
 -- ---- up to where none is looked at ----
-
--- all behind comes nearer
-pub far_nearer : (k : KeptLayout) (bytes by : ℕ) → IsLaid k → bytes ≤ by → AreFar k bytes by (wall_of k)
-far_nearer k bytes by l h = let from = (bounds k l).from in record { from = omega arith; until = omega arith; far = λ x. absurd (omega arith); small = λ x. absurd (omega arith) }
-
--- none is behind
-pub far_last : (k : KeptLayout) (bytes by : ℕ) → IsLaid k → length k.blocks.items ≤ wall_of k → AreFar k bytes by (wall_of k)
-far_last k bytes by l h =
-    let b = bounds k l in
-    let from = b.from in
-    record {
-      from = omega arith;
-      until = omega arith;
-      far = λ x j at wall m n e f. let low = slice_get_within (starts_of k) (wall_of k) wall f in let count = count_of k in absurd (omega arith);
-      small = λ x m. let w = b.within in let low = b.last (omega arith) in absurd (omega arith);
-    }
-
--- all are looked at
-pub far_none : (k : KeptLayout) (bytes by first : ℕ) → IsLaid k → first ≡ suc k.here → AreFar k bytes by first
-far_none k bytes by first l e = let from = (bounds k l).from in record { from = omega arith; until = omega arith; far = λ x j at wall m n. absurd (omega arith); small = λ x m. absurd (omega arith) }
 
 -- one is far from the wall, and so are those before it
 pub far_found : (k : KeptLayout) (bytes by first n at wall : ℕ) → k.here < first → first ≤ wall_of k → suc n ≡ first → slice_get (starts_of k) n ≡ Some at → slice_get (starts_of k) (wall_of k) ≡ Some wall → at + 2052 < wall

@@ -3,10 +3,9 @@ use Rattle.std.specs.Prelude.{◌≡◌, ℕ, ◌+◌, ◌*◌, ◌<◌, ◌≤�
 use Rattle.thumb_instr.specs.declared.instr.Instr.{Instr}
 use Rattle.thumb_model.specs.Listing.{Name, Statement, Nothing, Instruction, Words, Aligns, Sets, ListingLine, places_of}
 use Rattle.thumb_model.specs.Layout.{cleared, instr_size, is_among, set_address, Layable}
-use Rattle.thumb_model.specs.Replaced.{replaced_lines}
+use Rattle.thumb_model.specs.Replaced.{replaced_lines, IsWindow}
 use Rattle.listing_parser.specs.Parsing.{own_line}
 use Rattle.window_runs.specs.Rows.{is_unlabelled}
-use Rattle.window_runs.specs.Windows.{IsWindow}
 use Rattle.kept_layout.specs.declared.alignments.Loose.TheVariants as sort
 use Rattle.kept_layout.specs.declared.kept.KeptLayout.{KeptLayout}
 use Rattle.kept_layout.specs.declared.block.Aim.{Aim}

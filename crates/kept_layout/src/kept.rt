@@ -53,7 +53,7 @@ impl KeptLayout {
     ghost use Rattle.thumb_model.specs.Listing.{ListingLine};
     ghost use Rattle.thumb_model.specs.Replaced.{replaced_lines};
     ghost use Rattle.listing_parser.specs.Parsing.{own_line};
-    ghost use Rattle.window_runs.specs.Windows.{IsWindow};
+    ghost use Rattle.thumb_model.specs.Replaced.{IsWindow};
     ghost use Rattle.kept_layout.specs.Kept.{Lays, IsNear, LeavesLayable, StandsAt};
     ghost use Rattle.kept_layout.specs.Moves.{IsMoved};
 

@@ -1,5 +1,5 @@
 -- Ways from place to place, and the first of the gone places before a kept one.
-use Rattle.std.proofs.Common.{◌≡◌, ◌≢◌, ◌↔◌, ℕ, ◌+◌, ◌<◌, ◌≤◌, Bool, true, false, List, length, replicate, refl, sym, ap, ◌∙◌, inl, inr, subst, arith}
+use Rattle.std.proofs.Common.{◌≡◌, ◌≢◌, ◌↔◌, ℕ, ◌+◌, ◌<◌, ◌≤◌, Bool, true, false, List, length, replicate, sym, ap, ◌∙◌, inl, inr, subst, arith}
 use Rattle.std.specs.Prelude.{slice_set, slice_index}
 use Rattle.std.proofs.lemmas.Bool.{cases_lt, cases_eq, cases_order, false_from_ne_true}
 use Rattle.std.proofs.lemmas.List.{length-set, length-replicate, get_or-set_same, get_or-set_other}
@@ -12,16 +12,6 @@ pub record ComesBy (next : List ℕ) (p q : ℕ) : Type 0 where
   pub from : p ≤ q
   pub within : q < length next
   pub between : (k : ℕ) → p ≤ k → k < q → k < slice_index next k
-
-pub comes_on : (next : List ℕ) (p q r : ℕ) → LeadOn next → ComesBy next p q → r ≡ slice_index next q → ComesBy next p r
-comes_on next p q r l c e = record {
-  from = omega (arith, e, c.from, l.from q c.within);
-  within = omega (arith, e, l.within q c.within);
-  between = λ k a b. elim (cases_lt k q) [
-    | inl s ↦ c.between k a s
-    | inr s ↦ l.between q k c.within s (omega (arith, e, b))
-  ];
-}
 
 -- what is put at a place, and what stands elsewhere
 put_here : (xs : List ℕ) (p x : ℕ) → p < length xs → slice_index (slice_set xs p x) p ≡ x
@@ -77,28 +67,9 @@ pub record IsShortened (old next : List ℕ) (at end : ℕ) : Type 0 where
   pub alike : LeadAlike old next
   pub ends : EndsAt next at end
 
-pub shorter_begins : (old : List ℕ) (at end : ℕ) → LeadOn old → EndsAt old at end → IsShortened old old at end
-shorter_begins old at end l e = record { as_many = refl; leads = l; alike = λ p h. (λ t. t, λ t. t); ends = e }
-
 -- before its end a place leads on
 pub leads_on : (next : List ℕ) (at end : ℕ) → EndsAt next at end → at ≢ end → at < slice_index next at
 leads_on next at end e d = e.between at (omega arith) (let f = e.from in elim (cases_order at end) [ inl s ↦ absurd (d s) | inr (inl s) ↦ s | inr (inr s) ↦ absurd (omega arith) ])
-
-pub shorter_goes_on : (old next : List ℕ) (at end on : ℕ) → IsShortened old next at end → at ≢ end → on ≡ slice_index next at → IsShortened old (slice_set next at end) on end
-shorter_goes_on old next at end on s d o = record {
-  as_many = length-set next at end ∙ s.as_many;
-  leads = led_to next at end s.leads before s.ends.within (λ k a b. s.ends.between k (omega arith) b);
-  alike = alike;
-  ends = record {
-    from = below;
-    within = omega (arith, s.ends.within, length-set next at end);
-    stays = put_else next at end end (λ t. d (sym t)) ∙ s.ends.stays;
-    between = λ k a b. let x = put_else next at end k (λ t. absurd (omega (arith, t, a, o, moves))) in let r = s.ends.between k (omega (arith, a, o, moves)) b in omega arith;
-  };
-}
-  where
-    moves : at < slice_index next at
-    moves = leads_on next at end s.ends d
 
     before : at < end
     before = let f = s.ends.from in elim (cases_order at end) [ inl t ↦ absurd (d t) | inr (inl t) ↦ t | inr (inr t) ↦ absurd (omega arith) ]
@@ -135,13 +106,6 @@ is_node gone next p q l e = record {
   where
     within : q ≤ length gone
     within = omega (arith, e.within, l.as_many)
-
-pub led_alike : (gone : List Bool) (old next : List ℕ) → LeadOnFrom gone old → length next ≡ length old → LeadOn next → LeadAlike old next → LeadOnFrom gone next
-led_alike gone old next l m n a = record {
-  as_many = m ∙ l.as_many;
-  leads = n;
-  are_gone = λ p h. let w : p < length old = omega (arith, h, l.as_many) in (λ t. (a p w).1 ((l.are_gone p h).0 t), λ t. (l.are_gone p h).1 ((a p w).0 t));
-}
 
 -- ---- a place goes ----
 

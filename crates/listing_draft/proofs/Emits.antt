@@ -1,5 +1,5 @@
 -- The lines of a draft, line by line.
-use Rattle.std.proofs.Common.{◌≡◌, ◌∙◌, ℕ, ◌+◌, ◌≤◌, Bool, true, false, List, [], ◌∷◌, ◌++◌, length, drop, Option, refl, sym, ap, arith, append_assoc, if◌then◌else◌}
+use Rattle.std.proofs.Common.{◌≡◌, ◌∙◌, ℕ, ◌+◌, ◌≤◌, Bool, true, false, List, [], ◌∷◌, ◌++◌, length, drop, Option, sym, ap, arith, append_assoc, if◌then◌else◌}
 use Rattle.std.proofs.lemmas.List.{length-append, drop-drop}
 use Rattle.thumb_model.specs.Listing.{Name, ListingLine, places_in, places_of}
 use Rattle.thumb_model.specs.Replaced.{is_op}
@@ -52,10 +52,3 @@ place_within n l ls count h e = let a = length-append (places_in l.statement) (p
 
 pub places_within : (n : ℕ) (l : ListingLine) (ls : List ListingLine) (count : ℕ) → n + length (places_of (l ∷ ls)) ≡ count → n + length (places_in l.statement) ≤ count
 places_within n l ls count h = let a = length-append (places_in l.statement) (places_of ls) in omega arith
-
-pub nothing_emitted : (gone : List Bool) (aims : List (Option Name)) (n : ℕ) (out all : List ListingLine) → out ++ now_of (drop n gone) (drop n aims) [] ≡ all → out ≡ all
-nothing_emitted gone aims n out all h = sym (append_none out) ∙ h
-  where
-    append_none : (xs : List ListingLine) → xs ++ [] ≡ xs
-    append_none [] = refl
-    append_none (x ∷ xs) = ap (λ (l : List ListingLine). x ∷ l) (append_none xs)

@@ -1,5 +1,5 @@
 -- Lines of canonical texts, and of labels alone, are read as what they say.
-use Rattle.std.proofs.Common.{◌≡◌, ◌∙◌, ◌⊎◌, inl, inr, ℕ, zero, suc, ◌+◌, ◌*◌, ◌-◌, ◌<◌, ◌≤◌, ◌==◌, ◌&&◌, ◌||◌, Bool, true, false, List, [], ◌∷◌, ◌++◌, length, take, refl, sym, ap, arith, true≢false, Option, Some, None, Ok, subst, length-append, eq-eqb, eqb-true, append_assoc}
+use Rattle.std.proofs.Common.{◌≡◌, ◌∙◌, ◌⊎◌, inl, inr, ℕ, zero, suc, ◌+◌, ◌*◌, ◌-◌, ◌<◌, ◌≤◌, ◌==◌, ◌&&◌, ◌||◌, Bool, true, false, List, [], ◌∷◌, ◌++◌, length, take, refl, sym, ap, arith, true≢false, Option, Some, None, Ok, subst, length-append, eqb-true, append_assoc}
 use Rattle.std.specs.Prelude.{not, codes, nat_le, nat_lt, slice_get, option_map, if◌then◌else◌}
 use Rattle.std.specs.List.{list_all}
 use Rattle.std.specs.Fmt.{decimal}
@@ -9,7 +9,7 @@ use Rattle.std.proofs.lemmas.Fmt.{decimal_is_IsNumeral, length-decimal-le}
 use Rattle.std.proofs.lemmas.Str.Parse.{digit_at}
 use Rattle.std.proofs.lemmas.List.Folds.{list_all-append}
 use Rattle.ascii_scan.specs.Lines.{Placed, whole}
-use Rattle.ascii_scan.specs.Names.{is_letter, is_name_byte, is_opening, is_register, name_length}
+use Rattle.ascii_scan.specs.Names.{is_letter, is_name_byte, is_opening, is_register}
 use Rattle.ascii_scan.specs.Tokens.{is_blank, front, rest}
 use Rattle.thumb_instr.specs.declared.instr.Instr.{Instr}
 use Rattle.thumb_instr.specs.declared.instr.Instr.TheVariants as instr
@@ -367,12 +367,6 @@ pub nothing_said : statement [] ≡ Some (says Nothing)
 unfolding statement
 nothing_said = refl
 
-pub empty_line : (l : Placed) → l.text ≡ [] → read_line l ≡ Some (unnamed (says Nothing) (whole l))
-empty_line l e = read_clear l (says Nothing) (ap (list_all is_clear) e) (ap (λ (w : List ℕ). begins_hash (rest is_blank w)) e) (ap statement e ∙ nothing_said)
-
-pub empty_line_checked : (l : Placed) → l.text ≡ [] → l.number ≤ most_lines → checked_line l ≡ Ok (unnamed (says Nothing) (whole l))
-empty_line_checked l e few = read_checked l (unnamed (says Nothing) (whole l)) few (omega (arith, ap (λ (w : List ℕ). length w) e)) (empty_line l e)
-
 -- ---- a label alone ----
 
 -- what is read of labels alone
@@ -402,9 +396,6 @@ name_some b bs true e = whole_front is_name_byte (b ∷ bs) (eqb-true (length (f
 pub name_bytes : (w : List ℕ) → is_name w ≡ true → list_all is_name_byte w ≡ true
 name_bytes [] e = refl
 name_bytes (b ∷ bs) e = name_some b bs (is_opening b && not (is_register (front is_name_byte (b ∷ bs)))) e
-
-pub name_by_length : (w : List ℕ) → name_length w ≡ Some (length w) → is_name w ≡ true
-name_by_length w e = ap (λ (o : Option ℕ). is_some_of o (length w)) e ∙ eq-eqb (length w) (length w) refl
 
 name_byte_else : (b : ℕ) → is_name_byte b ≡ true → (is_blank b ≡ false) × ((b == 35) ≡ false) × (is_no_colon b ≡ true) × (is_no_at b ≡ true)
 name_byte_else b e = (grind arith, grind arith, grind arith, grind arith)

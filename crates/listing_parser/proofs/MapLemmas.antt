@@ -1,11 +1,10 @@
 -- Tables by name: what is there first stays.
-use Rattle.std.proofs.Common.{◌≡◌, ◌∙◌, inl, inr, ℕ, Bool, true, false, List, [], ◌∷◌, ◌++◌, refl, sym, ap, subst, true≢false, Option, Some, None, is_some, Vec}
+use Rattle.std.proofs.Common.{◌≡◌, ◌∙◌, inl, inr, ℕ, Bool, true, false, List, [], ◌∷◌, ◌++◌, refl, sym, ap, true≢false, Option, Some, None, is_some, Vec}
 use Rattle.std.specs.Prelude.{if◌then◌else◌}
 use Rattle.std.specs.Map.{lookup}
 use Rattle.std.specs.Str.{bytes_eq}
 use Rattle.std.specs.declared.alloc.Global.{Global}
 use Rattle.std.proofs.lemmas.Bool.{cases_Bool}
-use Rattle.std.proofs.lemmas.Slice.Eq.{bytes_eq-Decides}
 use Rattle.thumb_syntax.specs.Operands.{or_else}
 use Rattle.thumb_model.specs.Listing.{Name}
 use Rattle.listing_parser.specs.TableWords.{is_key}
@@ -27,11 +26,6 @@ there : {X : Type 0} (o : Option X) (b : Bool) (v : X) → (b ≡ true → is_so
 there (Some x) b v h = refl
 there None true v h = absurd (true≢false (sym (h refl)))
 there None false v h = refl
-
--- a name that is there
-pub added_old : {X : Type 0} (q name : Name) (es : List (Vec ℕ Global × X)) (v : X) → is_some (lookup (is_key name) es) ≡ true
-    → lookup (is_key q) es ≡ or_else (lookup (is_key q) es) (if bytes_eq q name then Some v else None)
-added_old q name es v h = there (lookup (is_key q) es) (bytes_eq q name) v (λ e. subst (λ (n : Name). is_some (lookup (is_key n) es) ≡ true) (sym ((bytes_eq-Decides q name).0 e)) h)
 
 pub is_none : {X : Type 0} (o : Option X) → is_some o ≡ false → o ≡ None
 is_none None e = refl

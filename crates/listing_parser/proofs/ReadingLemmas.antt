@@ -126,10 +126,6 @@ read_step : (l : Placed) (ls : List Placed) → read_lines (l ∷ ls) ≡ with_f
 unfolding read_lines
 read_step l ls = refl
 
-pub read_start : (r : Result (List Read) (ℕ × ListingFault)) → with_front [] r ≡ r
-read_start (Ok rs) = refl
-read_start (Err e) = refl
-
 pub read_end : (rs : List Read) (ls : List Placed) (r : Result (List Read) (ℕ × ListingFault)) → ls ≡ [] → with_front rs (read_lines ls) ≡ r → r ≡ Ok rs
 unfolding read_lines
 read_end rs ls r e so_far = sym so_far ∙ rw e (ap (λ ys. Ok ys) (append-nil rs))

@@ -57,21 +57,6 @@ put_ahead all sets p s due due' l here kept told a q x off h = elim (cases_eq q 
     was_off false e d = e
     was_off true e d = absurd (let m = kept q d e in cc)
 
--- where a set stays as it was, its place needn't be due any more
-pub same_ahead : (all : List (Option Ways)) (sets : List Items) (p : ℕ) (due due' : List Bool) → ((x : ℕ) → has (set_at sets p) x ≡ true → gained_ahead p (ways_at all p) sets x ≡ true) → ((q : ℕ) → q ≢ p → marked due q ≡ true → marked due' q ≡ true) → IsAheadBut all sets due → IsAheadBut all sets due'
-same_ahead all sets p due due' here kept a q x off h = elim (cases_eq q p) [
-  | inl e ↦ subst (λ y. gained_ahead y (ways_at all y) sets x ≡ true) (sym e) (here x (ap (λ y. has (set_at sets y) x) (sym e) ∙ h))
-  | inr d ↦ a q x (was_off (marked due q) refl d) h
-]
-  where
-    was_off : (b : Bool) → marked due q ≡ b → q ≢ p → marked due q ≡ false
-    was_off false e d = e
-    was_off true e d = absurd (let m = kept q d e in cc)
-
--- at first no set has an item
-pub none_ahead : (all : List (Option Ways)) (sets : List Items) → ((p x : ℕ) → has (set_at sets p) x ≡ false) → IsAhead all sets
-none_ahead all sets n q x h = absurd (let z = n q x in cc)
-
 -- one set more, before all that have items
 pub more_ahead : (all : List (Option Ways)) (sets : List Items) (p : ℕ) (s : Items) → p < length sets → ((x : ℕ) → has s.bits x ≡ true → gained_ahead p (ways_at all p) sets x ≡ true) → ((q x : ℕ) → q ≤ p → has (set_at sets q) x ≡ false) → IsAhead all sets → IsAhead all (slice_set sets p s)
 more_ahead all sets p s l here none a q x h = elim (cases_eq q p) [

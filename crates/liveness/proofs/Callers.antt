@@ -1,24 +1,17 @@
 -- The jumps to a place, one after the other.
-use Rattle.std.proofs.Common.{◌≡◌, ℕ, zero, suc, ◌+◌, ◌-◌, ◌<◌, ◌≤◌, ◌==◌, true, false, List, [], ◌∷◌, length, take, get_or, ◌⊎◌, eq-eqb, eqb-true, Option, Some, None, refl, sym, ap, ◌∙◌, subst, inl, inr, arith}
+use Rattle.std.proofs.Common.{◌≡◌, ℕ, zero, suc, ◌-◌, ◌<◌, ◌≤◌, ◌==◌, true, false, List, [], ◌∷◌, length, take, get_or, ◌⊎◌, eq-eqb, eqb-true, Option, Some, refl, sym, ap, ◌∙◌, subst, inl, inr, arith}
 use Rattle.std.specs.Prelude.{slice_get}
-use Rattle.std.proofs.lemmas.Option.{same_Some, slice_get_past}
+use Rattle.std.proofs.lemmas.Option.{same_Some}
 use Rattle.std.proofs.lemmas.Bool.{cases_lt, or_cases, or_left, or_right}
 use Rattle.thumb_instr.specs.Items.{one_of}
 use Rattle.code_flow.specs.declared.way.Ways.{Ways}
 use Rattle.liveness.specs.declared.graph.Jump.{Jump}
 use Rattle.liveness.specs.declared.graph.Callers.{Callers}
-use Rattle.liveness.specs.Graph.{jump_from, ways_in, JumpsTo, IsLast, AreCallers}
-use Rattle.liveness.specs.Within.{AreWithin}
+use Rattle.liveness.specs.Graph.{JumpsTo, IsLast, AreCallers}
 
 -- the jumps to t from places before some n are left, and the others are done
 abbrev pub AreDone : List (Option Ways) → List Jump → ℕ → ℕ → (ℕ → Type 0) → Type 0
 AreDone all jumps t rest D = (n : ℕ) × IsLast all jumps t n rest × ((q : ℕ) → n ≤ q → JumpsTo all t q → D q)
-
-pub none_done : (all : List (Option Ways)) (c : Callers) (t rest : ℕ) (D : ℕ → Type 0) → AreCallers all (length all) c → slice_get c.last.items t ≡ Some rest → AreDone all c.jumps.items t rest D
-none_done all c t rest D a g = (length all, a.last t rest g, λ q l h. absurd (none q l h))
-  where
-    none : (q : ℕ) → length all ≤ q → JumpsTo all t q → ⊥
-    none q l h = let f : jump_from (q + 1) (ways_in None) ≡ Some t = ap (λ o. jump_from (q + 1) (ways_in o)) (sym (slice_get_past all q l)) ∙ h in cc
 
 pub jump_done : (all : List (Option Ways)) (c : Callers) (t rest k : ℕ) (j : Jump) (D D' : ℕ → Type 0) → AreCallers all (length all) c → slice_get c.jumps.items k ≡ Some j → rest ≡ suc k → AreDone all c.jumps.items t rest D → ((q : ℕ) → JumpsTo all t q → D q → D' q) → (JumpsTo all t j.place → D' j.place)
     → AreDone all c.jumps.items t j.earlier D'
@@ -34,17 +27,6 @@ jump_done all c t rest k j D D' a g r done kept here = (j.place, (a.jumps k j g)
           let at : q ≡ j.place = omega (arith, l, o.4, ap (λ (y : Jump). y.place) is) in
           subst D' (sym at) (here (subst (JumpsTo all t) at h))
     ]
-
--- where none is left, all are done
-pub all_done : (all : List (Option Ways)) (jumps : List Jump) (t : ℕ) (D : ℕ → Type 0) → AreDone all jumps t 0 D → (q : ℕ) → JumpsTo all t q → D q
-all_done all jumps t D done q h = elim (cases_lt q done.0) [
-  | inr b ↦ done.2 q b h
-  | inl b ↦ absurd (let o = done.1.others q b h in omega (arith, o.2))
-]
-
--- a jump of a graph of so many places
-pub jump_at : (n : ℕ) (c : Callers) (rest : ℕ) (j : Jump) → AreWithin n c → slice_get c.jumps.items (rest - 1) ≡ Some j → 0 < rest → rest ≤ length c.jumps.items → (j.place < n) × (j.earlier < rest) × (j.earlier ≤ length c.jumps.items)
-jump_at n c rest j w g h l = let e = w.earlier (rest - 1) j g in (w.places (rest - 1) j g, omega arith, omega arith)
 
 -- ---- places of a list, one after the other ----
 

@@ -10,7 +10,6 @@ use Rattle.kept_places.specs.Marks.{marked}
 use Rattle.kept_places.proofs.Ranks.{marked_set}
 use Rattle.liveness.specs.Live.{set_at}
 use Rattle.liveness.proofs.Weights.{bit_of}
-use Rattle.liveness.specs.declared.walk.Walk.{Walk}
 use Rattle.liveness.specs.KeptLive.{LosesAt}
 use Rattle.liveness.specs.Walk.{start_at}
 use Rattle.liveness.proofs.Aheads.{mark_kept, mark_back}
@@ -124,15 +123,6 @@ all_told touched rest was before ms ms' t none p = (t.back p, on)
       | inl o ↦ absurd (let f : one_of p rest ≡ false = ap (one_of p) none in cc)
       | inr m ↦ m
     ]
-
--- a place that wasn't touched lost nothing
-pub lost_from : (k : Walk) (touched : List ℕ) (before : List Items) (ms ms' : List Bool) → touched ≡ k.touched.places → ((p x : ℕ) → has (set_at k.before.sets.items p) x ≡ true → has (set_at before p) x ≡ true) → ((p : ℕ) → (marked ms' p ≡ true) ↔ ((marked ms p ≡ true) ⊎ ((one_of p touched ≡ true) × LosesAt (set_at k.was.items p) (set_at before p))))
-    → (p : ℕ) → (marked ms' p ≡ true) ↔ ((marked ms p ≡ true) ⊎ LosesAt (start_at k p) (set_at before p))
-lost_from k touched before ms ms' same more told p = (λ h. back ((told p).0 h), on)
-  where
-    back : (marked ms p ≡ true) ⊎ ((one_of p touched ≡ true) × LosesAt (set_at k.was.items p) (set_at before p)) → (marked ms p ≡ true) ⊎ LosesAt (start_at k p) (set_at before p)
-    back (inl h) = inl h
-    back (inr r) = inr (subst (λ b. LosesAt (if b then set_at k.was.items p else set_at k.before.sets.items p) (set_at before p)) (sym (ap (one_of p) (sym same) ∙ r.0)) r.1)
 
     on : (marked ms p ≡ true) ⊎ LosesAt (start_at k p) (set_at before p) → marked ms' p ≡ true
     on (inl h) = (told p).1 (inl h)

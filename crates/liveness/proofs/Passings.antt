@@ -33,19 +33,6 @@ one_way true false w = refl
 one_way false true w = refl
 one_way false false w = refl
 
-pub two_ways : (i l w m v : Bool) → ((l && (i && not w)) || (m && (i && not v))) ≡ (i && ((l && not w) || ((m && not v) || false)))
-two_ways true true true true true = refl
-two_ways true true true true false = refl
-two_ways true true true false v = refl
-two_ways true true false m v = refl
-two_ways true false w true true = refl
-two_ways true false w true false = refl
-two_ways true false w false v = refl
-two_ways false true w true v = refl
-two_ways false true w false v = refl
-two_ways false false w true v = refl
-two_ways false false w false v = refl
-
 -- ---- the ways of a place ----
 
 -- a place of the code has ways by the list

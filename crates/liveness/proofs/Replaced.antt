@@ -11,20 +11,6 @@ take_front xs ys n e = take_back xs ys n 0 (omega arith) ∙ append-nil xs
 
 -- ---- some that are left out ----
 
--- one more
-pub left_one : {A : Type 0} (p k : ℕ) (xs : List A) → p + k < length xs → take p (take p xs ++ drop (p + k) xs) ++ drop (p + 1) (take p xs ++ drop (p + k) xs) ≡ take p xs ++ drop (p + (k + 1)) xs
-left_one p k xs h =
-    let f = take_all p xs (omega arith) in
-    ap (λ ys. ys ++ drop (p + 1) (take p xs ++ drop (p + k) xs)) (take_front (take p xs) (drop (p + k) xs) p (sym f))
-    ∙ ap (λ ys. take p xs ++ ys) (drop_back (take p xs) (drop (p + k) xs) (p + 1) 1 (omega arith) ∙ drop-drop 1 (p + k) xs ∙ ap (λ n. drop n xs) (let e : p + k + 1 ≡ p + (k + 1) = omega arith in e))
-
-pub length_left : {A : Type 0} (p k : ℕ) (xs : List A) → p + k ≤ length xs → length (take p xs ++ drop (p + k) xs) + k ≡ length xs
-length_left p k xs h =
-    let f = take_all p xs (omega arith) in
-    let a = length-append (take p xs) (drop (p + k) xs) in
-    let d = length_drop (p + k) xs in
-    omega arith
-
 -- ---- some that give way ----
 
 set_back : {A : Type 0} (xs ys : List A) (i j : ℕ) (v : A) → j ≡ length xs + i → slice_set (xs ++ ys) j v ≡ xs ++ slice_set ys i v

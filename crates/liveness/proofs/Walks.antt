@@ -2,7 +2,6 @@
 use Rattle.std.proofs.Common.{◌≡◌, ◌≢◌, ℕ, ◌+◌, ◌<◌, ◌≤◌, ◌==◌, ◌&&◌, ◌||◌, not, Bool, true, false, List, length, Option, if◌then◌else◌, refl, sym, ap, ◌∙◌, subst, inl, inr, arith, eq-eqb, ne_eqb}
 use Rattle.std.specs.Prelude.{slice_set}
 use Rattle.std.proofs.lemmas.Bool.{cases_eq, cases_Bool, or_right}
-use Rattle.std.proofs.lemmas.List.{length-set}
 use Rattle.thumb_instr.specs.declared.items.Items.{Items}
 use Rattle.thumb_instr.specs.Items.{one_of, has}
 use Rattle.code_flow.specs.declared.way.Ways.{Ways}
@@ -14,7 +13,6 @@ use Rattle.liveness.proofs.Weights.{grows, total_set, get_here, get_else}
 use Rattle.liveness.specs.declared.counted.PointSets.{PointSets}
 use Rattle.liveness.specs.declared.walk.Walk.{Walk}
 use Rattle.liveness.specs.Stack.{Stack}
-use Rattle.liveness.specs.Counted.{AreCounted}
 use Rattle.liveness.specs.Walk.{start_at, IsFitWalk, ClearsOn}
 use Rattle.common_lemmas.proofs.Booleans.{or_false, or_true}
 use Rattle.listing_parser.proofs.ReplaceLemmas.{and_first as and_left}
@@ -61,40 +59,6 @@ put_less ss p old s l at fewer d =
     omega arith
 
 -- ---- what stays fit ----
-
-pub touched_fit : (marks : List Bool) (n : ℕ) (k k' : Walk) (p : ℕ) → IsFitWalk marks n k → k'.before ≡ k.before → k'.stack ≡ k.stack → length k'.was.items ≡ length k.was.items → k'.touched.room ≡ k.touched.room → ((q : ℕ) → one_of q k.touched.places ≡ true → one_of q k'.touched.places ≡ true) → ((q : ℕ) → start_at k' q ≡ start_at k q) → IsFitWalk marks n k'
-touched_fit marks n k k' p f b s w r m st = record {
-  enough = f.enough;
-  few = f.few;
-  counted = subst (AreCounted marks) (sym b) f.counted;
-  before_many = ap (λ (t : PointSets). length t.sets.items) b ∙ f.before_many;
-  was_many = w ∙ f.was_many;
-  stack_room = ap (λ (t : Stack). t.room) s ∙ f.stack_room;
-  touched_room = r ∙ f.touched_room;
-  below = λ q x h. ap (λ y. has y x) (st q) ∙ f.below q x (ap (λ (t : PointSets). has (set_at t.sets.items q) x) (sym b) ∙ h);
-  stacked = λ q h. m q (f.stacked q (ap (λ (t : Stack). one_of q t.places) (sym s) ∙ h));
-}
-
--- another set at a touched place, with no more items
-pub put_fit : (marks : List Bool) (n : ℕ) (k k' : Walk) (p : ℕ) (s : Items) → IsFitWalk marks n k → p < n → k'.was ≡ k.was → k'.touched ≡ k.touched → k'.before.sets.items ≡ slice_set k.before.sets.items p s → AreCounted marks k'.before → one_of p k.touched.places ≡ true
-    → ((x : ℕ) → has s.bits x ≡ true → has (set_at k.before.sets.items p) x ≡ true) → k'.stack.room ≡ k.stack.room → ((q : ℕ) → one_of q k'.stack.places ≡ true → one_of q k.touched.places ≡ true) → IsFitWalk marks n k'
-put_fit marks n k k' p s f l was touched sets counted here fewer room stacked = record {
-  enough = f.enough;
-  few = f.few;
-  counted = counted;
-  before_many = ap length sets ∙ length-set k.before.sets.items p s ∙ f.before_many;
-  was_many = ap (λ (v : _). length v.items) was ∙ f.was_many;
-  stack_room = room ∙ f.stack_room;
-  touched_room = ap (λ (t : Stack). t.room) touched ∙ f.touched_room;
-  below = λ q x h. ap (λ y. has y x) (put_start k k' p s was touched sets here q) ∙ f.below q x (less q x h);
-  stacked = λ q h. ap (λ (t : Stack). one_of q t.places) touched ∙ stacked q h;
-}
-  where
-    less : (q x : ℕ) → has (set_at k'.before.sets.items q) x ≡ true → has (set_at k.before.sets.items q) x ≡ true
-    less q x h = elim (cases_eq q p) [
-      | inl e ↦ ap (λ y. has (set_at k.before.sets.items y) x) e ∙ fewer x (sym (ap (λ y. has y x) (get_here k.before.sets.items p s (omega (arith, l, f.before_many)))) ∙ ap (λ (ss : List Items). has (set_at ss p) x) (sym sets) ∙ ap (λ y. has (set_at k'.before.sets.items y) x) (sym e) ∙ h)
-      | inr d ↦ sym (ap (λ y. has y x) (ap (λ (ss : List Items). set_at ss q) sets ∙ ap word_of (get_else k.before.sets.items p q s d))) ∙ h
-    ]
 
 -- what a set is after it was put in
 pub put_here : (b b' : List Items) (p : ℕ) (s : Items) → p < length b → b' ≡ slice_set b p s → set_at b' p ≡ s.bits

@@ -109,6 +109,3 @@ IsAfter-next live now later ids i id b e r h =
             λ m. r q ∙ rw z ((h q).1 (λ x. m (Contains-append_left (take i ids) (id ∷ []) q x))),
           )
     ])
-
-pub IsAfter-none : (live : ℕ → Option (List ℕ)) → IsAfter live [] live
-IsAfter-none live q = (λ p. absurd (omega (arith, p.1)), λ p. refl)

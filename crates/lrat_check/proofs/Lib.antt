@@ -1,5 +1,4 @@
 pub mod Accepted
-pub mod Accepting
 pub mod Deletions
 pub mod Distinct
 pub mod Faulty

@@ -1,5 +1,5 @@
 -- Marks of the additions that are used, and the places of their ids.
-use Rattle.std.proofs.Common.{◌≡◌, ℕ, ◌+◌, ◌-◌, ◌<◌, ◌≤◌, List, [], ◌∷◌, ◌++◌, length, get_or, map, take, drop, set, replicate, refl, sym, ◌∙◌, inl, inr, arith, subst, Bool, true, false, true≢false, Result, Ok, Err}
+use Rattle.std.proofs.Common.{◌≡◌, ℕ, ◌+◌, ◌-◌, ◌<◌, ◌≤◌, List, [], ◌∷◌, ◌++◌, length, get_or, map, take, drop, set, replicate, sym, ◌∙◌, inl, inr, arith, subst, Bool, true, false, true≢false, Result, Ok, Err}
 use Rattle.std.specs.Prelude.{AllPairs, MatchResult}
 use Rattle.std.proofs.lemmas.Bool.{cases_eq, cases_lt, cases_order}
 use Rattle.std.proofs.lemmas.List.{length-set, get_or-set_same, get_or-set_other, length-map, get_or-map, length-replicate, get_or-replicate, drop_all, take_all, append-nil}
@@ -9,7 +9,6 @@ use Rattle.std.specs.Ordering.{nat_cmp}
 use Rattle.std.specs.List.Sorted.{IsBinarySearchResult}
 use Rattle.lrat_check.specs.Text.{Content, deletion, id_of}
 use Rattle.lrat_check.specs.Shown.{IsBefore, MarksNamed}
-use Rattle.lrat_check.proofs.Members.{none_in}
 
 -- ids that go up stand once
 places_apart : (ids : List ℕ) (i j : ℕ) → AllPairs (λ id later. id < later) ids → i < length ids → j < length ids → get_or ids i 0 ≡ get_or ids j 0 → i ≡ j
@@ -18,9 +17,6 @@ places_apart ids i j p b c e = elim (cases_order i j) [
   | inr (inl l) ↦ let x : get_or ids i 0 < get_or ids j 0 = p i j 0 l c in absurd (omega arith)
   | inr (inr l) ↦ let x : get_or ids j 0 < get_or ids i 0 = p j i 0 l b in absurd (omega arith)
 ]
-
-pub MarksNamed-begun : (ids : List ℕ) (marks : List Bool) → MarksNamed ids [] marks marks
-MarksNamed-begun ids marks = record { same = refl; marked = λ k. (λ t. inl t, λ s. elim s [ inl t ↦ t | inr n ↦ absurd (none_in (get_or ids k 0) n.1) ]) }
 
 module _ (ids names : List ℕ) (q : ℕ) (old new : List Bool) (h : MarksNamed ids names old new) where
   pub MarksNamed-found : (i : ℕ) → AllPairs (λ id later. id < later) ids → i < length ids → i < length new → get_or ids i 0 ≡ q → MarksNamed ids (names ++ q ∷ []) old (set new i true)

@@ -126,9 +126,6 @@ lengths_like live later a (h ∷ hints) n s (c, e, inr (u, m, w, r, k)) =
 abbrev pub GoesOn : (ℕ → Option (List ℕ)) → List ℕ → List ℕ → List ℕ → ℕ → Type 0
 GoesOn live from hints later i = (m : ℕ) → EndsAt live later (drop i hints) m → EndsAt live from hints (i + m)
 
-pub GoesOn-begun : (live : ℕ → Option (List ℕ)) (from hints : List ℕ) → GoesOn live from hints from 0
-GoesOn-begun live from hints m r = let e : m ≡ 0 + m = omega arith in subst (EndsAt live from hints) e r
-
 module _ (live : ℕ → Option (List ℕ)) (from hints later : List ℕ) (i : ℕ) (b : i < length hints) (h : GoesOn live from hints later i) (clause : List ℕ) (e : live (get_or hints i 0) ≡ Some clause) where
   pub GoesOn-conflict : AllFalse later clause → Suffice live from hints (i + 1)
   GoesOn-conflict f = Suffice-from_end live from hints (i + 1) (h 1 (rw (drop_more hints i 0 b) (clause, e, inl (f, refl))))
@@ -141,9 +138,6 @@ module _ (live : ℕ → Option (List ℕ)) (from hints later : List ℕ) (i : �
 -- what is looked at and what the rest of the hints name comes to no more than what the first hints name that end
 abbrev pub Spends : (ℕ → Option (List ℕ)) → List ℕ → List ℕ → List ℕ → List ℕ → ℕ → ℕ → Type 0
 Spends live from hints later rest before now = (n : ℕ) → EndsAt live from hints n → (k : ℕ) × EndsAt live later rest k × (now + hint_lengths live (take k rest) ≤ before + hint_lengths live (take n hints))
-
-pub Spends-begun : (live : ℕ → Option (List ℕ)) (from hints : List ℕ) (now : ℕ) → Spends live from hints from hints now now
-Spends-begun live from hints now n r = (n, r, omega arith)
 
 pub Spends-all : (live : ℕ → Option (List ℕ)) (from hints later rest : List ℕ) (before now : ℕ) → Spends live from hints later rest before now → (n : ℕ) → EndsAt live from hints n → now ≤ before + hint_lengths live (take n hints)
 Spends-all live from hints later rest before now h n r = let k = h n r in let b = k.2 in omega arith

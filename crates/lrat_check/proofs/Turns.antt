@@ -1,6 +1,5 @@
 -- A loop over a list has the answer of a verdict on the elements in turn, where what is left has it.
-use Rattle.std.proofs.Common.{ℕ, ◌≡◌, ◌≤◌, ◌+◌, ◌∷◌, ◌⊎◌, inl, inr, List, Option, Some, None, length, slice_get, drop, sym, subst, [], zero, suc, arith}
-use Rattle.std.proofs.lemmas.List.{drop_all}
+use Rattle.std.proofs.Common.{ℕ, ◌≡◌, ◌+◌, ◌∷◌, ◌⊎◌, inl, inr, List, Option, Some, None, slice_get, drop, sym, subst, [], zero, suc, arith}
 use Rattle.lrat_check.specs.Proofs.{Then, InTurn}
 use Rattle.cnf_gates.proofs.Text.{drop_from}
 
@@ -20,9 +19,6 @@ turn_step test m xs i x whole e rest p = record { leads = λ o later. rest.leads
 
 pub turn_fault : {X F : Type 0} (test : ℕ → X → Option F → Type 0) (m : ℕ) (xs : List X) (i : ℕ) (x : X) (whole : Option F → Type 0) (f : F) → slice_get xs i ≡ Some x → Rest test m (drop i xs) whole → test m x (Some f) → whole (Some f)
 turn_fault test m xs i x whole f e rest p = rest.leads (Some f) (turn_at test m xs i x (Some f) e (inl p))
-
-pub turn_end : {X F : Type 0} (test : ℕ → X → Option F → Type 0) (m : ℕ) (xs : List X) (i : ℕ) (whole : Option F → Type 0) → length xs ≤ i → Rest test m (drop i xs) whole → whole None
-turn_end test m xs i whole h rest = rest.leads None (subst (λ ys. InTurn test m ys None) (sym (drop_all i xs h)) tt)
 
 pub turn_failed : {X F : Type 0} (test : ℕ → X → Option F → Type 0) (m : ℕ) (xs : List X) (i : ℕ) (x : X) (whole : Option F → Type 0) (f g : F) → slice_get xs i ≡ Some x → Rest test m (drop i xs) whole → (f ≡ g) ⊎ test m x (Some f) → (f ≡ g) ⊎ whole (Some f)
 turn_failed test m xs i x whole f g e rest (inl p) = inl p

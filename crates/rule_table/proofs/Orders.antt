@@ -29,11 +29,6 @@ firsts-grows seen (r ∷ rs) =
       | false ↦ omega (arith, firsts-grows (seen ++ r ∷ []) rs, length-append seen (r ∷ []))
     ]
 
--- past a register that makes too many, there are too many
-pub firsts-many : (seen rs : List ℕ) (i : ℕ) (d : ℕ) → i < length rs → 4 < length (with_first seen (get_or rs i d)) → 4 < length (firsts seen (drop i rs))
-firsts-many seen rs i d h many =
-    omega (arith, firsts-grows (with_first seen (get_or rs i d)) (drop (i + 1) rs), ap length (firsts-step seen rs i d h))
-
 -- each register has its name's place
 pub name_stands : (xs : List ℕ) (r : ℕ) → has xs r ≡ true → slice_get xs (name_in xs r) ≡ Some r
 unfolding name_in

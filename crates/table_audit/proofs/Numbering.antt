@@ -5,7 +5,7 @@ use Rattle.std.specs.Option.{option_map}
 use Rattle.std.proofs.lemmas.List.{take_more, take_all, length-map, length-take-le}
 use Rattle.std.proofs.lemmas.List.Elements.{All-take}
 use Rattle.std.proofs.lemmas.List.Concat.{flat_map-append}
-use Rattle.std.proofs.lemmas.Option.{slice_get_within, same_Some, slice_get-map, slice_get-get_or, slice_get_cases}
+use Rattle.std.proofs.lemmas.Option.{slice_get_within, slice_get-map, slice_get-get_or, slice_get_cases}
 use Rattle.std.proofs.lemmas.Bool.Decides.{leb_tells}
 use Rattle.thumb_instr.specs.declared.instr.Instr.{Instr}
 use Rattle.seq_enum.specs.Alphabet.{numbers_from, alphabet, words, sequences, sequences_of, IsOver}
@@ -118,17 +118,6 @@ has_number k pool s short over =
 pub below_short : (k : ℕ) (pool : List ℕ) (n q : ℕ) (o : Option (List Instr)) (s : List Instr) → n ≤ 6 → o ≡ slice_get (sequences k pool) q → o ≡ Some s → length s < n
     → Some s ≡ slice_get (sequences_below k pool n) q
 below_short k pool n q o s h e f short = sym (below_from k pool n q s h (sym e ∙ f) short)
-
-pub below_long : (k : ℕ) (pool : List ℕ) (n q : ℕ) (o : Option (List Instr)) (s : List Instr) → n ≤ 6 → o ≡ slice_get (sequences k pool) q → o ≡ Some s → n ≤ length s
-    → None ≡ slice_get (sequences_below k pool n) q
-below_long k pool n q o s h e f long = elim (slice_get_cases (sequences_below k pool n) q).1 [
-  | inl p ↦ (
-      let whole = below_in k pool n q p.0 h p.2 in
-      let same : s ≡ p.0 = same_Some _ _ (sym f ∙ e ∙ whole.0) in
-      absurd (omega (arith, long, whole.1, ap length same))
-      )
-  | inr p ↦ sym p.1
-]
 
 pub below_none : (k : ℕ) (pool : List ℕ) (n q : ℕ) (o : Option (List Instr)) → n ≤ 6 → o ≡ slice_get (sequences k pool) q → o ≡ None → None ≡ slice_get (sequences_below k pool n) q
 below_none k pool n q o h e f = elim (slice_get_cases (sequences_below k pool n) q).1 [

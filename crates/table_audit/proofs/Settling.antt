@@ -1,5 +1,5 @@
 -- Numbers, one after the other: the first untold sequence so far.
-use Rattle.std.proofs.Common.{◌≡◌, ℕ, zero, suc, ◌+◌, ◌<◌, ◌≤◌, ◌⊎◌, inl, inr, true, List, [], ◌∷◌, Option, Some, None, Contains, MatchOption, drop, length, map, get_or, slice_get, refl, sym, ◌∙◌, ap, subst, arith}
+use Rattle.std.proofs.Common.{◌≡◌, ℕ, zero, suc, ◌+◌, ◌<◌, ◌≤◌, ◌⊎◌, inl, inr, true, List, [], ◌∷◌, Option, Some, None, Contains, MatchOption, drop, length, get_or, slice_get, refl, sym, ◌∙◌, ap, subst, arith}
 use Rattle.std.proofs.Math.Seq.{drop-cons}
 use Rattle.std.proofs.lemmas.Bool.{cases_lt}
 use Rattle.std.proofs.lemmas.List.{drop_all}
@@ -9,21 +9,16 @@ use Rattle.thumb_instr.specs.declared.instr.Instr.{Instr}
 use Rattle.window_exec.specs.declared.state.WState.{WState}
 use Rattle.window_exec.specs.State.{seen, Seen}
 use Rattle.seq_enum.specs.Alphabet.{ascends_from, alphabet, sequences, sequences_of}
-use Rattle.fingerprints.specs.declared.trials.Trial.{Trial}
-use Rattle.fingerprints.specs.Trials.{AreTrials, start_of}
 use Rattle.fingerprints.specs.Outcomes as table
 use Rattle.fingerprints.specs.Outcomes.{Extent}
-use Rattle.fingerprints.specs.Candidates.{BeginsAt, grown_for}
 use Rattle.fingerprints.specs.Tables.{IsFor}
 use Rattle.rule_table.specs.Table.{Rule, Table}
 use Rattle.table_audit.specs.declared.errors.EntryFault.TheVariants.{Untold}
 use Rattle.table_audit.specs.declared.errors.AuditError.TheVariants.{Entry}
 use Rattle.table_audit.specs.Shorter.{alphabet_registers, sequences_below, weight_in}
-use Rattle.table_audit.specs.Naming.{first_of}
 use Rattle.table_audit.specs.Lighter.{IsWithin, CoverUntold}
 use Rattle.table_audit.specs.Acceptance.{IsUntold, IsFirstUntold, ToldVerdict}
 use Rattle.table_audit.proofs.Numbering.{below_in}
-use Rattle.table_audit.proofs.Below.{none_below}
 use Rattle.table_audit.proofs.Upcoming.{ascends_above, ascends_drop}
 use Rattle.thumb_model.proofs.Lists.{present_at}
 
@@ -81,9 +76,6 @@ module _ (t : Table) (e : Rule) (numbers : List ℕ) (i : ℕ) (low : i < length
 -- a number's sequence is one
 same_sequence : (t : Table) (e : Rule) (x q : ℕ) (seq other : List Instr) → slice_get (sequences (alphabet_registers t.header e.left) t.header.pool) x ≡ Some seq → x ≡ q → IsUntold t e q other → seq ≡ other
 same_sequence t e x q seq other at is u = same_Some seq other (sym at ∙ ap (slice_get (sequences (alphabet_registers t.header e.left) t.header.pool)) is ∙ u.below.at)
-
-pub settled_start : (t : Table) (e : Rule) (numbers : List ℕ) → CoverUntold t e numbers → SettledBefore t e numbers 0 None (weight_in t.header e.right)
-settled_start t e numbers cover = record { most = omega arith; so_far = (refl, λ q other u. cover.untold q other u) }
 
 module _ (t : Table) (e : Rule) (numbers : List ℕ) (i : ℕ) (low : i < length numbers) (ascending : ascends_from 0 numbers ≡ true) (seq : List Instr)
     (at : slice_get (sequences (alphabet_registers t.header e.left) t.header.pool) (get_or numbers i 0) ≡ Some seq) where
@@ -220,19 +212,6 @@ settled_verdict t e number numbers i (Some first) limit past s = (first, (is_fir
       ];
     }
 
--- where the right side is empty, nothing is below it
-pub nothing_below : (t : Table) (e : Rule) (number : ℕ) → length e.right ≡ 0 → ToldVerdict t number e None
-nothing_below t e number none = λ q seq u. none_below t.header e.left e.right q seq none u.below
-
-pub some_there : {X : Type 0} (xs : List X) → (xs ≡ [] → ⊥) → 0 < length xs
-some_there [] h = absurd (h refl)
-some_there (x ∷ xs) h = omega arith
-
--- a table that has grown is of the same registers, alphabet and state
-pub grown_is_for : (k : ℕ) (pool : List ℕ) (start : WState) (trials : List Trial) (longest : ℕ) (old new : Extent) → new ≡ grown_for trials longest old → IsFor k pool start old → IsFor k pool start new
-grown_is_for k pool start [] longest old new e is = subst (IsFor k pool start) (sym e) is
-grown_is_for k pool start (t ∷ ts) longest old new e is = subst (IsFor k pool start) (sym e) (record { registers = is.registers; alphabet = is.alphabet; state = is.state })
-
 pub is_for_own : (k : ℕ) (pool : List ℕ) (start : WState) (x : Extent) → IsFor k pool start x → IsFor x.registers pool start x
 is_for_own k pool start x is = record { registers = refl; alphabet = is.alphabet ∙ ap (λ j. alphabet j pool) (sym is.registers); state = is.state }
 
@@ -265,13 +244,6 @@ same_state a b e = ap (λ (s : Seen). let t : WState = record { r = s.r; nzcv = 
 
 head_is : {X : Type 0} (x y : X) (xs ys : List X) → (let l : List X = x ∷ xs in l) ≡ y ∷ ys → x ≡ y
 head_is x y xs ys e = cc
-
-pub begins_at : (left : List Instr) (states : List WState) (trials : List Trial) (start : WState) → AreTrials left (map seen states) trials → start ≡ first_of states → BeginsAt start trials
-begins_at left states [] start are is = tt
-begins_at left [] (t ∷ ts) start are is = absurd (let s = are.starts in cc)
-begins_at left (s ∷ ss) (t ∷ ts) start are is =
-    let one : seen t.start ≡ seen s = head_is (seen t.start) (seen s) (map start_of ts) (map seen ss) are.starts in
-    is ∙ sym (same_state t.start s one)
 
 pub below_same : (k n : ℕ) (pool : List ℕ) (instrs : List Instr) (m : ℕ) → instrs ≡ alphabet k pool → m ≡ n → table.sequences_below instrs m ≡ sequences_below k pool n
 unfolding table.sequences_below sequences_below

@@ -22,9 +22,6 @@ number_of o = o.number
 abbrev pub rewriting_rule : table.Rule → Rule
 rewriting_rule e = record { left = e.left; right = e.right; mask = items_in e.mask; open_numbers = map number_of e.opens }
 
-abbrev pub rules_of : table.Table → List Rule
-rules_of t = map rewriting_rule t.rules
-
 -- a family's instances: its entry's rule with each value
 abbrev pub instances_of : table.Family → Option table.Rule → List Rule
 instances_of f None = []

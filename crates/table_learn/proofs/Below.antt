@@ -63,10 +63,6 @@ more_lengths : (costs : Option (List ℕ)) (m n : ℕ) → m ≤ n → lengths_b
 more_lengths None m n h = h
 more_lengths (Some costs) m n h = omega (arith, h)
 
-pub short_length : (costs : Option (List ℕ)) (n m : ℕ) → m < lengths_below costs n → m ≤ n
-short_length None n m h = omega (arith, h)
-short_length (Some costs) n m h = omega (arith, h)
-
 light_length : (costs : Option (List ℕ)) (left side seq : List Instr) → length side ≤ length left → length seq ≤ length left → weight_under costs seq < weight_under costs side → length seq < lengths_below costs (length left)
 light_length None left side seq h k less = omega (arith, h, less)
 light_length (Some costs) left side seq h k less = omega (arith, k)

@@ -78,23 +78,6 @@ earned_later s windows w states more old new i x from at =
       | inr k ↦ record { place = length windows; window = w; is_window = push_at windows w; found = new i x k at }
     ]
 
--- no state was found: nothing is dropped
-pub gain_quiet : (s : Settings) (windows : List Window) (w : Window) (states : List Seen) (rules : List Rule) (e : Rule) → Progress s windows states rules → learnt_from e ≡ w → IsFit s states states e → Progress s (windows ++ w ∷ []) states (rules ++ e ∷ [])
-gain_quiet s windows w states rules e g same fit = record {
-  long = g.long;
-  begins = g.begins;
-  valid = g.valid;
-  matched = map-append learnt_from rules (e ∷ []) ∙ ap (λ ws. ws ++ learnt_from e ∷ []) g.matched ∙ ap (λ (v : Window). windows ++ v ∷ []) same;
-  fits = λ n z at. elim (push_cases rules e n z at) [
-    | inl k ↦ g.fits n z k
-    | inr k ↦ subst (λ y. IsFit s states states y) k.1 fit
-  ];
-  earned = λ i x from at.
-      let o = g.earned i x from at in
-      let within : o.place < length windows = slice_get_within windows o.place o.window o.is_window in
-      record { place = o.place; window = o.window; is_window = get_front windows (w ∷ []) o.place within ∙ o.is_window; found = o.found };
-}
-
 -- states were found: what they tell is dropped
 pub gain : (s : Settings) (windows : List Window) (w : Window) (states more : List Seen) (rules : List Rule) (e : Rule) → Progress s windows states rules → All IsState more → EarnedFrom s (length states) (states ++ more) w → learnt_from e ≡ w → IsFit s (states ++ more) states e
     → Progress s (windows ++ w ∷ []) (states ++ more) (map (without_told s more) (rules ++ e ∷ []))

@@ -68,9 +68,6 @@ rules_push rules e =
     ap lines_length (flat_map-append rule_items rules (e ∷ [])) ∙ lines-append (flat_map rule_items rules) (flat_map rule_items (e ∷ []))
     ∙ ap (λ xs. lines_length (flat_map rule_items rules) + lines_length xs) (append-nil (rule_items e))
 
-pub rules-cons : (e : Rule) (rules : List Rule) → rules_length (e ∷ rules) ≡ lines_length (rule_items e) + rules_length rules
-rules-cons e rules = lines-append (rule_items e) (flat_map rule_items rules)
-
 left_word : (i : Instr) → lines_length (Left i ∷ []) ≡ instr_length 5 i
 left_word i = one_line (Left i) ∙ ap (λ n. n + 1) (length-append (codes "left ") (instr_text i))
 

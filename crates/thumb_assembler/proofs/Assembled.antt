@@ -4,7 +4,7 @@ use Rattle.std.proofs.lemmas.Bool.{and_parts}
 use Rattle.thumb_model.specs.Listing.{Name, ListingLine}
 use Rattle.thumb_model.specs.Layout.{Fault, Layable, size_at, end_of, lies_in, fault_at, faults_from}
 use Rattle.thumb_model.specs.Layout as layout
-use Rattle.thumb_assembler.specs.Bytes.{AreLineBytes, IsSetBy, AreImage, flaw_of, flaws_from, first_flaw, or_first}
+use Rattle.thumb_assembler.specs.Bytes.{AreLineBytes, IsSetBy, AreImage, flaws_from, first_flaw, or_first}
 use Rattle.std.proofs.Math.ListN.{drop_of_length-le}
 use Rattle.listing_parser.specs.declared.line.ListingLine.{ListingLine as Lines}
 use Rattle.listing_parser.specs.Views.{line_view}
@@ -73,10 +73,6 @@ progress_more base all number at l left old new is p h =
           (subst (AreLineBytes (placed base set all) base all) (sym (append_assoc old here.here rest)) (p.done set g (here.here ++ rest) (here.here, rest, refl, here.are, r))));
     })
 
--- the first line with a flaw is told
-pub progress_stops : (base : ℕ) (all : List ListingLine) (number at : ℕ) (l : ListingLine) (left : List ListingLine) (bytes : List ℕ) (f : Flaw) → Progress base all number at (l ∷ left) bytes → flaw_of base all l.statement ≡ Some f → first_flaw base all ≡ Some (number + 1, f)
-progress_stops base all number at l left bytes f p e = sym p.flaws ∙ ap (λ (o : Option Flaw). or_first (number + 1) o (flaws_from base all (number + 1 + 1) left)) e
-
 pub progress_ends : (base : ℕ) (all : List ListingLine) (number at : ℕ) (bytes : List ℕ) → Progress base all number at [] bytes → AreImage base all bytes
 unfolding Completes
 progress_ends base all number at bytes p set h = subst (AreLineBytes (placed base set all) base all) (append-nil bytes) (p.done set h [] refl)
@@ -103,10 +99,6 @@ pub progress_next : (base : ℕ) (all : List ListingLine) (number at : ℕ) (ls 
 progress_next base all number at ls i l old new h e is p pushed =
     progress_more base all number (base + length old) (line_view l) (map line_view (drop (i + 1) ls)) old new refl (progress_here base all number (base + length old) ls i l old h e p)
     (subst (λ (n : ℕ). PushedLaid base all n (line_view l).statement old new) is pushed)
-
-pub stops_here : (base : ℕ) (all : List ListingLine) (number at : ℕ) (ls : List Lines) (i : ℕ) (l : Lines) (bytes : List ℕ) (f : Flaw) → i < length ls → l ≡ get_or ls i l → Progress base all number at (map line_view (drop i ls)) bytes
-    → flaw_of base all (line_view l).statement ≡ Some f → first_flaw base all ≡ Some (number + 1, f)
-stops_here base all number at ls i l bytes f h e p g = progress_stops base all number at (line_view l) (map line_view (drop (i + 1) ls)) bytes f (progress_here base all number at ls i l bytes h e p) g
 
 pub ends_here : (base : ℕ) (all : List ListingLine) (number at : ℕ) (ls : List Lines) (i : ℕ) (bytes : List ℕ) → length ls ≤ i → Progress base all number at (map line_view (drop i ls)) bytes → Progress base all number at [] bytes
 ends_here base all number at ls i bytes h p = subst (λ (xs : List ListingLine). Progress base all number at xs bytes) (ap (map line_view) (drop_of_length-le ls h)) p

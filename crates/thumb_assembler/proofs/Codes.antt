@@ -1,5 +1,5 @@
 -- The bytes of codes and of padding.
-use Rattle.std.proofs.Common.{◌≡◌, ◌∙◌, ◌<◌, ◌≤◌, ℕ, zero, suc, ◌-◌, ◌*◌, ◌/◌, ◌%◌, List, [], ◌∷◌, ◌++◌, length, sym, refl, ap, arith, append_assoc, append-nil}
+use Rattle.std.proofs.Common.{◌≡◌, ◌∙◌, ◌<◌, ◌≤◌, ℕ, zero, suc, ◌-◌, ◌*◌, List, [], ◌∷◌, ◌++◌, length, sym, refl, ap, arith, append_assoc, append-nil}
 use Rattle.thumb_instr.specs.declared.instr.Instr.{Instr}
 use Rattle.thumb_instr.specs.declared.instr.Instr.TheVariants as instr
 use Rattle.thumb_instr.specs.declared.kind.Kind.TheVariants as kind
@@ -9,7 +9,7 @@ use Rattle.thumb_table.specs.Decoding.{IsCode}
 use Rattle.thumb_table.specs.declared.row.Code.TheVariants as code
 use Rattle.thumb_table.proofs.Apart.{row_width}
 use Rattle.thumb_model.specs.Layout.{instr_size}
-use Rattle.thumb_assembler.specs.Bytes.{half_bytes, word_bytes, nops}
+use Rattle.thumb_assembler.specs.Bytes.{half_bytes, nops}
 use Rattle.thumb_assembler.specs.Pushes.{PushedCode}
 
 -- an instruction has a byte for each eight bits of its row
@@ -42,13 +42,6 @@ two_codes i first second old mid new l k c e f =
       pushed = f ∙ ap (λ (b : List ℕ). b ++ half_bytes second) e ∙ append_assoc old (half_bytes first) (half_bytes second);
       long = sym size;
     }
-
-pub two_halves : (w : ℕ) (old mid new : List ℕ) → mid ≡ old ++ half_bytes (w % 65536) → new ≡ mid ++ half_bytes (w / 65536) → new ≡ old ++ word_bytes w
-two_halves w old mid new e f =
-    let a : w % 65536 % 256 ≡ w % 256 = omega arith in
-    let b : w % 65536 / 256 % 256 ≡ w / 256 % 256 = omega arith in
-    let c : w / 65536 / 256 % 256 ≡ w / 16777216 % 256 = omega arith in
-    f ∙ ap (λ (x : List ℕ). x ++ half_bytes (w / 65536)) e ∙ append_assoc old (half_bytes (w % 65536)) (half_bytes (w / 65536)) ∙ ap (λ (x : List ℕ). old ++ x) (rw (a, b, c) refl)
 
 -- a `nop`, and those that are left
 pub nops_step : (k : ℕ) → 1 < k → nops k ≡ half_bytes 48896 ++ nops (k - 2)

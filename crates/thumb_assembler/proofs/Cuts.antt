@@ -1,5 +1,5 @@
 -- Lines in two parts: places, addresses and bytes of the second begin where the first end.
-use Rattle.std.proofs.Common.{◌≡◌, ◌∙◌, ◌⊎◌, inl, inr, ℕ, zero, suc, ◌+◌, ◌*◌, ◌/◌, ◌%◌, ◌<◌, true, List, [], ◌∷◌, ◌++◌, length, take, refl, sym, ap, subst, arith, true≢false, Option, Some, None, append_assoc, append-nil, length-append}
+use Rattle.std.proofs.Common.{◌≡◌, ◌∙◌, ◌⊎◌, inl, inr, ℕ, zero, suc, ◌+◌, ◌*◌, ◌/◌, ◌%◌, true, List, [], ◌∷◌, ◌++◌, length, take, refl, sym, ap, subst, arith, true≢false, Option, Some, None, append_assoc, append-nil, length-append}
 use Rattle.std.specs.Prelude.{slice_get, slice_index}
 use Rattle.std.proofs.lemmas.Bool.{cases_Bool, and_from, and_parts, or_right}
 use Rattle.thumb_instr.specs.declared.instr.Instr.{Instr}
@@ -152,11 +152,6 @@ pub index_back : (xs ys : List ℕ) (i j : ℕ) → j ≡ length xs + i → slic
 index_back [] ys i j e = ap (slice_index ys) (let h : j ≡ i = omega arith in h)
 index_back (x ∷ xs) ys i zero e = absurd (omega arith)
 index_back (x ∷ xs) ys i (suc j) e = index_back xs ys i j (omega arith)
-
-pub index_front : (xs ys : List ℕ) (i : ℕ) → i < length xs → slice_index (xs ++ ys) i ≡ slice_index xs i
-index_front [] ys i h = absurd (omega arith)
-index_front (x ∷ xs) ys zero h = refl
-index_front (x ∷ xs) ys (suc i) h = index_front xs ys i (omega arith)
 
 -- ---- labels as cuts ----
 

@@ -19,9 +19,9 @@ use Rattle.listing_parser.specs.declared.directive.Directive.TheVariants as dire
 use Rattle.listing_parser.specs.Grammar.{Bare, Read, labels_at_front, body, code, read_lines, said_of, bare, most_lines}
 use Rattle.listing_parser.specs.Directives.{Said, Plain, ByKind, Told, Unmarked, NextMarked, NameMarked, says, says_if, marks, size_of, aligns_at_most, aligned, sets, sets_by, typed_by, directed, directed_by, directive_named, is_word_byte, is_bare, is_alone, is_code_section, instruction, said, statement}
 use Rattle.listing_parser.specs.Values.{values, alone, gapped, pair}
-use Rattle.listing_parser.specs.Parsing.{IsListing, text_of_lines}
+use Rattle.listing_parser.specs.Parsing.{IsListing}
 use Rattle.listing_parser.specs.Targets.{is_aimed_at, is_on_target, first_target}
-use Rattle.listing_parser.proofs.PrintLemmas.{of_checked, cut, none_read, prints_back}
+use Rattle.listing_parser.proofs.PrintLemmas.{of_checked, cut, none_read}
 use Rattle.listing_parser.proofs.FewLemmas.{all_few}
 use Rattle.thumb_assembler.specs.Fair.{label_in, keeps_even, is_fair, are_fair}
 
@@ -201,7 +201,3 @@ few_lines bytes lines h =
     let few = all_few 1 0 (lines_of bytes) h.reads h.are.read (omega arith) in
     let same = length_lines h.reads lines h.are.same in
     omega (arith, few.0)
-
--- the text of a listing that was read is that of its lines
-pub of_its_text : (bytes : List ℕ) (lines : List ListingLine) → IsListing bytes lines → IsListing (text_of_lines lines) lines
-of_its_text bytes lines h = subst (λ (text : List ℕ). IsListing text lines) (sym (prints_back bytes lines h)) h

@@ -1,5 +1,5 @@
 -- Where names lie, and what they stand for.
-use Rattle.std.proofs.Common.{◌≡◌, ◌∙◌, inl, inr, ℕ, ◌+◌, ◌-◌, ◌*◌, ◌/◌, ◌%◌, ◌^◌, ◌<◌, ◌≤◌, ◌==◌, ◌&&◌, Bool, true, false, not, List, [], ◌∷◌, length, refl, sym, ap, subst, arith, true≢false, Option, Some, None, is_some, eqb-true, if◌then◌else◌}
+use Rattle.std.proofs.Common.{◌≡◌, ◌∙◌, inl, inr, ℕ, ◌+◌, ◌-◌, ◌*◌, ◌/◌, ◌%◌, ◌^◌, ◌<◌, ◌≤◌, ◌==◌, ◌&&◌, Bool, true, false, List, [], ◌∷◌, length, refl, sym, ap, subst, arith, true≢false, Option, Some, None, is_some, eqb-true, if◌then◌else◌}
 use Rattle.std.specs.Prelude.{nat_le, nat_lt}
 use Rattle.std.proofs.lemmas.Bool.{cases_Bool, and_parts, leb-true, ltb-true}
 use Rattle.std.proofs.Math.Nat.{div-add-mod, mul_assoc}
@@ -10,7 +10,7 @@ use Rattle.thumb_instr.specs.declared.instr.Instr.TheVariants as instr
 use Rattle.thumb_model.specs.Listing.{Name, Mention, Statement, Nothing, Instruction, Words, Aligns, Sets, ListingLine, Place, places_in, places_of, labels_from, place_among, place_of, code_of}
 use Rattle.thumb_model.specs.Layout.{less, distance, branch_base, instr_fault, instr_size, padding, size_at, is_among, label_address, set_address, cleared, or_else, lies_in, literal_base, branch_fault, literal_fault, aim_fault, Fault, Range, Align}
 use Rattle.thumb_model.specs.Naming.{Naming, word_by, laid}
-use Rattle.thumb_assembler.specs.Bytes.{lies_at, mention_lies, IsSetBy, lies_nowhere, may_leave}
+use Rattle.thumb_assembler.specs.Bytes.{lies_at, mention_lies, IsSetBy, may_leave}
 use Rattle.listing_parser.specs.Targets.{from_label, reaches, is_literal, is_code_label, is_aimed}
 use Rattle.thumb_machine.specs.Words.{fixed_by, fixed_word}
 use Rattle.thumb_assembler.specs.Fair.{label_in, keeps_even, is_fair, are_fair}
@@ -25,23 +25,6 @@ fixed_is (Some a) (Some p) s x w h e = let same : Some (a + 1) ≡ Some w = e in
 
 pub word_is : (base : ℕ) (all : List ListingLine) (set : Name → ℕ) (name : Name) (w : ℕ) → IsSetBy all set → fixed_word base all name ≡ Some w → (laid base set all).word_of name ≡ w
 word_is base all set name w h e = fixed_is (label_address name base all) (place_of (code_of all) name) (set_address name all) (set name) w (h name) e
-
-fixed_lost : (a p s : Option ℕ) → fixed_by a p s ≡ None → or_else a (cleared s) ≡ None
-fixed_lost None p None e = refl
-fixed_lost None p (Some v) e = absurd (let bad : Some v ≡ None = e in cc)
-fixed_lost (Some a) None s e = absurd (let bad : Some a ≡ None = e in cc)
-fixed_lost (Some a) (Some p) s e = absurd (let bad : Some (a + 1) ≡ None = e in cc)
-
-fixed_found : (a p s : Option ℕ) (w : ℕ) → fixed_by a p s ≡ Some w → is_some (or_else a (cleared s)) ≡ true
-fixed_found None p None w e = absurd (let bad : None ≡ Some w = e in cc)
-fixed_found None p (Some v) w e = refl
-fixed_found (Some a) p s w e = refl
-
-pub word_lost : (base : ℕ) (all : List ListingLine) (name : Name) → fixed_word base all name ≡ None → lies_nowhere base all name ≡ true
-word_lost base all name e = ap (λ (o : Option ℕ). not (is_some o)) (fixed_lost (label_address name base all) (place_of (code_of all) name) (set_address name all) e)
-
-pub word_found : (base : ℕ) (all : List ListingLine) (name : Name) (w : ℕ) → fixed_word base all name ≡ Some w → lies_nowhere base all name ≡ false
-word_found base all name w e = ap not (fixed_found (label_address name base all) (place_of (code_of all) name) (set_address name all) w e)
 
 -- ---- where names lie ----
 

@@ -3,33 +3,22 @@ use Rattle.std.proofs.Common.{◌≡◌, ◌∙◌, ℕ, ◌+◌, ◌*◌, ◌/�
 use Rattle.std.proofs.Math.Bool.{and-false}
 use Rattle.thumb_instr.specs.declared.instr.Instr.{Instr}
 use Rattle.thumb_instr.specs.declared.instr.Instr.TheVariants as instr
-use Rattle.thumb_model.specs.Listing.{Name, Mention, Value, Number, OfName, Nothing, Instruction, Words, Aligns, Sets, ListingLine}
+use Rattle.thumb_model.specs.Listing.{Name, Mention, Value, Number, Instruction, Words, Aligns, ListingLine}
 use Rattle.thumb_model.specs.Layout.{instr_size, padding, lies_in}
 use Rattle.thumb_model.specs.Steps.{word_of_value}
 use Rattle.thumb_model.specs.Naming.{laid}
-use Rattle.thumb_assembler.specs.Bytes.{nops, word_bytes, words_bytes, Aims, IsSetBy, lies_inside, may_leave, branch_lost, value_lost, values_lost, flaw_of}
-use Rattle.thumb_machine.specs.Words.{fixed_word}
+use Rattle.thumb_assembler.specs.Bytes.{nops, word_bytes, words_bytes, Aims, IsSetBy, may_leave, branch_lost, value_lost, values_lost, flaw_of}
 use Rattle.thumb_assembler.specs.declared.errors.Flaw.{Flaw}
 use Rattle.thumb_assembler.specs.declared.errors.Flaw.TheVariants as flaw
 use Rattle.thumb_assembler.specs.Fair.{is_fair}
 use Rattle.thumb_assembler.specs.Pushes.{PushedCode, PushedLaid, Pushes, PushedValue, PushedValues, PushesValues}
 use Rattle.thumb_assembler.proofs.Codes.{nops_length}
-use Rattle.thumb_assembler.proofs.Places.{word_is, word_lost, word_found, lies_there, lost_leaves, padding_even}
+use Rattle.thumb_assembler.proofs.Places.{lies_there, lost_leaves, padding_even}
 
 grown : (old new here : List ℕ) → new ≡ old ++ here → length new ≡ length old + length here
 grown old new here e = ap length e ∙ length-append old here
 
 -- ---- instructions ----
-
-pub code_pushed : (base : ℕ) (all : List ListingLine) (at : ℕ) (i : Instr) (old new : List ℕ) → PushedCode i old new → PushedLaid base all at (Instruction i None) old new
-code_pushed base all at i old new p =
-    let size = grown old new p.here p.pushed in
-    let long = p.long in
-    record {
-      sound = refl;
-      pushed = λ set h. record { here = p.here; are = p.are; pushed = p.pushed };
-      long = omega arith;
-    }
 
 pub aims_size : (at to : ℕ) (i j : Instr) → Aims at to i j → instr_size j ≡ instr_size i
 aims_size at to (instr.Literal t d) j a = ap instr_size a.2
@@ -63,24 +52,11 @@ number_pushed base all n old new l e =
     let same : n ≡ n % 2 ^ 32 = omega arith in
     record { found = refl; pushed = λ set h. e ∙ ap (λ (w : ℕ). old ++ word_bytes w) same; long = grown old new (word_bytes n) e }
 
-pub name_pushed : (base : ℕ) (all : List ListingLine) (m : Mention) (w : ℕ) (old new : List ℕ) → fixed_word base all m.name ≡ Some w → new ≡ old ++ word_bytes ((w + m.plus) % 2 ^ 32) → PushedValue base all (OfName m) old new
-name_pushed base all m w old new f e = record {
-  found = word_found base all m.name w f;
-  pushed = λ set h. e ∙ ap (λ (n : ℕ). old ++ word_bytes ((n + m.plus) % 2 ^ 32)) (sym (word_is base all set m.name w h f));
-  long = grown old new (word_bytes ((w + m.plus) % 2 ^ 32)) e;
-}
-
-pub name_lost : (base : ℕ) (all : List ListingLine) (m : Mention) → fixed_word base all m.name ≡ None → value_lost base all (OfName m) ≡ true
-name_lost base all m e = word_lost base all m.name e
-
 -- the first words came behind
 pub record Front (base : ℕ) (all : List ListingLine) (vs : List Value) (old : List ℕ) (left : List Value) (now : List ℕ) : Type 0 where
   pub found : values_lost base all vs ≡ values_lost base all left
   pub pushed : (set : Name → ℕ) → IsSetBy all set → now ++ words_bytes (laid base set all) left ≡ old ++ words_bytes (laid base set all) vs
   pub long : length now + 4 * length left ≡ length old + 4 * length vs
-
-pub front_start : (base : ℕ) (all : List ListingLine) (vs : List Value) (old : List ℕ) → Front base all vs old vs old
-front_start base all vs old = record { found = refl; pushed = λ set h. refl; long = refl }
 
 pub front_more : (base : ℕ) (all : List ListingLine) (vs : List Value) (old : List ℕ) (v : Value) (left : List Value) (now new : List ℕ) → Front base all vs old (v ∷ left) now → PushedValue base all v now new → Front base all vs old left new
 front_more base all vs old v left now new f p =
@@ -117,26 +93,6 @@ words_push base all at vs old new (Err flaw.Inside) p = absurd p
 words_push base all at vs old new (Err flaw.Memory) p = tt
 
 -- ---- other statements ----
-
-nothing_came : (old : List ℕ) → length old ≡ length old + 0
-nothing_came old = omega arith
-
-pub nothing_pushed : (base : ℕ) (all : List ListingLine) (at : ℕ) (old : List ℕ) → PushedLaid base all at Nothing old old
-nothing_pushed base all at old = record {
-  sound = refl;
-  pushed = λ set h. record { here = []; are = refl; pushed = sym (append-nil old) };
-  long = nothing_came old;
-}
-
-pub set_pushed : (base : ℕ) (all : List ListingLine) (at : ℕ) (name : Name) (address : ℕ) (old : List ℕ) → lies_inside base all address ≡ false → PushedLaid base all at (Sets name address) old old
-set_pushed base all at name address old e = record {
-  sound = ap (λ (b : Bool). if b then Some flaw.Inside else None) e;
-  pushed = λ set h. record { here = []; are = refl; pushed = sym (append-nil old) };
-  long = nothing_came old;
-}
-
-pub set_inside : (base : ℕ) (all : List ListingLine) (name : Name) (address : ℕ) → lies_inside base all address ≡ true → flaw_of base all (Sets name address) ≡ Some flaw.Inside
-set_inside base all name address e = ap (λ (b : Bool). if b then Some flaw.Inside else None) e
 
 pub padding_pushed : (base : ℕ) (all : List ListingLine) (at size most : ℕ) (old new : List ℕ) → is_fair all (Aligns size most) ≡ true → at % 2 ≡ 0 → new ≡ old ++ nops (padding size most at) → PushedLaid base all at (Aligns size most) old new
 padding_pushed base all at size most old new f h e =

@@ -1,5 +1,5 @@
 -- Acts that are the same at a world.
-use Rattle.std.proofs.Common.{◌≡◌, ℕ, ◌%◌, ◌==◌, true, false, List, [], ◌∷◌, drop, length, nat_le, Result, Ok, Err, refl, sym, ap, ◌∙◌, subst}
+use Rattle.std.proofs.Common.{◌≡◌, ℕ, ◌%◌, ◌==◌, true, false, List, [], ◌∷◌, drop, Result, Ok, Err, refl, sym, ap, ◌∙◌, subst}
 use Rattle.thumb_instr.specs.declared.operation.Access.{Access}
 use Rattle.thumb_instr.specs.declared.operation.Access.TheVariants as access
 use Rattle.thumb_machine.specs.declared.answers.Answer.{Answer}
@@ -11,8 +11,8 @@ use Rattle.thumb_machine.specs.Memory.{memory_of}
 use Rattle.thumb_machine.specs.Outside.{answer_values, answers_of}
 use Rattle.thumb_machine.specs.Acting.{world_of, Changed, Acted, Acts}
 use Rattle.thumb_instr.specs.declared.instr.Instr.{Instr}
-use Rattle.thumb_model.specs.States.{Act, Fault, On, Stay, all_at, answers_with, ends, puts, takes, with_bytes}
-use Rattle.thumb_model.specs.Accesses.{access_size, accesses, behind, device_words, gets, is_device, left_from, load_events, loads, loads_many, many_outputs, stores, stores_many, value_at}
+use Rattle.thumb_model.specs.States.{Act, Fault, On, all_at, answers_with, ends, takes, with_bytes}
+use Rattle.thumb_model.specs.Accesses.{access_size, accesses, gets, is_device, loads, loads_many, stores, stores_many, value_at}
 use Rattle.thumb_model.specs.Acts.{act}
 use Rattle.thumb_model.specs.States as model
 
@@ -26,10 +26,6 @@ acts_by f g old before new left (Err x) e h = h
 pub load_faults : (a : Access) (t address size : ℕ) (w : model.World) → size ≡ access_size a → (address % size == 0) ≡ false → loads a t address w ≡ ends (Fault address) w
 load_faults a t address size w e h = rw (← e, h) refl
 
-pub load_answered : (a : Access) (t address size : ℕ) (w : model.World) → size ≡ access_size a → (address % size == 0) ≡ true → is_device address ≡ true
-    → loads a t address w ≡ takes (λ answer rest. gets a t address (answer.values 0) w rest) w w.answers
-load_answered a t address size w e h d = rw (← e, h, d) refl
-
 pub load_read : (a : Access) (t address size : ℕ) (w : model.World) → size ≡ access_size a → (address % size == 0) ≡ true → is_device address ≡ false
     → loads a t address w ≡ gets a t address (value_at w.memory address (access_size a)) w w.answers
 load_read a t address size w e h d = rw (← e, h, d) refl
@@ -42,12 +38,6 @@ is_stored access.Str t address value w h = refl
 is_stored access.Strh t address value w h = refl
 is_stored access.Strb t address value w h = refl
 is_stored a t address value w h = absurd (cc)
-
-pub is_loaded : (a : Access) (t address value : ℕ) (w : model.World) → is_store a ≡ false → accesses a t address value w ≡ loads a t address w
-is_loaded access.Str t address value w h = absurd (cc)
-is_loaded access.Strh t address value w h = absurd (cc)
-is_loaded access.Strb t address value w h = absurd (cc)
-is_loaded a t address value w h = refl
 
 -- ---- answers ----
 
@@ -64,24 +54,8 @@ answer_taken xs e old new before left a first rest h =
 pub store_many_faults : (base back address : ℕ) (words : List ℕ) (w : model.World) → (address % 4 == 0) ≡ false → stores_many base back address words w ≡ ends (Fault address) w
 store_many_faults base back address words w h = rw h refl
 
--- what LDM does where it is aligned and there are answers
-abbrev pub loaded_many : ℕ → ℕ → List ℕ → model.World → Act
-loaded_many base address xs w = record {
-  outputs = many_outputs base (behind xs address) address xs w;
-  memory = w.memory;
-  answers = left_from w.answers address xs;
-  events = load_events address xs;
-  next = On;
-}
-
 pub load_many_faults : (base address : ℕ) (xs : List ℕ) (w : model.World) → (address % 4 == 0) ≡ false → loads_many base address xs w ≡ ends (Fault address) w
 load_many_faults base address xs w h = rw h refl
-
-pub load_many_stays : (base address : ℕ) (xs : List ℕ) (w : model.World) → (address % 4 == 0) ≡ true → nat_le (device_words address xs) (length w.answers) ≡ false → loads_many base address xs w ≡ puts [] Stay w
-load_many_stays base address xs w h k = rw (h, k) refl
-
-pub load_many_done : (base address : ℕ) (xs : List ℕ) (w : model.World) → (address % 4 == 0) ≡ true → nat_le (device_words address xs) (length w.answers) ≡ true → loads_many base address xs w ≡ loaded_many base address xs w
-load_many_done base address xs w h k = rw (h, k) refl
 
 -- ---- rows ----
 

@@ -1,8 +1,6 @@
 -- Lists of registers, and their words.
-use Rattle.std.proofs.Common.{◌≡◌, inl, inr, ℕ, suc, ◌+◌, ◌-◌, take, ◌<◌, ◌≤◌, Bool, true, false, List, [], ◌∷◌, ◌++◌, drop, get_or, length, refl, sym, ap, arith, add-one, length-drop, append_assoc, ◌∙◌, if◌then◌else◌}
-use Rattle.std.specs.Prelude.{filter}
+use Rattle.std.proofs.Common.{◌≡◌, inl, inr, ℕ, suc, ◌+◌, ◌-◌, take, ◌<◌, ◌≤◌, true, false, List, [], ◌∷◌, ◌++◌, drop, get_or, length, refl, sym, ap, arith, add-one, length-drop, append_assoc, ◌∙◌, if◌then◌else◌}
 use Rattle.std.proofs.Math.Seq.{drop-cons, take-length}
-use Rattle.std.proofs.lemmas.List.{append-nil}
 use Rattle.std.proofs.lemmas.Bool.{cases_Bool}
 use Rattle.std.proofs.lemmas.List.{map-append}
 use Rattle.thumb_machine.specs.declared.event.Event.{Event}
@@ -16,16 +14,6 @@ use Rattle.thumb_machine.specs.Lists.{AreRegisters}
 pub registers_append : (xs ys : List ℕ) → AreRegisters xs → AreRegisters ys → AreRegisters (xs ++ ys)
 registers_append [] ys h k = k
 registers_append (x ∷ xs) ys h k = (h.0, registers_append xs ys h.1 k)
-
-pub filter_step : (p : ℕ → Bool) (found xs : List ℕ) (x : ℕ) → (found ++ (if p x then x ∷ [] else [])) ++ filter p xs ≡ found ++ filter p (x ∷ xs)
-filter_step p found xs x = elim (cases_Bool (p x)) [
-  | inl e ↦ rw e (append_assoc found (x ∷ []) (filter p xs))
-  | inr e ↦ rw e (ap (λ l. l ++ filter p xs) (append-nil found))
-]
-
--- the same at an index
-pub filter_next : (p : ℕ → Bool) (found xs : List ℕ) (i : ℕ) → i < length xs → (found ++ (if p (get_or xs i 0) then get_or xs i 0 ∷ [] else [])) ++ filter p (drop (i + 1) xs) ≡ found ++ filter p (drop i xs)
-filter_next p found xs i h = rw (drop-cons xs i 0, add-one) (filter_step p found (drop (suc i) xs) (get_or xs i 0))
 
 pub stored_next : (m : ℕ → ℕ) (a : ℕ) (xs : List ℕ) (i : ℕ) → i < length xs → stored_words (stored m a 4 (get_or xs i 0)) (next_word a) (drop (i + 1) xs) ≡ stored_words m a (drop i xs)
 stored_next m a xs i h = rw (drop-cons xs i 0, add-one) refl
@@ -71,10 +59,6 @@ base_word m left a xs base back v =
 pub left_behind : (left : List Answer) (a : ℕ) (xs : List ℕ) (y : ℕ) → left_from left a (xs ++ y ∷ []) ≡ left_at (left_from left a xs) (behind xs a)
 left_behind left a [] y = refl
 left_behind left a (x ∷ xs) y = left_behind (left_at left a) (next_word a) xs y
-
-pub behind_last : (a : ℕ) (xs : List ℕ) (y : ℕ) → behind (xs ++ y ∷ []) a ≡ next_word (behind xs a)
-behind_last a [] y = refl
-behind_last a (x ∷ xs) y = behind_last (next_word a) xs y
 
 devices_last : (a : ℕ) (xs : List ℕ) (y : ℕ) → device_words a (xs ++ y ∷ []) ≡ device_words a xs + (if is_device (behind xs a) then 1 else 0)
 devices_last a [] y = elim (cases_Bool (is_device a)) [ inl e ↦ rw e refl | inr e ↦ rw e refl ]

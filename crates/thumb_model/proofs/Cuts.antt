@@ -11,13 +11,6 @@ pub without_none : (ls : List ListingLine) → without 0 ls ≡ ls
 without_none [] = refl
 without_none (l ∷ ls) = refl
 
-no_others : (ls : List ListingLine) → op_count ls ≡ 0 → others ls ≡ ls
-no_others [] e = refl
-no_others (l ∷ ls) e = elim (cases_Bool (is_op l.statement)) [
-  | inl h ↦ absurd (let bad : op_count ls + 1 ≡ 0 = rw h at e in omega arith)
-  | inr h ↦ rw h (ap (λ (xs : List ListingLine). l ∷ xs) (no_others ls (rw h at e)))
-]
-
 -- where an instruction of so many goes with the others, it goes
 op_goes : (n : ℕ) (l : ListingLine) (ls : List ListingLine) → is_op l.statement ≡ true → without (n + 1) (l ∷ ls) ≡ without n ls
 op_goes n l ls h = ap (λ (k : ℕ). without k (l ∷ ls)) (let e : n + 1 ≡ suc n = omega arith in e) ∙ rw h refl

@@ -1,4 +1,4 @@
--- Ways through a listing, and the items that are live.
+-- Ways through a listing, the places that runs may come to, and the items that are live.
 use Rattle.std.specs.Prelude.{◌≡◌, ℕ, ◌+◌, not, true, false, List, [], ◌∷◌, ◌++◌, filter, Option, Some, None, slice_get, if◌then◌else◌}
 use Rattle.thumb_instr.specs.declared.instr.Instr.{Instr}
 use Rattle.thumb_instr.specs.declared.instr.Instr.TheVariants as instr
@@ -75,3 +75,8 @@ pub data Reads (code : Code) (x : ℕ) : ℕ → Type 0 where
 -- x is live after p
 abbrev pub LiveAfter : Code → ℕ → ℕ → Type 0
 LiveAfter code p x = (k : ℕ) × (w : Way) × (q : ℕ) × (slice_get (ways code p) k ≡ Some w) × Follows code p w.leads q × Reads code x q
+
+-- what is reached: the least set of places that holds each code point and, with each place, all places to which its ways lead
+pub data Reached (code : Code) : ℕ → Type 0 where
+  point : (p : ℕ) → IsPoint code p → Reached code p
+  along : (p k : ℕ) (w : Way) (q : ℕ) → Reached code p → slice_get (ways code p) k ≡ Some w → Follows code p w.leads q → Reached code q

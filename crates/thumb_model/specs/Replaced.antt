@@ -1,7 +1,9 @@
--- Instructions, and lines, after a replacement.
-use Rattle.std.specs.Prelude.{ℕ, ◌+◌, ◌-◌, min, max, List, ◌++◌, length, take, drop, map, zero, suc, ◌==◌, ◌&&◌, Bool, true, false, [], ◌∷◌, None, if◌then◌else◌}
+-- The windows of a listing, and its instructions and lines after one gives way.
+use Rattle.std.specs.Prelude.{◌≡◌, ℕ, ◌+◌, ◌-◌, ◌≤◌, ◌⊎◌, min, max, List, ◌++◌, length, take, drop, map, zero, suc, ◌==◌, ◌&&◌, Bool, true, false, [], ◌∷◌, Some, None, slice_get, if◌then◌else◌}
+use Rattle.std.specs.List.{list_all}
 use Rattle.thumb_instr.specs.declared.instr.Instr.{Instr}
-use Rattle.thumb_model.specs.Listing.{plain, Label, Code, Name, Statement, Nothing, Instruction, Words, Aligns, Sets, ListingLine, places_in}
+use Rattle.thumb_instr.specs.Window.{is_in_window}
+use Rattle.thumb_model.specs.Listing.{plain, Label, Code, Name, Statement, Nothing, Instruction, Words, Aligns, Sets, ListingLine, places_in, places_of, labels_from}
 
 -- The places and labels of a code in which instructions give way to others.
 
@@ -69,3 +71,10 @@ are_joined_from p count [] = true
 are_joined_from p count (l ∷ ls) =
     if is_op l.statement && (p == 0) then are_joined (count - 1) ls
     else are_joined_from (p - length (places_in l.statement)) count ls
+
+-- consecutive instructions from a place on that may stand in a window, with no label and no alignment line between them
+pub record IsWindow (lines : List ListingLine) (place : ℕ) (window : List Instr) : Type 0 where
+  pub stands : take (length window) (drop place (places_of lines)) ≡ map plain window
+  pub in_window : list_all is_in_window window ≡ true
+  pub unlabelled : (k : ℕ) (l : Label) → slice_get (labels_from 0 lines) k ≡ Some l → (l.place ≤ place) ⊎ (place + length window ≤ l.place)
+  pub joined : are_joined_from place (length window) lines ≡ true

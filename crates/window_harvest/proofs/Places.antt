@@ -6,7 +6,7 @@ use Rattle.thumb_model.specs.Listing.{ListingLine, code_of}
 use Rattle.thumb_model.specs.Flow.{LiveAfter}
 use Rattle.liveness.specs.Live.{Sets as LiveSets}
 use Rattle.window_runs.specs.declared.rows.WindowPlace.{WindowPlace}
-use Rattle.window_runs.specs.Windows.{IsWindow}
+use Rattle.thumb_model.specs.Replaced.{IsWindow}
 use Rattle.window_runs.specs.Rows.{rows_from}
 use Rattle.window_runs.specs.Runs.{run}
 use Rattle.window_harvest.specs.Harvest.{Pair, Limits, spot_of, StandsThere, IsPairAt}

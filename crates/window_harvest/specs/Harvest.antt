@@ -10,7 +10,7 @@ use Rattle.thumb_model.specs.Flow.{LiveAfter}
 use Rattle.thumb_model.specs.Effect.{register_count}
 use Rattle.seq_enum.specs.Alphabet.{numbers_from, IsOver}
 use Rattle.rule_table.specs.Canonical.{IsRenamable, IsCanonical}
-use Rattle.window_runs.specs.Windows.{IsWindow}
+use Rattle.thumb_model.specs.Replaced.{IsWindow}
 
 -- a canonical window, and the items that may be live after it, as the bits of their numbers
 pub record Pair : Type 0 where

@@ -14,16 +14,14 @@ use Rattle.thumb_model.specs.Flow.{LiveAfter}
 use Rattle.thumb_model.specs.Layout.{Layable}
 use Rattle.rule_model.specs.Rules.{Rule, Applies, IsSoundRule, alone}
 use Rattle.thumb_model.specs.Effect.{AreOver, register_count, normalised}
-use Rattle.thumb_model.specs.Replaced.{moved, replaced_lines, are_joined_from}
+use Rattle.thumb_model.specs.Replaced.{moved, replaced_lines, are_joined_from, IsWindow}
 use Rattle.rule_model.specs.Rewriting.{Setting, Replacement, used_rule, lines_after_rule, lines_after, IsLeastScratch, AppliesIn, left_length, left_length_of}
 use Rattle.rule_model.proofs.Alone.{alone_is}
-use Rattle.listing_parser.specs.Replacing.{names_no_label}
 use Rattle.listing_parser.specs.Parsing.{own_line}
 use Rattle.listing_parser.specs.Grammar.{most_lines}
 use Rattle.seq_enum.specs.Costs.{weight_under}
 use Rattle.window_rewrite.proofs.RuleWindows.{applies_gives_way, steady_stays, applied_gap, applied_stay}
 use Rattle.steady_layout.proofs.Laws.{steady_is_layable}
-use Rattle.window_runs.specs.Windows.{IsWindow}
 use Rattle.window_rewrite.specs.Settled.{IsSettled, MayGiveWay}
 use Rattle.window_rewrite.proofs.Settled.{left_places, IsGap, settled_stay, stay_settled}
 use Rattle.window_rewrite.proofs.WindowPlaces.{first_op, window_within}
@@ -57,19 +55,6 @@ same_window : (rule : Rule) (registers : List Low) (lines : List ListingLine) (p
 same_window rule registers lines place window n w a = plain_same a.window window (sym a.stands ∙ ap (λ k. take k (drop place (places_of lines))) n ∙ w.stands)
 
 -- ---- the new instructions ----
-
--- what may stand in a window has no label in its text
-plain_instr : (i : Instr) → is_in_window i ≡ true → names_no_label i ≡ true
-plain_instr (instr.BranchIf c d) w = absurd (cc)
-plain_instr (instr.Branch d) w = absurd (cc)
-plain_instr (instr.Call d) w = absurd (cc)
-plain_instr (instr.Literal t d) w = absurd (cc)
-plain_instr (instr.Address t d) w = absurd (cc)
-plain_instr i w = refl
-
-pub plain_all : (k : ℕ) (r : List Low) (is : List Instr) → AreOver k is → list_all names_no_label (map (renamed r) is) ≡ true
-plain_all k r [] h = refl
-plain_all k r (i ∷ is) h = and_from (names_no_label (renamed r i)) (list_all names_no_label (map (renamed r) is)) (plain_instr (renamed r i) (window_renamed r i h.0)) (plain_all k r is h.2)
 
 -- the new instructions may stand in a window
 pub all_in_window : (k : ℕ) (r : List Low) (is : List Instr) → AreOver k is → list_all is_in_window (map (renamed r) is) ≡ true

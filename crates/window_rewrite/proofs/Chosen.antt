@@ -9,13 +9,12 @@ use Rattle.thumb_instr.specs.Items.{has}
 use Rattle.thumb_instr.specs.Window.{Low}
 use Rattle.thumb_model.specs.Listing.{plain, Place, Label, ListingLine, places_of, labels_from, code_of}
 use Rattle.rule_model.specs.Rules.{Rule, IsSoundRule, alone, rule_at}
-use Rattle.rule_model.specs.Rewriting.{Setting, Replacement, NoneApplies, used_rule, left_length, left_length_of}
+use Rattle.rule_model.specs.Rewriting.{Setting, Replacement, used_rule, left_length, left_length_of}
 use Rattle.rule_model.proofs.Alone.{alone_is}
-use Rattle.thumb_model.specs.Replaced.{are_joined_from}
+use Rattle.thumb_model.specs.Replaced.{are_joined_from, IsWindow}
 use Rattle.thumb_model.specs.Flow.{LiveAfter}
 use Rattle.thumb_model.proofs.Lists.{length_map, take_all, take_short, length_drop}
 use Rattle.rule_model.proofs.Table.{window_length, applies_sound}
-use Rattle.window_runs.specs.Windows.{IsWindow}
 use Rattle.rule_table.specs.declared.table.Entry.{Entry}
 use Rattle.rule_table.specs.Views.{rule_of}
 use Rattle.table_audit.specs.Soundness.{rewriting_rule}
@@ -433,7 +432,3 @@ is_first asked s lines place c none b =
       };
       is = b.is;
     }
-
--- where none meets it before the end, none applies
-pub none_applies : (asked : Bool) (costs : Option (List ℕ)) (base longest : ℕ) (table : List (List Rule)) (lines : List ListingLine) (place : ℕ) → AreFit longest table → length (places_of lines) ≤ place → NoneBefore asked (setting_by costs base table) lines place → NoneApplies (setting_by costs base table) lines
-none_applies asked costs base longest table lines place fit h none o a = let m = meets asked (setting_by costs base table) o lines a in let w = place_within costs base longest table lines o fit m.0 in none o m (omega arith)

@@ -54,9 +54,6 @@ still_marked ms p q w h = elim (cases_eq q p) [
 pub stay_set : (ms : List Bool) (p : ℕ) → p < length ms → StayMarked ms (set ms p true)
 stay_set ms p w = record { as_many = set_length ms p true; stay = λ q. still_marked ms p q w }
 
-pub stay_same : (ms : List Bool) → StayMarked ms ms
-stay_same ms = record { as_many = refl; stay = λ p h. h }
-
 pub stay_both : (a b c : List Bool) → StayMarked a b → StayMarked b c → StayMarked a c
 stay_both a b c s t = record { as_many = t.as_many ∙ s.as_many; stay = λ p h. t.stay p (s.stay p h) }
 
@@ -66,10 +63,6 @@ was_unmarked a b p s h = elim (cases_Bool (marked a p)) [
   | inl t ↦ absurd (let u = s.stay p t in let bad : true ≡ false = sym u ∙ h in cc)
   | inr f ↦ f
 ]
-
--- where the least one is taken, each other that is marked still is
-pub taken_or : (ms : List Bool) (p q : ℕ) → p < length ms → marked ms q ≡ true → (q ≡ p → ⊥) → marked (set ms p false) q ≡ true
-taken_or ms p q w h n = marked_other ms p q false n ∙ h
 
 -- a place that isn't marked any more is the taken one, or wasn't before
 pub untaken : (ms : List Bool) (p q : ℕ) → marked (set ms p false) q ≡ false → (q ≡ p → ⊥) → marked ms q ≡ false

@@ -8,7 +8,7 @@ use Rattle.kept_places.proofs.Ranks.{marked_other, marked_replicate, marked_set,
 use Rattle.thumb_instr.specs.declared.instr.Instr.{Instr}
 use Rattle.thumb_instr.specs.Items.{has}
 use Rattle.thumb_model.specs.Listing.{Code, ListingLine, Place, code_of, labels_from, places_of}
-use Rattle.thumb_model.specs.Replaced.{replaced_lines}
+use Rattle.thumb_model.specs.Replaced.{replaced_lines, IsWindow}
 use Rattle.thumb_model.proofs.Lists.{length_map, take_all}
 use Rattle.thumb_model.proofs.LinesReplaced.{ops_of}
 use Rattle.rule_model.specs.Rewriting.{Setting, Replacement, lines_after, left_length_of, AppliesIn, IsFirst, NoneApplies}
@@ -18,7 +18,6 @@ use Rattle.padded_code.specs.Padding.{IsPadded}
 use Rattle.padded_code.specs.Exchange.{marks_after, exchanged}
 use Rattle.padded_code.specs.Windows.{AreRanked}
 use Rattle.padded_code.proofs.Exchanged.{whole_padded}
-use Rattle.window_runs.specs.Windows.{IsWindow}
 use Rattle.window_runs.proofs.Joined.{window_in_run}
 use Rattle.edited_listing.specs.Edited.{Edited, lines_now, marks, padded}
 use Rattle.edited_listing.specs.Changes.{is_none}

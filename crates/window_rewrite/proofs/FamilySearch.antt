@@ -9,7 +9,7 @@ use Rattle.thumb_instr.specs.declared.instr.Instr.{Instr}
 use Rattle.thumb_model.specs.Listing.{ListingLine}
 use Rattle.rule_table.specs.Views.{family_of, rule_of}
 use Rattle.table_audit.specs.Families.{entry_at}
-use Rattle.window_runs.specs.Windows.{IsWindow}
+use Rattle.thumb_model.specs.Replaced.{IsWindow}
 use Rattle.window_rewrite.specs.declared.choice.Choice.{Choice}
 use Rattle.window_rewrite.specs.declared.finding.Rules.{Rules}
 use Rattle.window_rewrite.specs.declared.forms.Form.{Form}

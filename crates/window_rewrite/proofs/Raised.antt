@@ -22,7 +22,7 @@ use Rattle.rule_table.specs.Views.{family_of, rule_of}
 use Rattle.table_audit.specs.Families.{entry_at, is_hole, raised, symbol_of, values_of}
 use Rattle.table_audit.specs.Soundness.{instances_of, items_in, number_of, numbers_in, rewriting_rule}
 use Rattle.table_audit.proofs.Instances.{entries_length, instance_there, number_is, rule_at_behind, value_there, values_at}
-use Rattle.window_runs.specs.Windows.{IsWindow}
+use Rattle.thumb_model.specs.Replaced.{IsWindow}
 use Rattle.window_rewrite.specs.declared.choice.Choice.{Choice}
 use Rattle.window_rewrite.specs.declared.families.Instance.{Instance}
 use Rattle.window_rewrite.specs.declared.finding.Rules.{Rules}

@@ -11,7 +11,7 @@ use Rattle.thumb_instr.specs.Window.{is_in_window}
 use Rattle.thumb_model.specs.Listing.{Place, plain, Label, ListingLine, Code, is_op_place, code_of, places_of, labels_from}
 use Rattle.thumb_model.specs.Flow.{Reads, LiveAfter}
 use Rattle.thumb_model.specs.Layout.{Layable}
-use Rattle.thumb_model.specs.Replaced.{replaced_lines}
+use Rattle.thumb_model.specs.Replaced.{replaced_lines, IsWindow}
 use Rattle.thumb_model.proofs.Lists.{get_drop, get_take, length_map, present_at}
 use Rattle.thumb_model.proofs.Lists.{take_all as take_many}
 use Rattle.thumb_model.proofs.LinesReplaced.{before, outside_of}
@@ -23,7 +23,6 @@ use Rattle.liveness.proofs.Paths.{has_zero}
 use Rattle.steady_layout.specs.Steady.{IsSteady}
 use Rattle.steady_layout.proofs.Cuts.{AreTwos, cut}
 use Rattle.steady_layout.proofs.Laws.{twos_of, plain_of, cut_stays}
-use Rattle.window_runs.specs.Windows.{IsWindow}
 use Rattle.window_runs.specs.Rows.{rows_from}
 use Rattle.window_runs.specs.Runs.{run}
 use Rattle.window_runs.proofs.Joined.{run_window}

@@ -7,8 +7,7 @@ use Rattle.thumb_model.specs.Listing.{ListingLine, code_of}
 use Rattle.thumb_model.specs.Layout.{Layable}
 use Rattle.rule_model.specs.Rules.{Rule, weight, alone, rule_at, Applies}
 use Rattle.rule_model.specs.Rewriting.{Setting, Replacement, used_rule, AppliesIn, IsFirst, lines_after, left_length}
-use Rattle.thumb_model.specs.Replaced.{are_joined_from, replaced_lines}
-use Rattle.window_runs.specs.Windows.{IsWindow}
+use Rattle.thumb_model.specs.Replaced.{are_joined_from, replaced_lines, IsWindow}
 use Rattle.window_rewrite.specs.declared.choice.Choice.{Choice}
 use Rattle.window_rewrite.specs.declared.finding.Rules.{Rules}
 use Rattle.window_rewrite.specs.TableRewriting.{setting_by, replacement_of, IsWhole}

@@ -9,7 +9,7 @@ use Rattle.thumb_model.specs.Listing.{ListingLine, code_of}
 use Rattle.rule_model.specs.Rules.{Rule, rule_at, rule_registers}
 use Rattle.rule_table.specs.Canonical.{IsRenamable, IsCanonical}
 use Rattle.seq_enum.specs.Costs.{weight_under}
-use Rattle.window_runs.specs.Windows.{IsWindow}
+use Rattle.thumb_model.specs.Replaced.{IsWindow}
 use Rattle.window_rewrite.specs.declared.forms.Form.{Form}
 use Rattle.window_rewrite.specs.declared.marks.Marks.{Marks}
 use Rattle.window_rewrite.specs.Forms.{form_of}

@@ -5,10 +5,9 @@ use Rattle.thumb_instr.specs.declared.instr.Instr.{Instr}
 use Rattle.thumb_instr.specs.Window.{is_in_window}
 use Rattle.thumb_model.specs.Listing.{ListingLine}
 use Rattle.thumb_model.specs.Layout.{Layable}
-use Rattle.thumb_model.specs.Replaced.{replaced_lines}
+use Rattle.thumb_model.specs.Replaced.{replaced_lines, IsWindow}
 use Rattle.listing_parser.specs.Parsing.{own_line}
 use Rattle.steady_layout.specs.Steady.{IsSteady}
-use Rattle.window_runs.specs.Windows.{IsWindow}
 use Rattle.kept_layout.specs.Kept.{Lays, IsNear}
 use Rattle.kept_layout.specs.Moves.{IsMoved}
 use Rattle.kept_layout.specs.declared.shrinking.Move.{Move}

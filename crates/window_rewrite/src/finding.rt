@@ -4,7 +4,7 @@ ghost use Rattle.std.specs.Int.{from_bool};
 ghost use Rattle.std.specs.List.{list_all};
 ghost use Rattle.thumb_instr.specs.Window.{Low as LowRegister, is_in_window};
 ghost use Rattle.listing_parser.specs.Grammar.{most_lines};
-ghost use Rattle.window_runs.specs.Windows.{IsWindow};
+ghost use Rattle.thumb_model.specs.Replaced.{IsWindow};
 ghost use Rattle.step_ledger.specs.Counts.{RisesByAtLeast};
 ghost use Rattle.window_rewrite.specs.TableRewriting.{map_of};
 ghost use Rattle.window_rewrite.specs.Fitting.{IsForm, NoneReaches, StandsThere};

@@ -20,7 +20,7 @@ impl KnownLayout {
     ghost use Rattle.listing_parser.specs.Parsing.{own_line};
     ghost use Rattle.kept_layout.specs.Kept.{IsLaid};
     ghost use Rattle.window_rewrite.specs.Layouts.{is_steady, Allows, HasLayout, StandsNear};
-    ghost use Rattle.window_runs.specs.Windows.{IsWindow};
+    ghost use Rattle.thumb_model.specs.Replaced.{IsWindow};
 
     /// The layout of a listing that can be laid out from the base, where that is not `steady`. It stands at the first place.
     pub(crate) fn of(

@@ -6,9 +6,8 @@ use Rattle.std.proofs.lemmas.Bool.{and_parts, and_from, cases_lt}
 use Rattle.thumb_instr.specs.declared.instr.Instr.{Instr}
 use Rattle.thumb_instr.specs.Window.{is_in_window}
 use Rattle.thumb_model.specs.Listing.{Name, Mention, Value, Statement, Nothing, Instruction, Words, Aligns, Sets, ListingLine, Place, Op, Word, plain, Label, places_in, places_of, labels_at, labels_from}
-use Rattle.thumb_model.specs.Replaced.{is_op, is_align, are_joined, are_joined_from}
+use Rattle.thumb_model.specs.Replaced.{is_op, is_align, are_joined, are_joined_from, IsWindow}
 use Rattle.window_runs.specs.declared.rows.WindowPlace.{WindowPlace}
-use Rattle.window_runs.specs.Windows.{IsWindow}
 use Rattle.window_runs.specs.Rows.{is_unlabelled, window_instr, word_row, rows_of, stays_joined, rows_from}
 use Rattle.window_runs.specs.Runs.{instr_at, before, run}
 use Rattle.thumb_model.proofs.Lists.{take_short as take_less, length_map as map_length}

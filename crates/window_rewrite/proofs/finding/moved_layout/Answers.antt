@@ -5,9 +5,8 @@ use Rattle.std.proofs.lemmas.Option.{IfSome_then}
 use Rattle.std.proofs.lemmas.Result.{IfOk-weaker}
 use Rattle.thumb_model.specs.Layout.{Layable}
 use Rattle.thumb_model.specs.Listing.{ListingLine}
-use Rattle.thumb_model.specs.Replaced.{replaced_lines}
+use Rattle.thumb_model.specs.Replaced.{replaced_lines, IsWindow}
 use Rattle.listing_parser.specs.Parsing.{own_line}
-use Rattle.window_runs.specs.Windows.{IsWindow}
 use Rattle.kept_layout.specs.Kept.{IsNear, Lays}
 use Rattle.kept_layout.specs.Moves.{IsMoved}
 use Rattle.kept_layout.specs.declared.shrinking.Move.{Move}

@@ -1,7 +1,7 @@
 use Rattle.std.proofs.Common.{◌∙◌, ◌<◌, [], length, true≢false, arith, refl, sym}
 use Rattle.std.proofs.lemmas.Option.{slice_get_read}
 use Rattle.thumb_model.specs.Listing.{Code, code_of}
-use Rattle.code_flow.specs.Reached.{point}
+use Rattle.thumb_model.specs.Flow.{point}
 use Rattle.code_flow.proofs.Reaches.{begun, all_left, points_next}
 use Rattle.code_flow.proofs.reaching.Reaching.from_points.Goals.{then-index+in_ok-reach, else-index}
 use Rattle.code_flow.proofs.reaching.Reaching.from_points.Goals as goal

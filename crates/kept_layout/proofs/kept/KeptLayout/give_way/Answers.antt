@@ -3,9 +3,8 @@ use Rattle.std.specs.List.{list_all}
 use Rattle.thumb_instr.specs.declared.instr.Instr.{Instr}
 use Rattle.thumb_instr.specs.Window.{is_in_window}
 use Rattle.thumb_model.specs.Listing.{ListingLine}
-use Rattle.thumb_model.specs.Replaced.{replaced_lines}
+use Rattle.thumb_model.specs.Replaced.{replaced_lines, IsWindow}
 use Rattle.listing_parser.specs.Parsing.{own_line}
-use Rattle.window_runs.specs.Windows.{IsWindow}
 use Rattle.kept_layout.specs.declared.kept.KeptLayout.{KeptLayout}
 use Rattle.kept_layout.specs.Blocks.{lessen, footprints_of, AllReach}
 use Rattle.kept_layout.specs.Kept.{AreCut, IsLaid, IsNear, Lays}
