@@ -1,7 +1,7 @@
 -- Ways from place to place, and the first of the gone places before a kept one.
 use Rattle.std.proofs.Common.{◌≡◌, ◌≢◌, ◌↔◌, ℕ, ◌+◌, ◌<◌, ◌≤◌, Bool, true, false, List, length, replicate, sym, ap, ◌∙◌, inl, inr, subst, arith}
 use Rattle.std.specs.Prelude.{slice_set, slice_index}
-use Rattle.std.proofs.lemmas.Bool.{cases_lt, cases_eq, cases_order, false_from_ne_true}
+use Rattle.std.proofs.lemmas.Bool.{cases_eq, cases_order, false_from_ne_true}
 use Rattle.std.proofs.lemmas.List.{length-set, length-replicate, get_or-set_same, get_or-set_other}
 use Rattle.kept_places.specs.Marks.{is_gone, IsNode, IsStart}
 use Rattle.kept_places.specs.Kept.{LeadOn, EndsAt, LeadAlike, LeadOnFrom, AreStarts}
@@ -70,29 +70,6 @@ pub record IsShortened (old next : List ℕ) (at end : ℕ) : Type 0 where
 -- before its end a place leads on
 pub leads_on : (next : List ℕ) (at end : ℕ) → EndsAt next at end → at ≢ end → at < slice_index next at
 leads_on next at end e d = e.between at (omega arith) (let f = e.from in elim (cases_order at end) [ inl s ↦ absurd (d s) | inr (inl s) ↦ s | inr (inr s) ↦ absurd (omega arith) ])
-
-    before : at < end
-    before = let f = s.ends.from in elim (cases_order at end) [ inl t ↦ absurd (d t) | inr (inl t) ↦ t | inr (inr t) ↦ absurd (omega arith) ]
-
-    within : at < length next
-    within = let w = s.ends.within in let b = before in omega arith
-
-    below : on ≤ end
-    below = elim (cases_lt end on) [
-      | inl t ↦ absurd (let m = s.leads.between at end within (let b = before in omega arith) (omega (arith, t, o)) in let y = s.ends.stays in omega arith)
-      | inr t ↦ t
-    ]
-
-    alike : (p : ℕ) → p < length old → (p < slice_index (slice_set next at end) p) ↔ (p < slice_index old p)
-    alike p h = elim (cases_eq p at) [
-      | inl e ↦
-          let x : slice_index (slice_set next at end) p ≡ end = ap (slice_index (slice_set next at end)) e ∙ put_here next at end within in
-          let m : p < slice_index next p = subst (λ i. i < slice_index next i) (sym e) moves in
-          (λ t. (s.alike p h).0 m, λ t. let b = before in omega arith)
-      | inr n ↦
-          let x = put_else next at end p n in
-          (λ t. (s.alike p h).0 (omega arith), λ t. let r = (s.alike p h).1 t in omega arith)
-    ]
 
 -- ---- nodes ----
 

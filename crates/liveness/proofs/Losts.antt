@@ -1,5 +1,5 @@
 -- Places that lost an item in the end.
-use Rattle.std.proofs.Common.{◌≡◌, ◌≢◌, ℕ, zero, suc, ◌<◌, ◌≤◌, ◌==◌, ◌&&◌, not, Bool, true, false, List, [], ◌∷◌, ◌++◌, length, if◌then◌else◌, refl, sym, ap, ◌∙◌, subst, ◌⊎◌, inl, inr, arith, ◌↔◌, eq-eqb, eqb-true, ne_eqb}
+use Rattle.std.proofs.Common.{◌≡◌, ◌≢◌, ℕ, zero, suc, ◌<◌, ◌≤◌, ◌==◌, ◌&&◌, not, Bool, true, false, List, [], ◌∷◌, ◌++◌, length, refl, sym, ap, ◌∙◌, subst, ◌⊎◌, inl, inr, arith, ◌↔◌, eq-eqb, eqb-true, ne_eqb}
 use Rattle.std.specs.Prelude.{slice_set}
 use Rattle.std.proofs.lemmas.Bool.{cases_Bool, cases_lt, or_cases, or_left, or_right, not-true, and_parts, and_from, not_from_false}
 use Rattle.std.proofs.lemmas.Nat.Bits.{bit_at-zero, same_from_bits_below}
@@ -11,7 +11,6 @@ use Rattle.kept_places.proofs.Ranks.{marked_set}
 use Rattle.liveness.specs.Live.{set_at}
 use Rattle.liveness.proofs.Weights.{bit_of}
 use Rattle.liveness.specs.KeptLive.{LosesAt}
-use Rattle.liveness.specs.Walk.{start_at}
 use Rattle.liveness.proofs.Aheads.{mark_kept, mark_back}
 use Rattle.liveness.proofs.Stacks.{one_more}
 
@@ -122,16 +121,4 @@ all_told touched rest was before ms ms' t none p = (t.back p, on)
     on (inr r) = elim (t.told p r.0 r.1) [
       | inl o ↦ absurd (let f : one_of p rest ≡ false = ap (one_of p) none in cc)
       | inr m ↦ m
-    ]
-
-    on : (marked ms p ≡ true) ⊎ LosesAt (start_at k p) (set_at before p) → marked ms' p ≡ true
-    on (inl h) = (told p).1 (inl h)
-    on (inr l) = elim (cases_Bool (one_of p k.touched.places)) [
-      | inl h ↦ (told p).1 (inr (ap (one_of p) same ∙ h, subst (λ b. LosesAt (if b then set_at k.was.items p else set_at k.before.sets.items p) (set_at before p)) h l))
-      | inr h ↦ absurd (
-          let n = subst (λ b. LosesAt (if b then set_at k.was.items p else set_at k.before.sets.items p) (set_at before p)) h l in
-          let m = more p n.0 n.1 in
-          let f = n.2 in
-          cc
-          )
     ]
