@@ -12,10 +12,17 @@ positional id = record (new_rule id) { required = true }
 abbrev pub option : Text → Rule
 option id = record (new_rule id) { long = Some id }
 
+-- a command with these positional words more
+abbrev pub with_positionals : App → List Text → App
+with_positionals command words = fold (λ a id. with_rule a (positional id)) command words
+
+-- a command with these options more
+abbrev pub with_all_options : App → List Text → App
+with_all_options command options = fold (λ a id. with_rule a (option id)) command options
+
 -- a command with these positional words and options
 abbrev pub command_app : Text → List Text → List Text → App
-command_app name words options =
-    fold (λ a id. with_rule a (option id)) (fold (λ a id. with_rule a (positional id)) (new_app name) words) options
+command_app name words options = with_all_options (with_positionals (new_app name) words) options
 
 -- the commands
 abbrev pub forms : List Form

@@ -4,8 +4,8 @@
 //! limits by us (`values`), and `usage_of` promises that both together are that definition.
 //!
 //! A further command is a variant of `Command`, a form with its name, options and request in `specs/CommandLine.antt`, the names of its
-//! words in `specs/App.antt`, a case in `specs/Request.antt`, a function in `app` and one in `values`, and in the proofs a line in each
-//! lemma by forms of `Forms.antt`, `Top.antt` and `Requests.antt`.
+//! words in `specs/App.antt`, a case in `specs/Request.antt`, a call in `app`, a function in `values`, and in the proofs a line in `Added.antt`
+//! and in each lemma by forms of `Forms.antt`, `Top.antt` and `Requests.antt`.
 #![tactic(auto)]
 
 ghost use Rattle.std.specs.Prelude.{◌≡◌, ◌≢◌, [], All, IfOk, MatchOption, map, string_bytes};

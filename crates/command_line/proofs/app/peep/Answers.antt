@@ -4,14 +4,13 @@ use Rattle.command_line.proofs.app.peep.Goals as goal
 
 pub returns : goal.returns
 returns c =
-    let first = form_added _ _ _ _ rewrites c.in_ok-command.ensures c.in_ok-rewrite.ensures.own c.in_ok-rewrite.ensures.app c.bare-command.ensures in
-    let second = form_added _ _ _ _ audits c.in_ok-command-2.ensures c.in_ok-audit.ensures.own c.in_ok-audit.ensures.app first in
-    let third = form_added _ _ _ _ learns c.in_ok-command-3.ensures c.in_ok-learn.ensures.own c.in_ok-learn.ensures.app second in
-    let fourth = form_added _ _ _ _ exports c.in_ok-command-4.ensures c.in_ok-export.ensures.own c.in_ok-export.ensures.app third in
-    let fifth = form_added _ _ _ _ traces c.in_ok-command-5.ensures c.in_ok-trace.ensures.own c.in_ok-trace.ensures.app fourth in
-    let sixth = form_added _ _ _ _ demos c.in_ok-command-6.ensures c.in_ok-demo.ensures.own c.in_ok-demo.ensures.app fifth in
-    let seventh = form_added _ _ _ _ upgrades c.in_ok-command-7.ensures c.in_ok-upgrade.ensures.own c.in_ok-upgrade.ensures.app sixth in
-    let eighth = form_added _ _ _ _ trims c.in_ok-command-8.ensures c.in_ok-trim.ensures.own c.in_ok-trim.ensures.app seventh in
-    let ninth = form_added _ _ _ _ tidies c.in_ok-command-9.ensures c.in_ok-tidy.ensures.own c.in_ok-tidy.ensures.app eighth in
-    let tenth = form_added _ _ _ _ generalises c.in_ok-command-10.ensures c.in_ok-generalise.ensures.own c.in_ok-generalise.ensures.app ninth in
-    all_added _ tenth
+    let first = form_added _ _ _ rewrites c.in_ok-program.ensures c.bare-program.ensures in
+    let second = form_added _ _ _ audits c.in_ok-program-2.ensures first in
+    let third = form_added _ _ _ learns c.in_ok-program-3.ensures second in
+    let fourth = form_added _ _ _ exports c.in_ok-program-4.ensures third in
+    let fifth = form_added _ _ _ traces c.in_ok-program-5.ensures fourth in
+    let sixth = form_added _ _ _ demos c.in_ok-program-6.ensures fifth in
+    let seventh = form_added _ _ _ upgrades c.in_ok-program-7.ensures sixth in
+    let eighth = form_added _ _ _ trims c.in_ok-program-8.ensures seventh in
+    let ninth = form_added _ _ _ tidies c.in_ok-program-9.ensures eighth in
+    all_added _ _ c.with_command-10.ensures ninth
