@@ -150,6 +150,5 @@ pub(crate) fn emit(
     while !lines.is_at_end() {
         passed = emit_line(alloc, &mut lines, &mut new, passed, stands, kept)?;
     }
-    let emitted = lines.into_emitted()?;
-    Ok(emitted)
+    lines.into_emitted()
 }
