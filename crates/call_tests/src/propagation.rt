@@ -15,8 +15,7 @@ fn three_variables(alloc: Global) -> Result<Arena, Memory>
     ensures known { IfOk result IsKnown }
     ensures size { IfOk result (λ a. length a.chains ≡ 6) }
 {
-    let arena = Arena::new(alloc, 3)?;
-    Ok(arena)
+    Arena::new(alloc, 3)
 }
 
 /// Adds a clause that watches its first two literals.
