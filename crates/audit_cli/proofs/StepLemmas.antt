@@ -59,9 +59,9 @@ pub ok_so : {A E : Type 0} (r : Result A E) (P Q : A → Type 0) → IfOk r P �
 ok_so {A} {E} (Ok a) P Q h f = f a h
 ok_so {A} {E} (Err e) P Q h f = h
 
--- and by what was said of the answer that it was made of
-pub worked_so : {A E F : Type 0} (made : Result A F) (r : Result A E) (P Q : A → Type 0) → IfOk r (λ o. made ≡ Ok o) → IfOk made P → ((a : A) → P a → Q a) → IfOk r Q
-worked_so made r P Q is p f = ok_so r (λ o. made ≡ Ok o) Q is (λ a e. f a (subst (λ x. IfOk x P) e p))
+-- and what holds of the refusal's line, of an answer that is it
+pub refused_ok : {A E : Type 0} (view : A → Outcome) (P : Outcome → Type 0) (r : Refusal) (x : Result A E) → IfOk x (λ o. view o ≡ Refuses (refusal_line r)) → P (Refuses (refusal_line r)) → IfOk x (λ o. P (view o))
+refused_ok view P r x e h = ok_so x (λ o. view o ≡ Refuses (refusal_line r)) (λ o. P (view o)) e (λ o is. refused_so P r (view o) is h)
 
 -- what a step answered, with a view of what it made
 

@@ -48,10 +48,7 @@ fn outcome<L: Ledger>(
     ensures { IfOk result (λ o. Audits text.now (outcome_view o)) }
 {
     match read_audited(alloc, text, steps)? {
-        Err(refusal) => {
-            let outcome = refused(alloc, refusal)?;
-            Ok(outcome)
-        }
+        Err(refusal) => refused(alloc, refusal),
         Ok(audited) => {
             let lines = audited_report(alloc, &audited)?;
             let outcome = prints(alloc, lines);

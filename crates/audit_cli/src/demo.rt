@@ -115,9 +115,7 @@ fn audited_again<L: Ledger>(
     requires accepted { IsAccepted (table_of table.now) }
     ensures { IfOk result (λ a. table_of a ≡ table_of table.now) }
 {
-    let Ok(text) = write_table(alloc, table) else {
-        return Err(AllocError);
-    };
+    let text = write_table(alloc, table)?;
     match read_audited(alloc, &text, steps)? {
         Err(_) => unreachable!(),
         Ok(audited) => Ok(audited),
@@ -165,8 +163,7 @@ fn rewriting_report<L: Ledger>(
                 after: instruction_count(listing.lines()),
             };
             let bytes = image(alloc, &listing)?;
-            let lines = report_image(alloc, counts, bytes.len() as u64)?;
-            Ok(lines)
+            report_image(alloc, counts, bytes.len() as u64)
         }
     }
 }
@@ -204,10 +201,7 @@ fn outcome<L: Ledger>(
 {
     let listing = demo_listing(alloc, windows)?;
     match learnt(alloc, &listing, settings(), steps)? {
-        Err(refusal) => {
-            let outcome = refused(alloc, refusal)?;
-            Ok(outcome)
-        }
+        Err(refusal) => refused(alloc, refusal),
         Ok(table) => {
             let lines = told(alloc, windows, listing, &table, steps)?;
             Ok(prints(alloc, lines))

@@ -1,5 +1,5 @@
 //! The command `export`: the formula of an entry or a family of a table, and its proof.
-ghost use Rattle.std.specs.Prelude.{◌≡◌, ◌<◌, ℕ, List, IfOk, Ok, length, map};
+ghost use Rattle.std.specs.Prelude.{◌≡◌, ◌<◌, ℕ, List, IfOk, length, map};
 ghost use Rattle.lrat_check.specs.Text.{content_of};
 ghost use Rattle.rule_table.specs.Refused.{IsText};
 ghost use Rattle.rule_table.specs.Views.{family_of, header_in, rule_of, table_of};
@@ -17,7 +17,7 @@ ghost use Rattle.audit_cli.specs.Commands.{export_arguments_of};
 use crate::printing::{formula_report, keeps_two};
 use crate::refusal::{Refusal, refused};
 use crate::steps::read_rules;
-use cnf_gates::{Formula, Memory, write_dimacs};
+use cnf_gates::{Formula, write_dimacs};
 use command_runs::Outcome;
 use lrat_check::{Line, write_line};
 use rule_table::{Entry, Family, Table};
@@ -38,7 +38,7 @@ pub(crate) struct Export<'a> {
 }
 
 /// The lines of a proof, each with its newline.
-fn proof_text(alloc: Global, lines: &[Line]) -> Result<Vec<u8>, Memory>
+fn proof_text(alloc: Global, lines: &[Line]) -> Result<Vec<u8>, AllocError>
     ensures { IfOk result (λ v. v.items ≡ proof_text (map content_of lines.now)) }
 {
     let mut text = Vec::new(alloc);
@@ -55,7 +55,7 @@ fn formula_outcome(
     to: &Export<'_>,
     formula: &Formula,
     proof: &[Line],
-) -> Result<Outcome, Memory>
+) -> Result<Outcome, AllocError>
     ensures { IfOk result (λ o. outcome_view o ≡ exported (export_arguments_of to.now) formula.now (map content_of proof.now)) }
 {
     let cnf = write_dimacs(alloc, formula)?;
@@ -66,8 +66,7 @@ fn formula_outcome(
         formula.clauses(),
         proof.len() as u64,
     )?;
-    let outcome = keeps_two(alloc, to.cnf, cnf, to.lrat, lrat, lines)?;
-    Ok(outcome)
+    keeps_two(alloc, to.cnf, cnf, to.lrat, lrat, lines)
 }
 
 /// What is kept and printed of an entry whose sides fit.
@@ -76,7 +75,7 @@ fn fit_entry(
     to: &Export<'_>,
     table: &Table,
     entry: &Entry,
-) -> Result<Outcome, Memory>
+) -> Result<Outcome, AllocError>
     requires { HasFormula (header_in table.now) (rule_of entry.now) }
     ensures { IfOk result (λ o. outcome_view o ≡ exported (export_arguments_of to.now) (formula_of (header_in table.now) (rule_of entry.now)) (rule_of entry.now).proof) }
 {
@@ -91,23 +90,13 @@ fn fit_family(
     table: &Table,
     family: &Family,
     entry: &Entry,
-) -> Result<Outcome, Memory>
+) -> Result<Outcome, AllocError>
     requires entry { HasFormula (header_in table.now) (rule_of entry.now) }
     requires raisable { IsRaisable table.now.pool (family_of family.now) entry.now.left }
     ensures { IfOk result (λ o. outcome_view o ≡ exported (export_arguments_of to.now) (raised_formula (header_in table.now) (family_of family.now) (rule_of entry.now)) (family_of family.now).proof) }
 {
     let formula = family_formula(alloc, table, family, entry)?;
     formula_outcome(alloc, to, &formula, &family.proof)
-}
-
-/// The outcome of work that wants no more than memory.
-fn worked(outcome: Result<Outcome, Memory>) -> Result<Outcome, AllocError>
-    ensures { IfOk result (λ o. outcome ≡ Ok o) }
-{
-    match outcome {
-        Err(_) => Err(AllocError),
-        Ok(outcome) => Ok(outcome),
-    }
 }
 
 /// The refusal of an entry for its sides.
@@ -135,7 +124,7 @@ fn entry_outcome(
     if !sides_fit(table, entry) {
         return unfit(alloc, to.entry);
     }
-    worked(fit_entry(alloc, to, table, entry))
+    fit_entry(alloc, to, table, entry)
 }
 
 /// The refusal of a family that can't be raised.
@@ -171,7 +160,7 @@ fn family_outcome(
     if !is_raisable(&table.pool, family, &entry.left) {
         return unraisable(alloc, to, table);
     }
-    worked(fit_family(alloc, to, table, family, entry))
+    fit_family(alloc, to, table, family, entry)
 }
 
 /// What a table comes to.
@@ -192,14 +181,8 @@ fn outcome(alloc: Global, to: &Export<'_>, text: &[u8]) -> Result<Outcome, Alloc
     ensures { IfOk result (λ o. Exports (export_arguments_of to.now) text.now (outcome_view o)) }
 {
     match read_rules(alloc, text)? {
-        Err(refusal) => {
-            let outcome = refused(alloc, refusal)?;
-            Ok(outcome)
-        }
-        Ok(table) => {
-            let outcome = table_outcome(alloc, to, &table)?;
-            Ok(outcome)
-        }
+        Err(refusal) => refused(alloc, refusal),
+        Ok(table) => table_outcome(alloc, to, &table),
     }
 }
 

@@ -98,19 +98,12 @@ fn outcome<L: Ledger>(
     ensures { IfOk result (λ o. Generalises to.now.out.now (wanted_by to.now) text.now (outcome_view o)) }
 {
     match read_audited(alloc, text, steps)? {
-        Err(refusal) => {
-            let outcome = refused(alloc, refusal)?;
-            Ok(outcome)
-        }
+        Err(refusal) => refused(alloc, refusal),
         Ok(audited) => match raises(alloc, to, audited, steps)? {
-            Err(refusal) => {
-                let outcome = refused(alloc, refusal)?;
-                Ok(outcome)
-            }
+            Err(refusal) => refused(alloc, refusal),
             Ok(table) => {
                 let lines = last_report(alloc, &table)?;
-                let outcome = kept(alloc, to.out, &table, lines)?;
-                Ok(outcome)
+                kept(alloc, to.out, &table, lines)
             }
         },
     }

@@ -67,8 +67,7 @@ fn kept(alloc: Global, out: &str, table: &Table) -> Result<Outcome, AllocError>
 {
     let text = write_table(alloc, table)?;
     let lines = table_report(alloc, table)?;
-    let outcome = keeps_text(alloc, out, text, lines)?;
-    Ok(outcome)
+    keeps_text(alloc, out, text, lines)
 }
 
 /// What a listing comes to.
@@ -82,14 +81,8 @@ fn listing_outcome<L: Ledger>(
 {
     let settings = settings(to);
     match learnt(alloc, listing, settings, steps)? {
-        Err(refusal) => {
-            let outcome = refused(alloc, refusal)?;
-            Ok(outcome)
-        }
-        Ok(table) => match kept(alloc, to.out, &table) {
-            Err(_) => Err(AllocError),
-            Ok(outcome) => Ok(outcome),
-        },
+        Err(refusal) => refused(alloc, refusal),
+        Ok(table) => kept(alloc, to.out, &table),
     }
 }
 
@@ -103,14 +96,8 @@ fn outcome<L: Ledger>(
     ensures { IfOk result (λ o. Learns (learn_arguments_of to.now) text.now (outcome_view o)) }
 {
     match read_listing(alloc, text)? {
-        Err(refusal) => {
-            let outcome = refused(alloc, refusal)?;
-            Ok(outcome)
-        }
-        Ok(listing) => {
-            let outcome = listing_outcome(alloc, to, &listing, steps)?;
-            Ok(outcome)
-        }
+        Err(refusal) => refused(alloc, refusal),
+        Ok(listing) => listing_outcome(alloc, to, &listing, steps),
     }
 }
 

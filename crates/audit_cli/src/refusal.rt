@@ -1,8 +1,8 @@
 //! Why a run is refused, and the one line that tells it.
-ghost use Rattle.std.specs.Prelude.{◌≡◌, IfOk};
+ghost use Rattle.std.specs.Prelude.{◌≡◌, ◌++◌, IfOk};
 ghost use Rattle.command_runs.specs.Outcomes.{outcome_view};
 ghost use Rattle.command_runs.specs.Plans.{Refuses};
-ghost use Rattle.audit_cli.specs.Printed.{family_words, fault_words, kind_number, refusal_line};
+ghost use Rattle.audit_cli.specs.Printed.{and_number, family_words, fault_words, kind_number, printed, refusal_line};
 
 use command_runs::Outcome;
 use listing_parser::ListingFault;
@@ -55,28 +55,23 @@ fn kind_number(kind: ListingFault) -> u8
     kind as u8
 }
 
-/// `refused table LINE`
-fn table_line(alloc: Global, line: u64) -> Result<Vec<u8>, AllocError>
-    ensures { IfOk result (λ v. v.items ≡ refusal_line (Refusal.Table line)) }
+/// These words, a number and a newline.
+fn with_number(alloc: Global, words: &str, number: u64) -> Result<Vec<u8>, AllocError>
+    ensures { IfOk result (λ v. v.items ≡ printed (words.now ++ and_number number)) }
 {
-    let text = format!(in alloc; "refused table {line}\n")?;
+    let text = format!(in alloc; "{words} {number}\n")?;
     Ok(text.into_bytes())
 }
 
-/// `refused states PLACE`
-fn states_line(alloc: Global, place: u64) -> Result<Vec<u8>, AllocError>
-    ensures { IfOk result (λ v. v.items ≡ refusal_line (Refusal.States place)) }
+/// These words, a number, what is told of it and a newline.
+fn with_fault(alloc: Global, words: &str, number: u64, fault: &[u8]) -> Result<Vec<u8>, AllocError>
+    ensures { IfOk result (λ v. v.items ≡ printed (words.now ++ and_number number ++ fault.now)) }
 {
-    let text = format!(in alloc; "refused states {place}\n")?;
-    Ok(text.into_bytes())
-}
-
-/// `refused wide COUNT`
-fn wide_line(alloc: Global, count: u64) -> Result<Vec<u8>, AllocError>
-    ensures { IfOk result (λ v. v.items ≡ refusal_line (Refusal.Wide count)) }
-{
-    let text = format!(in alloc; "refused wide {count}\n")?;
-    Ok(text.into_bytes())
+    let text = format!(in alloc; "{words} {number}")?;
+    let mut line = text.into_bytes();
+    line.extend_from_slice(fault)?;
+    line.push(b'\n')?;
+    Ok(line)
 }
 
 /// The number of a fault, and what it tells: ` 1`, ` 2 LINE`, ` 3`, ` 4 SEQUENCE` or ` 5 SEQUENCE`.
@@ -93,18 +88,6 @@ fn fault_words(alloc: Global, fault: EntryFault) -> Result<Vec<u8>, AllocError>
     Ok(text.into_bytes())
 }
 
-/// `refused entry NUMBER KIND ..`
-fn entry_line(alloc: Global, number: u64, fault: EntryFault) -> Result<Vec<u8>, AllocError>
-    ensures { IfOk result (λ v. v.items ≡ refusal_line (Refusal.Entry number fault)) }
-{
-    let text = format!(in alloc; "refused entry {number}")?;
-    let mut line = text.into_bytes();
-    let words = fault_words(alloc, fault)?;
-    line.extend_from_slice(&words)?;
-    line.push(b'\n')?;
-    Ok(line)
-}
-
 /// The number of a kind, and what it tells: ` 1`, ` 2 LINE` or ` 3`.
 fn family_words(alloc: Global, kind: FamilyKind) -> Result<Vec<u8>, AllocError>
     ensures { IfOk result (λ v. v.items ≡ family_words kind) }
@@ -115,25 +98,6 @@ fn family_words(alloc: Global, kind: FamilyKind) -> Result<Vec<u8>, AllocError>
         FamilyKind::Unfinished => format!(in alloc; " 3")?,
     };
     Ok(text.into_bytes())
-}
-
-/// `refused family NUMBER KIND ..`
-fn family_line(alloc: Global, number: u64, kind: FamilyKind) -> Result<Vec<u8>, AllocError>
-    ensures { IfOk result (λ v. v.items ≡ refusal_line (Refusal.Family number kind)) }
-{
-    let text = format!(in alloc; "refused family {number}")?;
-    let mut line = text.into_bytes();
-    let words = family_words(alloc, kind)?;
-    line.extend_from_slice(&words)?;
-    line.push(b'\n')?;
-    Ok(line)
-}
-
-/// `refused number`
-fn number_line(alloc: Global) -> Result<Vec<u8>, AllocError>
-    ensures { IfOk result (λ v. v.items ≡ refusal_line Refusal.Number) }
-{
-    b"refused number\n".to_vec(alloc)
 }
 
 /// `refused listing LINE KIND`
@@ -161,90 +125,32 @@ fn align_line(alloc: Global, line: u64, address: u64) -> Result<Vec<u8>, AllocEr
     Ok(text.into_bytes())
 }
 
-/// `refused label`
-fn label_line(alloc: Global) -> Result<Vec<u8>, AllocError>
-    ensures { IfOk result (λ v. v.items ≡ refusal_line Refusal.Label) }
-{
-    b"refused label\n".to_vec(alloc)
-}
-
-/// `refused address LINE`
-fn address_line(alloc: Global, line: u64) -> Result<Vec<u8>, AllocError>
-    ensures { IfOk result (λ v. v.items ≡ refusal_line (Refusal.Address line)) }
-{
-    let text = format!(in alloc; "refused address {line}\n")?;
-    Ok(text.into_bytes())
-}
-
-/// `refused inside LINE`
-fn inside_line(alloc: Global, line: u64) -> Result<Vec<u8>, AllocError>
-    ensures { IfOk result (λ v. v.items ≡ refusal_line (Refusal.Inside line)) }
-{
-    let text = format!(in alloc; "refused inside {line}\n")?;
-    Ok(text.into_bytes())
-}
-
-/// `refused full BYTES`
-fn full_line(alloc: Global, bytes: u64) -> Result<Vec<u8>, AllocError>
-    ensures { IfOk result (λ v. v.items ≡ refusal_line (Refusal.Full bytes)) }
-{
-    let text = format!(in alloc; "refused full {bytes}\n")?;
-    Ok(text.into_bytes())
-}
-
-/// `refused costs LINE`
-fn costs_line(alloc: Global, line: u64) -> Result<Vec<u8>, AllocError>
-    ensures { IfOk result (λ v. v.items ≡ refusal_line (Refusal.Costs line)) }
-{
-    let text = format!(in alloc; "refused costs {line}\n")?;
-    Ok(text.into_bytes())
-}
-
-/// `refused symbol 1`
-fn symbol_line(alloc: Global) -> Result<Vec<u8>, AllocError>
-    ensures { IfOk result (λ v. v.items ≡ refusal_line Refusal.Symbol) }
-{
-    b"refused symbol 1\n".to_vec(alloc)
-}
-
-/// `refused symbol 2 VALUE`
-fn differ_line(alloc: Global, value: u8) -> Result<Vec<u8>, AllocError>
-    ensures { IfOk result (λ v. v.items ≡ refusal_line (Refusal.Differ value)) }
-{
-    let text = format!(in alloc; "refused symbol 2 {value}\n")?;
-    Ok(text.into_bytes())
-}
-
-/// `refused symbol 3 BUDGET`
-fn spent_line(alloc: Global, budget: u32) -> Result<Vec<u8>, AllocError>
-    ensures { IfOk result (λ v. v.items ≡ refusal_line (Refusal.Spent budget)) }
-{
-    let text = format!(in alloc; "refused symbol 3 {budget}\n")?;
-    Ok(text.into_bytes())
-}
-
 /// The line that tells a refusal.
 fn refusal_line(alloc: Global, refusal: Refusal) -> Result<Vec<u8>, AllocError>
     ensures { IfOk result (λ v. v.items ≡ refusal_line refusal) }
 {
     match refusal {
-        Refusal::Table { line } => table_line(alloc, line),
-        Refusal::States { place } => states_line(alloc, place),
-        Refusal::Wide { count } => wide_line(alloc, count),
-        Refusal::Entry { number, fault } => entry_line(alloc, number, fault),
-        Refusal::Family { number, kind } => family_line(alloc, number, kind),
-        Refusal::Number => number_line(alloc),
+        Refusal::Table { line } => with_number(alloc, "refused table", line),
+        Refusal::States { place } => with_number(alloc, "refused states", place),
+        Refusal::Wide { count } => with_number(alloc, "refused wide", count),
+        Refusal::Entry { number, fault } => {
+            with_fault(alloc, "refused entry", number, &fault_words(alloc, fault)?)
+        }
+        Refusal::Family { number, kind } => {
+            with_fault(alloc, "refused family", number, &family_words(alloc, kind)?)
+        }
+        Refusal::Number => b"refused number\n".to_vec(alloc),
         Refusal::Listing { line, kind } => listing_line(alloc, line, kind),
         Refusal::Range { line, distance } => range_line(alloc, line, distance),
         Refusal::Align { line, address } => align_line(alloc, line, address),
-        Refusal::Label => label_line(alloc),
-        Refusal::Address { line } => address_line(alloc, line),
-        Refusal::Inside { line } => inside_line(alloc, line),
-        Refusal::Full { bytes } => full_line(alloc, bytes),
-        Refusal::Costs { line } => costs_line(alloc, line),
-        Refusal::Symbol => symbol_line(alloc),
-        Refusal::Differ { value } => differ_line(alloc, value),
-        Refusal::Spent { budget } => spent_line(alloc, budget),
+        Refusal::Label => b"refused label\n".to_vec(alloc),
+        Refusal::Address { line } => with_number(alloc, "refused address", line),
+        Refusal::Inside { line } => with_number(alloc, "refused inside", line),
+        Refusal::Full { bytes } => with_number(alloc, "refused full", bytes),
+        Refusal::Costs { line } => with_number(alloc, "refused costs", line),
+        Refusal::Symbol => b"refused symbol 1\n".to_vec(alloc),
+        Refusal::Differ { value } => with_number(alloc, "refused symbol 2", u64::from(value)),
+        Refusal::Spent { budget } => with_number(alloc, "refused symbol 3", u64::from(budget)),
     }
 }
 

@@ -17,7 +17,7 @@ use crate::steps::{
 };
 use command_line::Base;
 use command_runs::Outcome;
-use listing_parser::{Listing, Memory, print};
+use listing_parser::{Listing, print};
 use std::alloc::{AllocError, Global};
 use step_ledger::{Ledger, Steps};
 use table_audit::Audited;
@@ -44,13 +44,12 @@ fn keeps_listing(
     out: &str,
     listing: &Listing,
     counts: Counts,
-) -> Result<Outcome, Memory>
+) -> Result<Outcome, AllocError>
     ensures { IfOk result (λ o. outcome_view o ≡ Does ((out.now, text_of_lines listing.now) ∷ []) (report_of counts.replaced counts.before counts.after)) }
 {
     let text = print(alloc, listing)?;
     let lines = report(alloc, counts.replaced, counts.before, counts.after)?;
-    let outcome = keeps_text(alloc, out, text, lines)?;
-    Ok(outcome)
+    keeps_text(alloc, out, text, lines)
 }
 
 /// A listing is kept, and then its image.
@@ -60,13 +59,12 @@ fn keeps_both(
     listing: &Listing,
     image: Vec<u8>,
     counts: Counts,
-) -> Result<Outcome, Memory>
+) -> Result<Outcome, AllocError>
     ensures { IfOk result (λ o. outcome_view o ≡ Does ((to.now.out.now, text_of_lines listing.now) ∷ (to.now.image.now, image.items) ∷ []) (report_of counts.replaced counts.before counts.after ++ image_line (length image.items))) }
 {
     let text = print(alloc, listing)?;
     let lines = report_image(alloc, counts, image.len() as u64)?;
-    let outcome = keeps_two(alloc, to.out, text, to.image, image, lines)?;
-    Ok(outcome)
+    keeps_two(alloc, to.out, text, to.image, image, lines)
 }
 
 /// What a rewritten listing comes to.
@@ -81,20 +79,11 @@ fn left(
     ensures { IfOk result (λ o. Leaves (destination_of to.now) listing.now (counts_of counts) (outcome_view o)) }
 {
     if is_no_image(to.image) {
-        return match keeps_listing(alloc, to.out, listing, counts) {
-            Err(_) => Err(AllocError),
-            Ok(outcome) => Ok(outcome),
-        };
+        return keeps_listing(alloc, to.out, listing, counts);
     }
     match image_of(alloc, listing, to.base.address)? {
-        Err(refusal) => {
-            let outcome = refused(alloc, refusal)?;
-            Ok(outcome)
-        }
-        Ok(image) => match keeps_both(alloc, to, listing, image, counts) {
-            Err(_) => Err(AllocError),
-            Ok(outcome) => Ok(outcome),
-        },
+        Err(refusal) => refused(alloc, refusal),
+        Ok(image) => keeps_both(alloc, to, listing, image, counts),
     }
 }
 
@@ -113,10 +102,7 @@ fn lines_outcome<L: Ledger>(
     let before = instruction_count(listing.lines());
     match window_rewrite::rewrite(alloc, table, listing, to.base.address, steps) {
         Err(RewriteError::Memory) => Err(AllocError),
-        Err(RewriteError::Line { number, kind }) => {
-            let outcome = refused(alloc, unlaid(number, kind))?;
-            Ok(outcome)
-        }
+        Err(RewriteError::Line { number, kind }) => refused(alloc, unlaid(number, kind)),
         Ok(
             Rewritten {
                 listing,
@@ -128,8 +114,7 @@ fn lines_outcome<L: Ledger>(
                 before,
                 after: instruction_count(listing.lines()),
             };
-            let outcome = left(alloc, to, &listing, counts)?;
-            Ok(outcome)
+            left(alloc, to, &listing, counts)
         }
     }
 }
@@ -146,14 +131,8 @@ fn text_outcome<L: Ledger>(
     ensures { IfOk result (λ o. Rewrites (destination_of to.now) (table_of table.now) text.now (outcome_view o)) }
 {
     match read_listing(alloc, text)? {
-        Err(refusal) => {
-            let outcome = refused(alloc, refusal)?;
-            Ok(outcome)
-        }
-        Ok(listing) => {
-            let outcome = lines_outcome(alloc, to, table, listing, steps)?;
-            Ok(outcome)
-        }
+        Err(refusal) => refused(alloc, refusal),
+        Ok(listing) => lines_outcome(alloc, to, table, listing, steps),
     }
 }
 
@@ -168,14 +147,8 @@ fn outcome<L: Ledger>(
     ensures { IfOk result (λ o. Comes (destination_of to.now) table.now listing.now (outcome_view o)) }
 {
     match read_audited(alloc, table, steps)? {
-        Err(refusal) => {
-            let outcome = refused(alloc, refusal)?;
-            Ok(outcome)
-        }
-        Ok(audited) => {
-            let outcome = text_outcome(alloc, to, &audited, listing, steps)?;
-            Ok(outcome)
-        }
+        Err(refusal) => refused(alloc, refusal),
+        Ok(audited) => text_outcome(alloc, to, &audited, listing, steps),
     }
 }
 

@@ -180,9 +180,7 @@ pub(crate) fn learnt<L: Ledger>(
     requires { AreInLimits (settings_of settings) }
     ensures { IfOk result (λ r. Teach (settings_of settings) listing.now (result_map_both table_of (λ e. e) r)) }
 {
-    let Ok(windows) = harvest(alloc, listing, &settings, steps) else {
-        return Err(AllocError);
-    };
+    let windows = harvest(alloc, listing, &settings, steps)?;
     match table_learn::learn(alloc, windows, settings, steps) {
         Err(LearnError::Memory) => Err(AllocError),
         Err(LearnError::Wide(count)) => Ok(Err(Refusal::Wide { count })),

@@ -36,13 +36,10 @@ fn kept(
 ) -> Result<Outcome, AllocError>
     ensures { IfOk result (λ o. outcome_view o ≡ Does ((out.now, text_of_lines listing.now) ∷ []) (tidied_report changes before (instruction_count listing.now))) }
 {
-    let Ok(text) = print(alloc, listing) else {
-        return Err(AllocError);
-    };
+    let text = print(alloc, listing)?;
     let after = instruction_count(listing.lines());
     let lines = tidied_report(alloc, changes, before, after)?;
-    let outcome = keeps_text(alloc, out, text, lines)?;
-    Ok(outcome)
+    keeps_text(alloc, out, text, lines)
 }
 
 /// What the lines of a listing come to.
@@ -58,14 +55,8 @@ fn lines_outcome<L: Ledger>(
     let before = instruction_count(listing.lines());
     match flow_tidy::tidy(alloc, listing, to.base.address, steps) {
         Err(TidyError::Memory) => Err(AllocError),
-        Err(TidyError::Line { number, kind }) => {
-            let outcome = refused(alloc, unlaid(number, kind))?;
-            Ok(outcome)
-        }
-        Ok(tidied) => {
-            let outcome = kept(alloc, to.out, &tidied.listing, tidied.changes, before)?;
-            Ok(outcome)
-        }
+        Err(TidyError::Line { number, kind }) => refused(alloc, unlaid(number, kind)),
+        Ok(tidied) => kept(alloc, to.out, &tidied.listing, tidied.changes, before),
     }
 }
 
@@ -79,14 +70,8 @@ fn outcome<L: Ledger>(
     ensures { IfOk result (λ o. Tidies to.now.base.address to.now.out.now text.now (outcome_view o)) }
 {
     match read_listing(alloc, text)? {
-        Err(refusal) => {
-            let outcome = refused(alloc, refusal)?;
-            Ok(outcome)
-        }
-        Ok(listing) => {
-            let outcome = lines_outcome(alloc, to, listing, steps)?;
-            Ok(outcome)
-        }
+        Err(refusal) => refused(alloc, refusal),
+        Ok(listing) => lines_outcome(alloc, to, listing, steps),
     }
 }
 

@@ -61,19 +61,10 @@ fn listing_outcome(
     ensures { IfOk result (λ o. LinesTrace (trace_arguments_of trace.now) listing.now (outcome_view o)) }
 {
     match lay_out(alloc, listing, 0)? {
-        Err(refusal) => {
-            let outcome = refused(alloc, refusal)?;
-            Ok(outcome)
-        }
+        Err(refusal) => refused(alloc, refusal),
         Ok(laid) => match listing.place_of(trace.label.as_bytes()) {
-            None => {
-                let outcome = refused(alloc, Refusal::Label)?;
-                Ok(outcome)
-            }
-            Some(place) => {
-                let outcome = traced(alloc, trace, listing, &laid, place)?;
-                Ok(outcome)
-            }
+            None => refused(alloc, Refusal::Label),
+            Some(place) => traced(alloc, trace, listing, &laid, place),
         },
     }
 }
@@ -83,14 +74,8 @@ fn outcome(alloc: Global, trace: &Trace<'_>, text: &[u8]) -> Result<Outcome, All
     ensures { IfOk result (λ o. Traces (trace_arguments_of trace.now) text.now (outcome_view o)) }
 {
     match read_listing(alloc, text)? {
-        Err(refusal) => {
-            let outcome = refused(alloc, refusal)?;
-            Ok(outcome)
-        }
-        Ok(listing) => {
-            let outcome = listing_outcome(alloc, trace, &listing)?;
-            Ok(outcome)
-        }
+        Err(refusal) => refused(alloc, refusal),
+        Ok(listing) => listing_outcome(alloc, trace, &listing),
     }
 }
 

@@ -15,7 +15,6 @@ ghost use Rattle.audit_cli.specs.Trim.{IsTrimmedRule, IsTrimmedFamily, IsTrimmed
 use crate::printing::{keeps_text, trimmed_report};
 use crate::refusal::refused;
 use crate::steps::read_audited;
-use cnf_gates::Memory;
 use command_runs::Outcome;
 use rule_table::{Entry, Family, Table, write_table};
 use std::alloc::{AllocError, Global};
@@ -67,7 +66,7 @@ fn trimmed_entry<L: Ledger>(
     table: &Table,
     entry: Entry,
     steps: &mut Steps<L>,
-) -> Result<Entry, Memory>
+) -> Result<Entry, AllocError>
     requires formula { HasFormula (header_in table.now) (rule_of entry) }
     requires refutes { IsRefutation (codes_of (formula_of (header_in table.now) (rule_of entry)).clauses) (rule_of entry).proof }
     ensures { IfOk result (λ e. IsTrimmedRule (header_in table.now) (rule_of entry) (rule_of e)) }
@@ -96,7 +95,7 @@ fn trimmed_family<L: Ledger>(
     table: &Table,
     family: Family,
     steps: &mut Steps<L>,
-) -> Result<Family, Memory>
+) -> Result<Family, AllocError>
     requires { IsRaised (header_in table.now) (table_of table.now).rules (family_of family) }
     ensures { IfOk result (λ f. IsTrimmedFamily (header_in table.now) (table_of table.now).rules (family_of family) (family_of f)) }
 {
@@ -127,7 +126,7 @@ fn trimmed_families<L: Ledger>(
     table: &Table,
     families: Vec<Family>,
     steps: &mut Steps<L>,
-) -> Result<Vec<Family>, Memory>
+) -> Result<Vec<Family>, AllocError>
     requires { All (IsRaised (header_in table.now) (table_of table.now).rules) (map family_of families.items) }
     ensures { IfOk result (λ fs. AllZip (IsTrimmedFamily (header_in table.now) (table_of table.now).rules) (map family_of families.items) (map family_of fs.items)) }
 {
@@ -144,7 +143,7 @@ fn trimmed_table<L: Ledger>(
     alloc: Global,
     mut table: Table,
     steps: &mut Steps<L>,
-) -> Result<Table, Memory>
+) -> Result<Table, AllocError>
     requires { IsAccepted (table_of table) }
     ensures { IfOk result (λ t. IsTrimmedTable (table_of table) (table_of t)) }
 {
@@ -166,8 +165,7 @@ fn kept(alloc: Global, out: &str, table: &Table, before: u64) -> Result<Outcome,
     let text = write_table(alloc, table)?;
     let after = count_all(table);
     let lines = trimmed_report(alloc, before, after)?;
-    let outcome = keeps_text(alloc, out, text, lines)?;
-    Ok(outcome)
+    keeps_text(alloc, out, text, lines)
 }
 
 /// What an accepted table comes to.
@@ -182,13 +180,8 @@ fn table_outcome<L: Ledger>(
     ensures { IfOk result (λ o. IsTrimOf out.now (table_of table) (outcome_view o)) }
 {
     let before = count_all(&table);
-    match trimmed_table(alloc, table, steps) {
-        Err(_) => Err(AllocError),
-        Ok(trimmed) => {
-            let outcome = kept(alloc, out, &trimmed, before)?;
-            Ok(outcome)
-        }
-    }
+    let trimmed = trimmed_table(alloc, table, steps)?;
+    kept(alloc, out, &trimmed, before)
 }
 
 /// What a text comes to.
@@ -201,14 +194,8 @@ fn outcome<L: Ledger>(
     ensures { IfOk result (λ o. Trims out.now text.now (outcome_view o)) }
 {
     match read_audited(alloc, text, steps)? {
-        Err(refusal) => {
-            let outcome = refused(alloc, refusal)?;
-            Ok(outcome)
-        }
-        Ok(audited) => {
-            let outcome = table_outcome(alloc, out, audited.into_table(), steps)?;
-            Ok(outcome)
-        }
+        Err(refusal) => refused(alloc, refusal),
+        Ok(audited) => table_outcome(alloc, out, audited.into_table(), steps),
     }
 }
 

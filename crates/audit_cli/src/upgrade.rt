@@ -42,11 +42,9 @@ pub(crate) fn kept(
     let text = write_table(alloc, table)?;
     let bytes = text.len() as u64;
     if bytes > TEXT_LIMIT {
-        let outcome = refused(alloc, Refusal::Full { bytes })?;
-        return Ok(outcome);
+        return refused(alloc, Refusal::Full { bytes });
     }
-    let outcome = keeps_text(alloc, out, text, lines)?;
-    Ok(outcome)
+    keeps_text(alloc, out, text, lines)
 }
 
 /// What a text comes to.
@@ -59,15 +57,11 @@ fn outcome<L: Ledger>(
     ensures { IfOk result (λ o. Upgrades out.now text.now (outcome_view o)) }
 {
     match read_audited(alloc, text, steps)? {
-        Err(refusal) => {
-            let outcome = refused(alloc, refusal)?;
-            Ok(outcome)
-        }
+        Err(refusal) => refused(alloc, refusal),
         Ok(audited) => {
             let lines = audited_report(alloc, &audited)?;
             let table = upgraded(audited.into_table());
-            let outcome = kept(alloc, out, &table, lines)?;
-            Ok(outcome)
+            kept(alloc, out, &table, lines)
         }
     }
 }

@@ -3,13 +3,13 @@ use Rattle.rule_table.specs.Views.{table_of}
 use Rattle.command_runs.specs.Plans.{Does}
 use Rattle.command_runs.specs.Outcomes.{outcome_view}
 use Rattle.audit_cli.specs.Tables.{Audits, unaudited, accepted}
-use Rattle.audit_cli.proofs.StepLemmas.{is_audited, not_audited, refused_so}
+use Rattle.audit_cli.proofs.StepLemmas.{is_audited, not_audited, refused_ok}
 use Rattle.audit_cli.proofs.TableTexts.{opens_within}
 use Rattle.audit_cli.proofs.audit.outcome.Goals as goal
 
-pub returns-in_ok-outcome-in-Err : goal.returns-in_ok-outcome-in-Err
-returns-in_ok-outcome-in-Err g c =
-    refused_so (Audits c.args.text.now) c.in-Err.refusal (outcome_view c.in_ok-outcome-in-Err.outcome) c.in_ok-outcome-in-Err.ensures
+pub returns-in-Err : goal.returns-in-Err
+returns-in-Err g c =
+    refused_ok outcome_view (Audits c.args.text.now) c.in-Err.refusal c.refused.result c.refused.ensures
     (unaudited c.in-Err.refusal (not_audited table_of c.args.text.now c.in_ok-refusal.field-0 c.in-Err.refusal c.in_ok-refusal.ensures c.in-Err.is))
 
 pub returns-in_ok-lines-in-Ok : goal.returns-in_ok-lines-in-Ok

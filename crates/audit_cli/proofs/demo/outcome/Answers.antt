@@ -5,18 +5,18 @@ use Rattle.table_learn.specs.Given.{AreInLimits, settings_of}
 use Rattle.command_runs.specs.Outcomes.{outcome_view}
 use Rattle.audit_cli.specs.Learn.{IsLearnt, IsUnlearnt}
 use Rattle.audit_cli.proofs.LearnLemmas.{is_taught, not_taught}
+use Rattle.audit_cli.proofs.StepLemmas.{ok_so}
 use Rattle.audit_cli.proofs.DemoLemmas.{demo_limits, is_full, is_shown}
 use Rattle.audit_cli.proofs.demo.outcome.Goals as goal
 
 pub learnt-requires : goal.learnt-requires
 learnt-requires g c = subst AreInLimits (sym c.settings.ensures) demo_limits
 
-pub returns-in_ok-outcome-in-Err : goal.returns-in_ok-outcome-in-Err
-returns-in_ok-outcome-in-Err g c =
-    is_full c.args.windows c.in_ok-listing.listing c.in-Err.refusal (outcome_view c.in_ok-outcome-in-Err.outcome) c.in_ok-listing.ensures
+pub returns-in-Err : goal.returns-in-Err
+returns-in-Err g c =
+    ok_so c.refused.result _ _ c.refused.ensures (λ o is. is_full c.args.windows c.in_ok-listing.listing c.in-Err.refusal (outcome_view o) c.in_ok-listing.ensures
     (subst (λ (s : Settings). IsUnlearnt s c.in_ok-listing.listing c.in-Err.refusal) c.settings.ensures
-    (not_taught table_of (settings_of c.settings.result) c.in_ok-listing.listing c.in_ok-refusal.field-0 c.in-Err.refusal c.in_ok-refusal.ensures c.in-Err.is))
-    c.in_ok-outcome-in-Err.ensures
+    (not_taught table_of (settings_of c.settings.result) c.in_ok-listing.listing c.in_ok-refusal.field-0 c.in-Err.refusal c.in_ok-refusal.ensures c.in-Err.is)) is)
 
 pub told-requires : goal.told-requires
 told-requires g c = record {

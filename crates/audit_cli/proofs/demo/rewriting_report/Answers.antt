@@ -9,6 +9,7 @@ use Rattle.audit_cli.specs.Demo.{demo_text}
 use Rattle.audit_cli.specs.Rewrite.{instruction_count}
 use Rattle.audit_cli.proofs.WellFormed.{still_reads}
 use Rattle.audit_cli.proofs.MuteLines.{mute_flawless, mute_layable, rewritten_mute}
+use Rattle.audit_cli.proofs.StepLemmas.{ok_so}
 use Rattle.audit_cli.proofs.DemoLemmas.{is_rewriting_told, made_mute, none_some}
 use Rattle.audit_cli.proofs.demo.rewriting_report.Goals as goal
 
@@ -29,14 +30,14 @@ image-requires g c =
       flawless = mute_flawless 0 c.in-Ok.field-0.listing (rewritten_mute s c.args.listing made c.in-Ok.field-0.listing c.in-Ok.ensures.rewritten mute);
     }
 
-pub returns-in_ok-lines-in-Ok : goal.returns-in_ok-lines-in-Ok
-returns-in_ok-lines-in-Ok g c =
+pub returns-in_ok-bytes-in-Ok : goal.returns-in_ok-bytes-in-Ok
+returns-in_ok-bytes-in-Ok g c =
     let made = c.in-Ok.field-0.replacements.items in
     let each : length (map replacement_of made) ≡ length made = length-map made replacement_of in
     let taken = c.len.ensures in
     let replaced : c.len.result ≡ length (map replacement_of made) = search rules in
     let before : c.instruction_count-before.result ≡ instruction_count c.args.listing = c.instruction_count-before.ensures ∙ ap instruction_count c.lines.ensures in
     let after : c.instruction_count.result ≡ instruction_count c.in-Ok.field-0.listing = c.instruction_count.ensures ∙ ap instruction_count c.lines-in-Ok.ensures in
-    is_rewriting_told (table_of c.args.table.now) c.args.listing c.in-Ok.field-0.listing (map replacement_of made) c.in_ok-bytes-in-Ok.bytes.items
-    c.len.result c.instruction_count-before.result c.instruction_count.result _ c.in_ok-lines-in-Ok.lines.items
-    c.in-Ok.ensures.rewritten c.in_ok-bytes-in-Ok.ensures replaced before after (search rules) c.in_ok-lines-in-Ok.ensures
+    ok_so c.report_image.result _ _ c.report_image.ensures (λ o is. is_rewriting_told (table_of c.args.table.now) c.args.listing c.in-Ok.field-0.listing (map replacement_of made) c.in_ok-bytes-in-Ok.bytes.items
+    c.len.result c.instruction_count-before.result c.instruction_count.result _ o.items
+    c.in-Ok.ensures.rewritten c.in_ok-bytes-in-Ok.ensures replaced before after (search rules) is)

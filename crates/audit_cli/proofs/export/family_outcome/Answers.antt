@@ -4,7 +4,7 @@ use Rattle.rule_table.specs.Views.{rule_of, family_of, table_of}
 use Rattle.table_audit.specs.Families.{entry_of}
 use Rattle.audit_cli.specs.Commands.{export_arguments_of}
 use Rattle.audit_cli.specs.Tables.{ExportsFamily, raises_none, raises_unfit, unraisable, raised}
-use Rattle.audit_cli.proofs.StepLemmas.{ok_so, worked_so}
+use Rattle.audit_cli.proofs.StepLemmas.{ok_so}
 use Rattle.audit_cli.proofs.export.family_outcome.Goals as goal
 
 pub returns-in_default : goal.returns-in_default
@@ -30,6 +30,6 @@ returns-then-not-is_raisable c =
 pub returns : goal.returns
 returns c =
     let at : entry_of (table_of c.args.table.now) (family_of c.args.family.now) ≡ Some (rule_of c.in-Some.entry.now) = sym c.entry_of.ensures ∙ ap (option_map (λ e. rule_of e.now)) c.in-Some.is in
-    worked_so c.fit_family.result c.worked.result _ _ c.worked.ensures c.fit_family.ensures (λ o is.
+    ok_so c.fit_family.result _ _ c.fit_family.ensures (λ o is.
     subst (ExportsFamily (export_arguments_of c.args.to.now) (table_of c.args.table.now) (family_of c.args.family.now)) (sym is)
     (raised (rule_of c.in-Some.entry.now) at (c.sides_fit.ensures.fit.0 c.if-not-sides_fit.false) (c.is_raisable.ensures.0 c.if-not-is_raisable.false)))

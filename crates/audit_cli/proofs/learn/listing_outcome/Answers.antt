@@ -5,6 +5,7 @@ use Rattle.table_learn.specs.Given.{settings_of}
 use Rattle.command_runs.specs.Outcomes.{outcome_view}
 use Rattle.audit_cli.specs.Learn.{IsLearnt, IsUnlearnt}
 use Rattle.audit_cli.specs.Commands.{learn_arguments_of}
+use Rattle.audit_cli.proofs.StepLemmas.{ok_so}
 use Rattle.audit_cli.proofs.LearnLemmas.{is_learnt, is_taught, is_unlearnt, not_taught}
 use Rattle.audit_cli.proofs.learn.listing_outcome.Goals as goal
 
@@ -15,14 +16,12 @@ kept-requires g c =
 
 pub returns-in-Err : goal.returns-in-Err
 returns-in-Err g c =
-    is_unlearnt (learn_arguments_of c.args.to.now) c.args.listing.now c.in-Err.refusal (outcome_view c.in_ok-outcome-in-Err.outcome)
+    ok_so c.refused.result _ _ c.refused.ensures (λ o is. is_unlearnt (learn_arguments_of c.args.to.now) c.args.listing.now c.in-Err.refusal (outcome_view o)
     (subst (λ (s : Settings). IsUnlearnt s c.args.listing.now c.in-Err.refusal) c.settings-settings.ensures.same
-    (not_taught table_of (settings_of c.settings-settings.result) c.args.listing.now c.in_ok-refusal.field-0 c.in-Err.refusal c.in_ok-refusal.ensures c.in-Err.is))
-    c.in_ok-outcome-in-Err.ensures
+    (not_taught table_of (settings_of c.settings-settings.result) c.args.listing.now c.in_ok-refusal.field-0 c.in-Err.refusal c.in_ok-refusal.ensures c.in-Err.is)) is)
 
-pub returns : goal.returns
-returns g c =
-    is_learnt (learn_arguments_of c.args.to.now) c.args.listing.now (table_of c.in-Ok.table) (outcome_view c.in-Ok-kept.outcome)
+pub returns-in-Ok : goal.returns-in-Ok
+returns-in-Ok g c =
+    ok_so c.kept.result _ _ c.kept.ensures (λ o is. is_learnt (learn_arguments_of c.args.to.now) c.args.listing.now (table_of c.in-Ok.table) (outcome_view o)
     (subst (λ (s : Settings). IsLearnt s c.args.listing.now (table_of c.in-Ok.table)) c.settings-settings.ensures.same
-    (is_taught table_of (settings_of c.settings-settings.result) c.args.listing.now c.in_ok-refusal.field-0 c.in-Ok.table c.in_ok-refusal.ensures c.in-Ok.is))
-    c.in-Ok-kept.ensures
+    (is_taught table_of (settings_of c.settings-settings.result) c.args.listing.now c.in_ok-refusal.field-0 c.in-Ok.table c.in_ok-refusal.ensures c.in-Ok.is)) is)

@@ -1,13 +1,14 @@
 use Rattle.std.proofs.Common.{◌≡◌, ◌∙◌, rules, ap, ℕ}
 use Rattle.rule_table.specs.Views.{table_of}
 use Rattle.audit_cli.specs.Trim.{lines_in, trimmed_outcome}
+use Rattle.audit_cli.proofs.StepLemmas.{ok_so}
 use Rattle.audit_cli.proofs.trim.table_outcome.Goals as goal
 
-pub returns-in_ok-outcome-in-Ok : goal.returns-in_ok-outcome-in-Ok
-returns-in_ok-outcome-in-Ok g c =
+pub returns : goal.returns
+returns g c =
     let before : c.count_all-before.result ≡ lines_in (table_of c.args.table) = search rules in
-    record {
-      trimmed = table_of c.in-Ok.trimmed;
-      are = c.in-Ok.ensures;
-      is = c.in_ok-outcome-in-Ok.ensures ∙ ap (λ (n : ℕ). trimmed_outcome c.args.out.now (table_of c.in-Ok.trimmed) n) before;
-    }
+    ok_so c.kept.result _ _ c.kept.ensures (λ o is. record {
+      trimmed = table_of c.in_ok-trimmed.trimmed;
+      are = c.in_ok-trimmed.ensures;
+      is = is ∙ ap (λ (n : ℕ). trimmed_outcome c.args.out.now (table_of c.in_ok-trimmed.trimmed) n) before;
+    })

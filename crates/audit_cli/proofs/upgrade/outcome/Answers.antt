@@ -4,13 +4,13 @@ use Rattle.rule_table.specs.Table.{Table}
 use Rattle.rule_table.specs.Views.{table_of}
 use Rattle.command_runs.specs.Outcomes.{outcome_view}
 use Rattle.audit_cli.specs.Upgrade.{IsKept, Upgrades, unaudited, accepted, upgraded}
-use Rattle.audit_cli.proofs.StepLemmas.{is_audited, not_audited, refused_so}
+use Rattle.audit_cli.proofs.StepLemmas.{is_audited, not_audited, refused_ok, ok_so}
 use Rattle.audit_cli.proofs.TableTexts.{opens_within}
 use Rattle.audit_cli.proofs.upgrade.outcome.Goals as goal
 
-pub returns-in_ok-outcome-in-Err : goal.returns-in_ok-outcome-in-Err
-returns-in_ok-outcome-in-Err g c =
-    refused_so (Upgrades c.args.out.now c.args.text.now) c.in-Err.refusal (outcome_view c.in_ok-outcome-in-Err.outcome) c.in_ok-outcome-in-Err.ensures
+pub returns-in-Err : goal.returns-in-Err
+returns-in-Err g c =
+    refused_ok outcome_view (Upgrades c.args.out.now c.args.text.now) c.in-Err.refusal c.refused.result c.refused.ensures
     (unaudited c.in-Err.refusal (not_audited table_of c.args.text.now c.in_ok-refusal.field-0 c.in-Err.refusal c.in_ok-refusal.ensures c.in-Err.is))
 
 pub audited_report-requires : goal.audited_report-requires
@@ -21,11 +21,11 @@ audited_report-requires g c =
     let short : length c.args.text.now < 2 ^ 63 = search rules in
     omega arith
 
-pub returns-in_ok-outcome-in-Ok : goal.returns-in_ok-outcome-in-Ok
-returns-in_ok-outcome-in-Ok g c =
+pub returns-in_ok-lines-in-Ok : goal.returns-in_ok-lines-in-Ok
+returns-in_ok-lines-in-Ok g c =
     let t = table_of c.in-Ok.audited in
     let is = is_audited table_of c.args.text.now c.in_ok-refusal.field-0 c.in-Ok.audited c.in_ok-refusal.ensures c.in-Ok.is in
     let same : table_of c.upgraded-table.result ≡ upgraded t = c.upgraded-table.ensures ∙ ap (λ (h : Held). upgraded (table_of h)) c.into_table.ensures.value in
-    accepted t is (outcome_view c.in_ok-outcome-in-Ok.outcome)
-    (subst (λ (line : List ℕ). IsKept c.args.out.now (upgraded t) line (outcome_view c.in_ok-outcome-in-Ok.outcome)) c.in_ok-lines-in-Ok.ensures
-    (subst (λ (u : Table). IsKept c.args.out.now u c.in_ok-lines-in-Ok.lines.items (outcome_view c.in_ok-outcome-in-Ok.outcome)) same c.in_ok-outcome-in-Ok.ensures))
+    ok_so c.kept.result _ _ c.kept.ensures (λ o h. accepted t is (outcome_view o)
+    (subst (λ (line : List ℕ). IsKept c.args.out.now (upgraded t) line (outcome_view o)) c.in_ok-lines-in-Ok.ensures
+    (subst (λ (u : Table). IsKept c.args.out.now u c.in_ok-lines-in-Ok.lines.items (outcome_view o)) same h)))
