@@ -1,4 +1,4 @@
-use Rattle.command_line.specs.CommandLine.{rewrites, audits, learns, exports, traces, demos, upgrades, trims, tidies, generalises}
+use Rattle.command_line.specs.CommandLine.{rewrites, audits, learns, exports, traces, demos, upgrades, trims, tidies}
 use Rattle.command_line.proofs.Added.{all_added, form_added}
 use Rattle.command_line.proofs.app.peep.Goals as goal
 
