@@ -7,7 +7,7 @@ ghost use Rattle.listing_draft.specs.Drafted.{line_now, now_of};
 ghost use Rattle.listing_draft.specs.Invariant.{names_of};
 
 use kept_places::KeptPlaces;
-use listing_parser::{FunctionMark, ListingLine, Memory, Statement, branch_line, is_op};
+use listing_parser::{ListingLine, Memory, Statement, branch_line, is_op, label_line};
 use std::alloc::{AllocError, Global};
 
 /// How many lines were passed, and how many places they have.
@@ -31,15 +31,7 @@ fn emit_labels(out: &mut Vec<ListingLine>, line: ListingLine) -> Result<(), Allo
         return Ok(());
     }
     text.truncate(front);
-    text.push(b'\n')?;
-    out.push(ListingLine {
-        names,
-        statement: Statement::Nothing,
-        mark: FunctionMark::Nothing,
-        front: text.len() - 1,
-        text,
-    })?;
-    Ok(())
+    out.push(label_line(names, text)?)
 }
 
 /// Adds the lines of a branch that goes elsewhere.

@@ -1,5 +1,6 @@
 //! Instructions in place of others, by lines: labels and comments before a window stay, and all other lines keep their bytes.
-ghost use Rattle.std.specs.Prelude.{◌≡◌, ◌≤◌, ◌&&◌, ◌∷◌, ◌++◌, [], nat_lt, map, take, option_map, IfOk, OnOk};
+ghost use Rattle.std.specs.Prelude.{◌≡◌, ◌<◌, ◌≤◌, ◌&&◌, ◌∷◌, ◌++◌, [], nat_lt, length, map, take, option_map, IfOk, OnOk};
+ghost use Rattle.thumb_model.specs.Listing.{Nothing};
 ghost use Rattle.thumb_model.specs.Replaced.{is_op, labels_kept, new_line, replaced_lines, without};
 ghost use Rattle.listing_parser.specs.Views.{line_view, mention_view, names_view, statement_view, value_view};
 ghost use Rattle.listing_parser.specs.ToldView.{mark_view};
@@ -145,9 +146,9 @@ pub fn is_op(line: &ListingLine) -> bool
     matches!(line.statement, Statement::Instruction { .. })
 }
 
-/// The bytes of a line up to its last label's colon, and a newline.
+/// The bytes of a line up to its last label's colon.
 fn front_text(alloc: Global, line: &ListingLine) -> Result<Vec<u8>, AllocError>
-    ensures { IfOk result (λ v. v.items ≡ take line.now.front line.now.text.items ++ 10 ∷ []) }
+    ensures { IfOk result (λ v. v.items ≡ take line.now.front line.now.text.items) }
 {
     let front = if line.front < line.text.len() {
         let (front, _) = line.text.split_at(line.front);
@@ -155,9 +156,23 @@ fn front_text(alloc: Global, line: &ListingLine) -> Result<Vec<u8>, AllocError>
     } else {
         &line.text
     };
-    let mut text = front.to_vec(alloc)?;
+    front.to_vec(alloc)
+}
+
+/// The line of these labels alone, whose text is the bytes up to the last one's colon and a newline.
+pub fn label_line(names: Vec<Vec<u8>>, mut text: Vec<u8>) -> Result<ListingLine, AllocError>
+    requires { 0 < length names.items }
+    ensures { IfOk result (λ l. line_view l ≡ record { names = map (λ name. name.items) names.items; statement = Nothing; text = text.items ++ 10 ∷ []; front = text.items ++ 10 ∷ [] }) }
+{
+    let front = text.len();
     text.push(b'\n')?;
-    Ok(text)
+    Ok(ListingLine {
+        names,
+        statement: Statement::Nothing,
+        mark: FunctionMark::Nothing,
+        text,
+        front,
+    })
 }
 
 /// Adds what stays of a line whose instruction goes: its labels.
@@ -172,15 +187,8 @@ pub fn add_labels(
         return Ok(());
     }
     let names = copy_names(alloc, &line.names)?;
-    let text = front_text(alloc, line)?;
-    out.push(ListingLine {
-        names,
-        statement: Statement::Nothing,
-        mark: FunctionMark::Nothing,
-        front: text.len() - 1,
-        text,
-    })?;
-    Ok(())
+    let front = front_text(alloc, line)?;
+    out.push(label_line(names, front)?)
 }
 
 /// The text of a line of its own for an instruction: a tab, its canonical text and a newline.

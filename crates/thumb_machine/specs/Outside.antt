@@ -1,11 +1,13 @@
 -- What is seen of a run, and what the outside answers.
-use Rattle.std.specs.Prelude.{◌==◌, nat_lt, List, map, slice_index, if◌then◌else◌}
+use Rattle.std.specs.Prelude.{ℕ, ◌==◌, nat_lt, List, map, slice_index, if◌then◌else◌}
 use Rattle.std.specs.Int.{bit_at}
 use Rattle.thumb_machine.specs.declared.event.Event.{Event}
 use Rattle.thumb_machine.specs.declared.event.Event.TheVariants as event
 use Rattle.thumb_machine.specs.declared.answers.Answer.{Answer}
+use Rattle.thumb_machine.specs.declared.answers.Asked.{Asked}
+use Rattle.thumb_machine.specs.declared.answers.Asked.TheVariants as asked
 use Rattle.thumb_model.specs.Effect.{Values, lr, n_flag, z_flag, c_flag, v_flag}
-use Rattle.thumb_model.specs.States.{Load, Store, Call, Sys, Left, Fault, Astray, Fell}
+use Rattle.thumb_model.specs.States.{Load, Store, Call, Sys, Left, Fault, Astray, Fell, answered, served}
 use Rattle.thumb_model.specs.States as model
 
 abbrev pub event_of : Event → model.Event
@@ -32,6 +34,11 @@ answer_values a = λ x.
     else if x == c_flag then bit_at a.nzcv 1
     else if x == v_flag then bit_at a.nzcv 0
     else 0
+
+-- the items that an answer brings to a call and to a service
+abbrev pub brought : Asked → List ℕ
+brought asked.Call = answered
+brought asked.Service = served
 
 abbrev pub answer_of : Answer → model.Answer
 answer_of a = record { values = answer_values a; bytes = a.bytes }

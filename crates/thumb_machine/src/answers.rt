@@ -48,6 +48,13 @@ pub struct Answer {
     pub bytes: Bytes,
 }
 
+/// What the outside was asked for: a call brings r0 to r3, r12, lr and the flags, a service r0 to r3 and r12.
+#[derive(Clone, Copy)]
+pub(crate) enum Asked {
+    Call,
+    Service,
+}
+
 /// Answers that are given one by one, the first of the list first.
 #[derive(Drop)]
 pub struct Answers {

@@ -2,12 +2,13 @@
 ghost use Rattle.std.specs.Prelude.{◌≡◌, ◌<◌, ◌≤◌, [], ◌∷◌};
 ghost use Rattle.std.specs.Int.{bit_at, from_bool};
 ghost use Rattle.thumb_model.specs.Effect.{assigned, written_to, n_flag, z_flag, c_flag, v_flag};
-ghost use Rattle.thumb_model.specs.States.{all_at, answered, served};
+ghost use Rattle.thumb_model.specs.States.{all_at};
 ghost use Rattle.thumb_model.specs.Acts.{holds};
 ghost use Rattle.thumb_machine.specs.Registers.{values_of};
-ghost use Rattle.thumb_machine.specs.Outside.{answer_values};
+ghost use Rattle.thumb_machine.specs.Outside.{answer_values, brought};
+ghost use Rattle.thumb_machine.specs.declared.answers.Asked.TheVariants as asked;
 
-use crate::answers::Answer;
+use crate::answers::{Answer, Asked};
 use thumb_instr::Condition;
 use thumb_instr::items::{C, N, V, Z};
 use window_exec::{RegisterFile, flags, written};
@@ -69,8 +70,8 @@ impl Registers {
     }
 
     /// Takes r0 to r3 and r12 from an answer.
-    pub(crate) fn serve(&mut self, answer: &Answer)
-        ensures { values_of self.new ≡ assigned (all_at served (answer_values answer.now)) (values_of self.old) }
+    fn take_words(&mut self, answer: &Answer)
+        ensures { values_of self.new ≡ assigned (all_at (brought asked.Service) (answer_values answer.now)) (values_of self.old) }
     {
         self.set(12, answer.words[4]);
         self.set(3, answer.words[3]);
@@ -79,13 +80,18 @@ impl Registers {
         self.set(0, answer.words[0]);
     }
 
-    /// Takes r0 to r3, r12, lr and the flags from an answer.
-    pub(crate) fn answer(&mut self, answer: &Answer)
-        ensures { values_of self.new ≡ assigned (all_at answered (answer_values answer.now)) (values_of self.old) }
+    /// Takes what an answer brings: r0 to r3 and r12, and of a call also lr and the flags.
+    pub(crate) fn answer(&mut self, asked: Asked, answer: &Answer)
+        ensures { values_of self.new ≡ assigned (all_at (brought asked) (answer_values answer.now)) (values_of self.old) }
     {
-        self.set_flags(answer.nzcv);
-        self.set(14, answer.words[5]);
-        self.serve(answer);
+        match asked {
+            Asked::Call => {
+                self.set_flags(answer.nzcv);
+                self.set(14, answer.words[5]);
+                self.take_words(answer);
+            }
+            Asked::Service => self.take_words(answer),
+        }
     }
 
     /// ConditionHolds

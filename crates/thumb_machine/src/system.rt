@@ -1,14 +1,14 @@
 //! Instructions that only the system sees: each is one event with a code.
 ghost use Rattle.std.specs.Prelude.{◌≡◌, ◌<◌, ◌≤◌, [], ◌∷◌, ◌++◌, List, length, map};
 ghost use Rattle.thumb_model.specs.Effect.{sp};
-ghost use Rattle.thumb_model.specs.States.{Sys, Call, answered, answers_with, handed, served, takes, tells};
+ghost use Rattle.thumb_model.specs.States.{Sys, Call, answers_with, handed, served, takes, tells};
 ghost use Rattle.thumb_model.specs.Acts.{calls, calls_by, calls_out, hints, interrupts_code, barrier_code, reads_special, special_code};
 ghost use Rattle.thumb_machine.specs.declared.answers.Answer.{Answer};
 ghost use Rattle.thumb_machine.specs.Registers.{values_of};
-ghost use Rattle.thumb_machine.specs.Outside.{event_of};
+ghost use Rattle.thumb_machine.specs.Outside.{brought, event_of};
 ghost use Rattle.thumb_machine.specs.Acting.{Acts, landing_of, target_of};
 
-use crate::answers::Answers;
+use crate::answers::{Answers, Asked};
 use crate::event::Event;
 use crate::world::{Continuation, End, Landing, Target, World};
 use arrayvec::ArrayVec;
@@ -87,9 +87,14 @@ impl World {
         sys(number, &[r[0], r[1], r[2], r[3], r[12], r[13]])
     }
 
-    /// Takes registers, flags and bytes from the next answer, after an event.
-    fn answered(&mut self, answers: &mut Answers, event: Event) -> Result<Continuation, AllocError>
-        ensures { Acts (λ w. takes (answers_with answered (event_of event) w) w w.answers) self.old answers.old self.new answers.new result }
+    /// Takes what the next answer brings, after an event.
+    fn answered(
+        &mut self,
+        answers: &mut Answers,
+        asked: Asked,
+        event: Event,
+    ) -> Result<Continuation, AllocError>
+        ensures { Acts (λ w. takes (answers_with (brought asked) (event_of event) w) w w.answers) self.old answers.old self.new answers.new result }
     {
         let Some(answer) = answers.next() else {
             return Ok(Continuation::Stay);
@@ -98,23 +103,7 @@ impl World {
         self.memory.reserve(bytes.len())?;
         self.tell(event)?;
         self.memory.put_bytes(bytes);
-        self.registers.answer(answer);
-        answers.pass();
-        Ok(Continuation::On)
-    }
-
-    /// Takes the registers of a service and bytes from the next answer, after an event.
-    fn served(&mut self, answers: &mut Answers, event: Event) -> Result<Continuation, AllocError>
-        ensures { Acts (λ w. takes (answers_with served (event_of event) w) w w.answers) self.old answers.old self.new answers.new result }
-    {
-        let Some(answer) = answers.next() else {
-            return Ok(Continuation::Stay);
-        };
-        let bytes = answer.bytes.as_slice();
-        self.memory.reserve(bytes.len())?;
-        self.tell(event)?;
-        self.memory.put_bytes(bytes);
-        self.registers.serve(answer);
+        self.registers.answer(asked, answer);
         answers.pass();
         Ok(Continuation::On)
     }
@@ -124,7 +113,7 @@ impl World {
         ensures { Acts (calls_out word) self.old answers.old self.new answers.new result }
     {
         let event = self.called_by(word);
-        self.answered(answers, event)
+        self.answered(answers, Asked::Call, event)
     }
 
     /// Calls a target.
@@ -174,7 +163,7 @@ impl World {
         ensures { Acts (λ w. takes (answers_with served (Sys number (map w.values (served ++ (sp ∷ [])))) w) w w.answers) self.old answers.old self.new answers.new result }
     {
         let event = self.served_by(number);
-        self.served(answers, event)
+        self.answered(answers, Asked::Service, event)
     }
 
     /// MRS, of a special register by its code.
