@@ -1,13 +1,14 @@
 -- Why what `demo` tells is what its definition says, and why nothing is refused but a text that is too long.
-use Rattle.std.proofs.Common.{◌≡◌, ◌∙◌, ℕ, ◌≤◌, List, [], ◌++◌, append_assoc, length, refl, sym, subst, arith, Option, Some, None, leb-true}
+use Rattle.std.proofs.Common.{◌≡◌, ◌∙◌, ℕ, ◌≤◌, List, [], ◌++◌, append_assoc, length, refl, sym, subst, tt, arith, Option, Some, None, leb-true}
 use Rattle.thumb_model.specs.Listing.{ListingLine}
 use Rattle.rule_model.specs.Rewriting.{Replacement, AreRewritten}
-use Rattle.seq_enum.specs.Alphabet.{numbers_from, those_within, grid2, grid3, rows, members, alphabet, words}
+use Rattle.seq_enum.specs.Alphabet.{is_pool, ascends_from, numbers_from, those_within, grid2, grid3, rows, members, alphabet, words}
 use Rattle.listing_parser.specs.Parsing.{IsListing}
 use Rattle.listing_parser.proofs.MadeLemmas.{one_listing}
 use Rattle.listing_parser.proofs.VerdictLemmas.{one_verdict}
 use Rattle.rule_table.specs.Table.{Table}
 use Rattle.rule_table.specs.Refused.{IsText}
+use Rattle.rule_table.proofs.Beginnings.{is_learnt_header}
 use Rattle.rule_table.proofs.Progress.{one_table, not_both}
 use Rattle.table_audit.specs.declared.errors.AuditError.{AuditError}
 use Rattle.table_audit.specs.declared.errors.AuditError.TheVariants as audit
@@ -110,4 +111,8 @@ is_shown n told o h is = subst (DemoComesTo n) (sym is) (shown told h)
 -- ---- settings ----
 
 pub demo_limits : AreInLimits demo_settings
-demo_limits = record { some_regs = omega arith; few_regs = omega arith; some_left = omega arith; few_left = omega arith; some_budget = omega arith; few_budget = omega arith; version = (omega arith, omega arith); few_scratch = omega arith; first_version = λ e. refl }
+unfolding is_pool ascends_from
+demo_limits = record {
+  header = is_learnt_header 1 2 20000 42 0 (1 ∷ 24 ∷ []) None (omega arith, omega arith) (omega arith, omega arith) (omega arith, omega arith) (omega arith, omega arith) (omega arith, omega arith) refl tt;
+  version = (omega arith, omega arith);
+}

@@ -34,7 +34,8 @@ use Rattle.table_learn.proofs.Asking.{state_words}
 use Rattle.table_learn.proofs.Certificates.{refutation_passes}
 use Rattle.audit_cli.specs.declared.refusal.Refusal.TheVariants as refusal
 use Rattle.audit_cli.specs.Generalise.{with_family, HasNone, IsUnraisable, IsRaisableFor, IsGeneralised, DifferAt, IsSpentOn, IsUnraised, differ, spent}
-use Rattle.audit_cli.proofs.VersionLemmas.{header_raised, in_version, verdict}
+use Rattle.rule_table.proofs.Beginnings.{header_raised}
+use Rattle.audit_cli.proofs.VersionLemmas.{in_version, verdict}
 use Rattle.rule_model.proofs.Table.{over_wider}
 
 -- ---- a model ----

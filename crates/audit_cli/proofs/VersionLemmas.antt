@@ -1,12 +1,7 @@
 -- Tables in other versions: the audit has the same verdict on them.
-use Rattle.std.proofs.Common.{◌≡◌, ℕ, ◌+◌, ◌≤◌, max, List, [], ◌∷◌, Option, Some, None, true, false, inl, inr, arith, leb-true, leb-false}
-use Rattle.std.specs.Prelude.{◌↔◌, IsSome}
-use Rattle.std.proofs.lemmas.Bool.{le-leb, lt-leb}
+use Rattle.std.proofs.Common.{ℕ, ◌+◌, List, [], ◌∷◌, Option, Some, None, inl, inr}
+use Rattle.std.specs.Prelude.{◌↔◌}
 use Rattle.thumb_instr.specs.declared.instr.Instr.{Instr}
-use Rattle.rule_table.specs.declared.header.Field.{Field}
-use Rattle.rule_table.specs.declared.header.Field.TheVariants.{Version, Regs, Left, Seed, Budget, Scratch}
-use Rattle.rule_table.specs.declared.header.HeaderLine.TheVariants.{Number, Costs}
-use Rattle.rule_table.specs.Header.{Header, IsHeader, IsWithin, number_in, has_line, since, blank}
 use Rattle.rule_table.specs.Table.{Opened, Rule, Table}
 use Rattle.lrat_check.specs.Proofs.{Tests, Then, InTurn}
 use Rattle.table_audit.specs.declared.errors.AuditError.{AuditError}
@@ -80,38 +75,3 @@ verdict v t =
     (then (EntriesVerdict t) (FamiliesVerdict t) (EntriesVerdict u) (FamiliesVerdict u)
     (in_turn (EntryVerdict t) (EntryVerdict u) (entry v t) 1 t.rules)
     (in_turn (FamilyVerdict t) (FamilyVerdict u) (family_in_version v t) 1 t.families)))
-
--- ---- headers ----
-
--- version 2 and later ones have a line for each number
-since_two : (f : Field) → since (Number f) ≤ 2
-since_two Version = omega arith
-since_two Regs = omega arith
-since_two Left = omega arith
-since_two Seed = omega arith
-since_two Budget = omega arith
-since_two Scratch = omega arith
-
--- a header whose version is 2 or 3 at least: version 4 has its costs, and no other has any
-pub header_raised : (least : ℕ) (h : Header) → 2 ≤ least → least ≤ 3 → IsHeader h → IsHeader (record h { version = max least h.version })
-header_raised least h two three is = record { numbers = each; pool = is.pool; costs = is.costs; costed = costed; uncosted = uncosted; unsaid = said }
-  where
-    v : ℕ
-    v = max least h.version
-
-    each : (field : Field) → IsWithin field (number_in (record h { version = v }) field)
-    each Version = let b = is.numbers Version in (omega (arith, two), omega (arith, three, b.1))
-    each Regs = is.numbers Regs
-    each Left = is.numbers Left
-    each Seed = is.numbers Seed
-    each Budget = is.numbers Budget
-    each Scratch = is.numbers Scratch
-
-    costed : has_line v Costs ≡ true → IsSome h.costs
-    costed has = let four = leb-true 4 v has in is.costed (le-leb 4 h.version (omega (arith, four, three)))
-
-    uncosted : has_line v Costs ≡ false → h.costs ≡ None
-    uncosted none = let few = leb-false 4 v none in is.uncosted (lt-leb 4 h.version (omega (arith, few)))
-
-    said : (f : Field) → has_line v (Number f) ≡ false → number_in (record h { version = v }) f ≡ number_in blank f
-    said f none = let first = since_two f in let late = leb-false (since (Number f)) v none in absurd (omega (arith, first, late, two))

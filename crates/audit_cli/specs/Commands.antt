@@ -4,7 +4,6 @@ use Rattle.audit_cli.specs.declared.rewrite.Rewrite.{Rewrite}
 use Rattle.audit_cli.specs.Rewrite.{Counts, Destination}
 use Rattle.audit_cli.specs.declared.export.Export.{Export}
 use Rattle.audit_cli.specs.Tables.{ExportArguments}
-use Rattle.std.specs.Prelude.{ℕ, List, Option, Some, None}
 use Rattle.audit_cli.specs.declared.learn.Learn.{Learn}
 use Rattle.audit_cli.specs.declared.learn.LearnByCosts.{LearnByCosts}
 use Rattle.table_learn.specs.Learnt.{Settings}
@@ -12,6 +11,7 @@ use Rattle.audit_cli.specs.Learn.{LearnArguments}
 use Rattle.audit_cli.specs.declared.trace.Trace.{Trace}
 use Rattle.audit_cli.specs.Trace.{TraceArguments}
 use Rattle.audit_cli.specs.declared.generalising.Generalise.{Generalise}
+use Rattle.rule_table.specs.Header.{learnt_header}
 use Rattle.rule_table.specs.Table.{Family}
 use Rattle.audit_cli.specs.Generalise.{wanted}
 
@@ -24,13 +24,8 @@ counts_of c = record { replaced = c.replaced; before = c.before; after = c.after
 abbrev pub export_arguments_of : Export → ExportArguments
 export_arguments_of e = record { entry = e.entry; cnf = e.cnf.now; lrat = e.lrat.now }
 
--- with costs a table has version 4
-abbrev pub version_with : Option (List ℕ) → ℕ
-version_with None = 2
-version_with (Some costs) = 4
-
 abbrev pub settings_for : Learn → Settings
-settings_for l = record { version = version_with l.costs; regs = l.regs.number; left = l.left.number; budget = l.budget.number; seed = l.seed; pool = l.pool.now; scratch = l.scratch.number; costs = l.costs }
+settings_for l = learnt_header l.regs.number l.left.number l.budget.number l.seed l.scratch.number l.pool.now l.costs
 
 abbrev pub learn_arguments_of : Learn → LearnArguments
 learn_arguments_of l = record { out = l.out.now; settings = settings_for l }

@@ -4,6 +4,7 @@ use Rattle.std.specs.Fmt.{decimal}
 use Rattle.thumb_model.specs.Listing.{ListingLine}
 use Rattle.rule_model.specs.Rewriting.{Replacement, AreRewritten}
 use Rattle.listing_parser.specs.Parsing.{IsListing}
+use Rattle.rule_table.specs.Header.{learnt_header}
 use Rattle.rule_table.specs.Table.{Table}
 use Rattle.table_learn.specs.Learnt.{Settings, Window, IsFull}
 use Rattle.window_rewrite.specs.TableRewriting.{setting}
@@ -48,7 +49,7 @@ demo_text n = codes "demo:" ++ 10 ∷ (windows_text n ++ own (codes "bx lr"))
 
 -- one register, two instructions, 20,000 clauses, the seed 42, and the numbers 1 and 24
 abbrev pub demo_settings : Settings
-demo_settings = record { version = 2; regs = 1; left = 2; budget = 20000; seed = 42; pool = 1 ∷ 24 ∷ []; scratch = 0; costs = None }
+demo_settings = learnt_header 1 2 20000 42 0 (1 ∷ 24 ∷ []) None
 
 -- lines are rewritten by a table, laid out from address 0 on, and made an image; what is told of that
 pub record IsRewritingTold (t : Table) (given : List ListingLine) (told : List ℕ) : Type 0 where

@@ -93,16 +93,15 @@ fn settings() -> Settings
     let Some(pool) = Pool::new(&POOL) else {
         unreachable!();
     };
-    Settings {
-        version: 2,
-        regs: 1,
-        left: 2,
-        budget: 20_000,
-        seed: 42,
+    Settings::learnt(
+        Within::of(1),
+        Within::of(2),
+        Within::of(20_000),
+        42,
+        Within::of(0),
         pool,
-        scratch: 0,
-        costs: None,
-    }
+        None,
+    )
 }
 
 /// An accepted table, read back from its own text and audited.

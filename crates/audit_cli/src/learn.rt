@@ -47,16 +47,15 @@ fn settings(learn: &Learn<'_>) -> Settings
     let Some(pool) = Pool::new(learn.pool.numbers()) else {
         unreachable!();
     };
-    Settings {
-        version: if learn.costs.is_some() { 4 } else { 2 },
-        regs: learn.regs.number as u8,
-        left: learn.left.number as u8,
-        budget: learn.budget.number,
-        seed: learn.seed,
+    Settings::learnt(
+        learn.regs,
+        learn.left,
+        learn.budget,
+        learn.seed,
+        learn.scratch,
         pool,
-        scratch: learn.scratch.number as u8,
-        costs: learn.costs,
-    }
+        learn.costs,
+    )
 }
 
 /// What is kept and printed of a table.

@@ -4,7 +4,8 @@ use Rattle.std.proofs.lemmas.Bool.{cases_Bool, leb-true}
 use Rattle.rule_table.specs.Header.{has_families}
 use Rattle.rule_table.specs.Text.{text_of}
 use Rattle.audit_cli.specs.Upgrade.{upgraded}
-use Rattle.audit_cli.proofs.VersionLemmas.{header_raised, in_version, verdict}
+use Rattle.rule_table.proofs.Beginnings.{header_raised}
+use Rattle.audit_cli.proofs.VersionLemmas.{in_version, verdict}
 use Rattle.command_laws.specs.Upgrading.{UpgradesAreAuditedAlike, UpgradesAreTables, UpgradesRewriteAlike, LaterTablesAreKept}
 
 pub upgrades_audited_alike : UpgradesAreAuditedAlike

@@ -5,7 +5,8 @@ use Rattle.std.specs.List.{list_all}
 use Rattle.clap.specs.Words.{Row, fault_of, first_of, subcommand_of}
 use Rattle.command_line.specs.App.{asked, asked_by, form_of, peep_app, words_for}
 use Rattle.command_line.specs.Words.{Given, IsCommand, Text, is_one_of, value_of}
-use Rattle.command_line.specs.CommandLine.{AskFor, Form, rewrites, audits, learns, exports, traces, demos, upgrades, trims, tidies, generalises, Request, rewrite, learn, tidy, all_given, base_of, settings_of, settings_by, version_by, number_from, pool_of, name_of, options_of, request_by}
+use Rattle.rule_table.specs.Header.{version_with}
+use Rattle.command_line.specs.CommandLine.{AskFor, Form, rewrites, audits, learns, exports, traces, demos, upgrades, trims, tidies, generalises, Request, rewrite, learn, tidy, all_given, base_of, settings_of, settings_by, number_from, pool_of, name_of, options_of, request_by}
 use Rattle.rule_table.specs.Header.{Header}
 use Rattle.command_line.proofs.Items.{is_name}
 use Rattle.command_line.proofs.Law.{rows}
@@ -52,7 +53,7 @@ same_settings f g e =
     let pool : f (codes "pool") ≡ g (codes "pool") = e (codes "pool") refl in
     let scratch : f (codes "scratch") ≡ g (codes "scratch") = e (codes "scratch") refl in
     let costs : f (codes "costs") ≡ g (codes "costs") = e (codes "costs") refl in
-    λ i. settings_by (version_by (costs i)) (number_from 1 4 3 (regs i)) (number_from 1 5 3 (left i)) (number_from 1 1000000 20000 (budget i)) (number_from 0 4294967295 42 (seed i)) (number_from 0 1 0 (scratch i)) (pool_of (pool i))
+    λ i. settings_by (version_with (costs i)) (number_from 1 4 3 (regs i)) (number_from 1 5 3 (left i)) (number_from 1 1000000 20000 (budget i)) (number_from 0 4294967295 42 (seed i)) (number_from 0 1 0 (scratch i)) (pool_of (pool i))
 
 -- only the values of the options are looked at
 pub same_options : (form : Form) (ps : List Text) (f g : Text → Option Text) → ((n : Text) → is_one_of (options_of form) n ≡ true → f n ≡ g n)

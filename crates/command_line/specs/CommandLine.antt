@@ -4,7 +4,7 @@ use Rattle.std.specs.List.{slice_split}
 use Rattle.std.specs.Str.{IsUtf8}
 use Rattle.ascii_scan.specs.Numeral.{numeral, decimal}
 use Rattle.seq_enum.specs.Alphabet.{is_pool}
-use Rattle.rule_table.specs.Header.{Header}
+use Rattle.rule_table.specs.Header.{Header, learnt_header, version_with}
 use Rattle.command_line.specs.Words.{Text, Given, IsCommand, value_of}
 
 -- an image's base is a multiple of 4 up to 2 ^ 28
@@ -47,19 +47,14 @@ abbrev pub pool_of : Option Text → Option (List ℕ)
 pool_of None = Some (0 ∷ 1 ∷ 2 ∷ 4 ∷ 8 ∷ 16 ∷ 24 ∷ 31 ∷ 255 ∷ [])
 pool_of (Some v) = option_and_then (λ ns. if is_pool ns then Some ns else None) (all_given (map decimal (between_commas v)))
 
--- the version of a learner's table, by the name of a text of costs
-abbrev pub version_by : Option Text → ℕ
-version_by None = 2
-version_by (Some name) = 4
-
 -- a learner's settings of these parts, which are the header of its table before costs are read, or none where one of them is none
 abbrev pub settings_by : (version : ℕ) → (regs left budget seed scratch : Option ℕ) → Option (List ℕ) → Option Header
 settings_by version regs left budget seed scratch pool = option_and_then (λ r. option_and_then (λ l. option_and_then (λ b. option_and_then (λ s. option_and_then (λ c.
-    option_map (λ p. record { version = version; regs = r; left = l; budget = b; seed = s; pool = p; scratch = c; costs = None }) pool) scratch) seed) budget) left) regs
+    option_map (λ p. record (learnt_header r l b s c p None) { version = version }) pool) scratch) seed) budget) left) regs
 
 -- the settings by the values of the options
 abbrev pub settings_of : (Text → Option Text) → Option Header
-settings_of value = settings_by (version_by (value (codes "costs")))
+settings_of value = settings_by (version_with (value (codes "costs")))
     (number_from 1 4 3 (value (codes "regs")))
     (number_from 1 5 3 (value (codes "left")))
     (number_from 1 1000000 20000 (value (codes "budget")))

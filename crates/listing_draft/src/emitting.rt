@@ -31,7 +31,8 @@ fn emit_labels(out: &mut Vec<ListingLine>, line: ListingLine) -> Result<(), Allo
         return Ok(());
     }
     text.truncate(front);
-    out.push(label_line(names, text)?)
+    out.push(label_line(names, text)?)?;
+    Ok(())
 }
 
 /// Adds the lines of a branch that goes elsewhere.

@@ -188,7 +188,8 @@ pub fn add_labels(
     }
     let names = copy_names(alloc, &line.names)?;
     let front = front_text(alloc, line)?;
-    out.push(label_line(names, front)?)
+    out.push(label_line(names, front)?)?;
+    Ok(())
 }
 
 /// The text of a line of its own for an instruction: a tab, its canonical text and a newline.

@@ -1,9 +1,9 @@
 -- Lines that can be read so far begin a table, and only those do.
-use Rattle.std.proofs.Common.{◌≡◌, ℕ, suc, ◌+◌, ◌-◌, ◌<◌, ◌≤◌, ◌^◌, ◌&&◌, inl, inr, take, drop, true, false, List, [], ◌∷◌, ◌++◌, length, map, nat_le, nat_lt, refl, sym, ◌∙◌, ap, arith, Some, append_assoc, append-nil, length-append, lt-ltb, le-leb, ltb-true, subst, true≢false}
+use Rattle.std.proofs.Common.{◌≡◌, ℕ, suc, ◌+◌, ◌-◌, ◌<◌, ◌≤◌, ◌^◌, ◌&&◌, inl, inr, take, drop, true, false, List, [], ◌∷◌, ◌++◌, length, map, nat_le, nat_lt, refl, sym, ◌∙◌, ap, arith, Some, append_assoc, append-nil, length-append, lt-ltb, le-leb, ltb-true, leb-true, leb-false, max, subst, true≢false}
 use Rattle.std.specs.List.{flat_map, All}
 use Rattle.std.specs.Option.{option_map}
 use Rattle.std.proofs.Math.Seq.{take-append_seam}
-use Rattle.std.proofs.lemmas.Bool.{and_parts, cases_Bool, true_from_ne_false as unopened}
+use Rattle.std.proofs.lemmas.Bool.{and_parts, cases_Bool, lt-leb, true_from_ne_false as unopened}
 use Rattle.std.proofs.lemmas.Nat.Bits.{bit_at-zero}
 use Rattle.std.specs.Prelude.{◌==◌, ◌⊎◌, if◌then◌else◌, IfSome, IsSome, is_some, None, Option, replicate}
 use Rattle.std.proofs.lemmas.Option.{cond_some, same_Some, option_and_then_some}
@@ -21,7 +21,7 @@ use Rattle.rule_table.specs.declared.header.Field.{Field}
 use Rattle.rule_table.specs.declared.header.Field.TheVariants as field
 use Rattle.rule_table.specs.declared.header.HeaderLine.{HeaderLine}
 use Rattle.rule_table.specs.declared.header.HeaderLine.TheVariants as head
-use Rattle.rule_table.specs.Header.{Header, heads, has_line, has_families, number_in, with_number, is_same, blank, IsWithin, IsHeader}
+use Rattle.rule_table.specs.Header.{Header, heads, has_line, has_families, number_in, with_number, is_same, blank, since, version_with, learnt_header, IsWithin, IsHeader}
 use Rattle.rule_table.specs.Table.{Opened, Rule, Family as Raised, Table, IsState, IsInstr, IsMask, IsOpened, IsRule, IsFamily, IsTable, numbers_of}
 use Rattle.rule_table.specs.Text.{Item, Number, Pool, Costs, State, Entry, Left, Right, Mask, Proof, Logged, Open, Family, End, rule_items, family_items, line_items, header_items, items_of}
 use Rattle.rule_table.specs.Items.{IsItem}
@@ -864,6 +864,68 @@ blank_fine = record { numbers = least; pool = refl; costs = tt; uncosted = λ ha
     least field.Seed = (omega arith, omega arith)
     least field.Budget = (omega arith, omega arith)
     least field.Scratch = (omega arith, omega arith)
+
+-- ---- headers that are learnt, and those of later versions ----
+
+-- version 2 and later ones have a line for each number
+since_two : (f : Field) → since (head.Number f) ≤ 2
+since_two field.Version = omega arith
+since_two field.Regs = omega arith
+since_two field.Left = omega arith
+since_two field.Seed = omega arith
+since_two field.Budget = omega arith
+since_two field.Scratch = omega arith
+
+all_said : (h : Header) (f : Field) → 2 ≤ h.version → has_line h.version (head.Number f) ≡ false → number_in h f ≡ number_in blank f
+all_said h f two none = let first = since_two f in let late = leb-false (since (head.Number f)) h.version none in absurd (omega (arith, first, late, two))
+
+pub is_learnt_header : (regs left budget seed scratch : ℕ) (pool : List ℕ) (costs : Option (List ℕ))
+    → IsWithin field.Regs regs → IsWithin field.Left left → IsWithin field.Budget budget → IsWithin field.Seed seed → IsWithin field.Scratch scratch
+    → is_pool pool ≡ true → IfSome costs AreCosts → IsHeader (learnt_header regs left budget seed scratch pool costs)
+is_learnt_header regs left budget seed scratch pool costs r l b s c is_one are =
+    record { numbers = each; pool = is_one; costs = are; costed = costed costs; uncosted = uncosted costs; unsaid = λ f. all_said (learnt_header regs left budget seed scratch pool costs) f (version costs).0 }
+  where
+    version : (o : Option (List ℕ)) → (2 ≤ version_with o) × (version_with o ≤ 4)
+    version None = (omega arith, omega arith)
+    version (Some ns) = (omega arith, omega arith)
+
+    costed : (o : Option (List ℕ)) → has_line (version_with o) head.Costs ≡ true → IsSome o
+    costed None has = absurd cc
+    costed (Some ns) has = refl
+
+    uncosted : (o : Option (List ℕ)) → has_line (version_with o) head.Costs ≡ false → o ≡ None
+    uncosted None none = refl
+    uncosted (Some ns) none = absurd cc
+
+    each : (f : Field) → IsWithin f (number_in (learnt_header regs left budget seed scratch pool costs) f)
+    each field.Version = (let v = (version costs).0 in omega (arith, v), (version costs).1)
+    each field.Regs = r
+    each field.Left = l
+    each field.Seed = s
+    each field.Budget = b
+    each field.Scratch = c
+
+-- a header whose version is 2 or 3 at least: version 4 has its costs, and no other has any
+pub header_raised : (least : ℕ) (h : Header) → 2 ≤ least → least ≤ 3 → IsHeader h → IsHeader (record h { version = max least h.version })
+header_raised least h two three is =
+    record { numbers = each; pool = is.pool; costs = is.costs; costed = costed; uncosted = uncosted; unsaid = λ f. all_said (record h { version = v }) f (omega (arith, two)) }
+  where
+    v : ℕ
+    v = max least h.version
+
+    each : (f : Field) → IsWithin f (number_in (record h { version = v }) f)
+    each field.Version = let b = is.numbers field.Version in (omega (arith, two), omega (arith, three, b.1))
+    each field.Regs = is.numbers field.Regs
+    each field.Left = is.numbers field.Left
+    each field.Seed = is.numbers field.Seed
+    each field.Budget = is.numbers field.Budget
+    each field.Scratch = is.numbers field.Scratch
+
+    costed : has_line v head.Costs ≡ true → IsSome h.costs
+    costed has = let four = leb-true 4 v has in is.costed (le-leb 4 h.version (omega (arith, four, three)))
+
+    uncosted : has_line v head.Costs ≡ false → h.costs ≡ None
+    uncosted none = let few = leb-false 4 v none in is.uncosted (lt-leb 4 h.version (omega (arith, few)))
 
 -- nothing is read
 nothing_read : HasRead blank heads

@@ -1,5 +1,5 @@
 -- A line tells what it says.
-use Rattle.std.proofs.Common.{◌≡◌, ℕ, ◌<◌, ◌^◌, true, List, [], ◌∷◌, ◌++◌, map, refl, sym, ◌∙◌, ap, arith, Some, true≢false}
+use Rattle.std.proofs.Common.{◌≡◌, ℕ, ◌<◌, ◌≤◌, ◌^◌, true, List, [], ◌∷◌, ◌++◌, length, map, refl, sym, ◌∙◌, ap, arith, Some, true≢false}
 use Rattle.std.specs.Prelude.{decimal, codes}
 use Rattle.std.specs.Char.{is_ascii_digit}
 use Rattle.std.specs.List.{list_all, flat_map}
@@ -73,6 +73,14 @@ word_inside field.Left = refl
 word_inside field.Seed = refl
 word_inside field.Budget = refl
 word_inside field.Scratch = refl
+
+pub word_short : (f : Field) → length (row f).word ≤ 8
+word_short field.Version = omega arith
+word_short field.Regs = omega arith
+word_short field.Left = omega arith
+word_short field.Seed = omega arith
+word_short field.Budget = omega arith
+word_short field.Scratch = omega arith
 
 pub within_small : (f : Field) (n : ℕ) → IsWithin f n → n < 2 ^ 64
 within_small field.Version n is = omega (arith, is.1)

@@ -1,6 +1,6 @@
 -- The header of a table, which its first lines say: the record, and the lines in order, each with its word, its limits and the first version that has
 -- it. A further line is a field of the record and a row of each list here.
-use Rattle.std.specs.Prelude.{◌≡◌, ◌≤◌, ℕ, Bool, true, false, List, [], ◌∷◌, codes, nat_le, Option, None, IfSome, IsSome, if◌then◌else◌}
+use Rattle.std.specs.Prelude.{◌≡◌, ◌≤◌, ℕ, Bool, true, false, List, [], ◌∷◌, codes, nat_le, Option, None, Some, IfSome, IsSome, if◌then◌else◌}
 use Rattle.seq_enum.specs.Alphabet.{is_pool}
 use Rattle.seq_enum.specs.Costs.{AreCosts}
 use Rattle.rule_table.specs.declared.header.Field.{Field}
@@ -91,6 +91,16 @@ IsWithin field n = ((row field).least ≤ n) × (n ≤ (row field).greatest)
 -- the least header: what is held of one before its lines are read
 abbrev pub blank : Header
 blank = record { version = 1; regs = 1; left = 1; seed = 0; budget = 1; pool = 0 ∷ []; scratch = 0; costs = None }
+
+-- the version of a table that is learnt: 4 where instructions have costs
+abbrev pub version_with : Option (List ℕ) → ℕ
+version_with None = 2
+version_with (Some costs) = 4
+
+-- the header of a table that is learnt so
+abbrev pub learnt_header : (regs left budget seed scratch : ℕ) → (pool : List ℕ) → (costs : Option (List ℕ)) → Header
+learnt_header regs left budget seed scratch pool costs =
+    record { version = version_with costs; regs = regs; left = left; seed = seed; budget = budget; pool = pool; scratch = scratch; costs = costs }
 
 -- each number lies in its limits, the pool is one, and so are the costs, which stand where the version has a line for them alone; a number that it has no line for is the least header's
 pub record IsHeader (h : Header) : Type 0 where

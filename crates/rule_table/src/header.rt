@@ -1,10 +1,11 @@
 //! The header of a table, and its lines. What they begin with and which numbers they may have stands in rows, by which they are read and
 //! written: a further line is a row more, with the first version that has it.
 ghost use Rattle.std.specs.Prelude.{◌≡◌};
-ghost use Rattle.rule_table.specs.Header.{due_in, has_families, has_line, heads, is_same, row, since};
-ghost use Rattle.rule_table.specs.Views.{row_of};
+ghost use Rattle.rule_table.specs.Header.{IsHeader, due_in, has_families, has_line, heads, is_same, learnt_header, row, since};
+ghost use Rattle.rule_table.specs.Views.{header_of, row_of};
 
 use seq_enum::{Costs, Pool};
+use thumb_instr::Within;
 
 /// What the first lines of a table say: its version (1 to 4), how many registers (1 to 4) and instructions (1 to 5) left sides have at most,
 /// the seed of the first states, how many clauses a query may learn (1 to 1,000,000), the pool of the alphabet's numbers, how many registers
@@ -20,6 +21,33 @@ pub struct Header {
     pub pool: Pool,
     pub scratch: u8,
     pub costs: Option<Costs>,
+}
+
+impl Header {
+    /// The header of a table that is learnt: of version 4 where instructions have costs, and else of version 2.
+    pub fn learnt(
+        regs: Within<1, 5>,
+        left: Within<1, 6>,
+        budget: Within<1, 1_000_001>,
+        seed: u32,
+        scratch: Within<0, 2>,
+        pool: Pool,
+        costs: Option<Costs>,
+    ) -> Header
+        ensures same { header_of result ≡ learnt_header regs.number left.number budget.number seed scratch.number pool costs }
+        ensures valid { IsHeader (header_of result) }
+    {
+        Header {
+            version: if costs.is_some() { 4 } else { 2 },
+            regs: regs.number as u8,
+            left: left.number as u8,
+            seed,
+            budget: budget.number,
+            pool,
+            scratch: scratch.number as u8,
+            costs,
+        }
+    }
 }
 
 /// A number of the header.

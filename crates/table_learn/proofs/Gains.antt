@@ -1,13 +1,11 @@
 -- One more window, and the table in the end.
-use Rattle.std.proofs.Common.{◌≡◌, ℕ, zero, suc, ◌+◌, ◌-◌, ◌<◌, ◌≤◌, ◌^◌, ◌%◌, ◌/◌, ◌*◌, inl, inr, List, [], ◌∷◌, ◌++◌, Option, Some, None, All, length, map, slice_get, take, refl, sym, ◌∙◌, ap, subst, arith, zero-add, length-append, true, false, nat_le, leb-true, leb-false}
-use Rattle.std.specs.Prelude.{IfSome, IsSome}
+use Rattle.std.proofs.Common.{◌≡◌, ℕ, zero, suc, ◌+◌, ◌-◌, ◌<◌, ◌≤◌, ◌^◌, ◌%◌, ◌/◌, ◌*◌, inl, inr, List, [], ◌∷◌, ◌++◌, Some, All, length, map, slice_get, take, refl, sym, ◌∙◌, ap, subst, arith, zero-add, length-append}
 use Rattle.std.proofs.lemmas.List.{take-append-le, take_all, map-append}
 use Rattle.std.proofs.lemmas.List.Elements.{All-nil, All-cons, All-append}
 use Rattle.std.proofs.lemmas.Bool.{cases_lt}
 use Rattle.std.proofs.lemmas.Option.{slice_get_within}
 use Rattle.thumb_instr.specs.declared.instr.Instr.{Instr}
 use Rattle.thumb_model.specs.Effect.{AreOver}
-use Rattle.seq_enum.specs.Costs.{AreCosts}
 use Rattle.seq_enum.specs.Alphabet.{is_pool, IsOver}
 use Rattle.std.specs.Int.{w32, rotate_right}
 use Rattle.std.proofs.Math.Nat.{div-le_self}
@@ -20,12 +18,8 @@ use Rattle.rule_table.specs.Table.{Opened, Rule, IsState, IsInstr, IsOpened, IsR
 use Rattle.table_audit.specs.Shorter.{named_count, alphabet_registers, formula_against, sequences_below}
 use Rattle.table_audit.specs.Acceptance.{StateTest, EntryVerdict, IsAccepted, lengths_below, width_of}
 use Rattle.table_audit.proofs.Fitting.{are_over, ordered_of}
-use Rattle.rule_table.specs.declared.header.Field.{Field}
-use Rattle.rule_table.specs.declared.header.Field.TheVariants as field
-use Rattle.rule_table.specs.declared.header.HeaderLine.TheVariants.{Number}
-use Rattle.rule_table.specs.Header.{number_in, has_line, blank, IsWithin, IsHeader}
+use Rattle.rule_table.specs.Header.{IsHeader}
 use Rattle.table_learn.specs.Learnt.{Settings, Window, Learnt, TellsFirst, AreEarned, learnt_from, KeepsOrLowers, IsProvedBySolver, IsOpenBySolver, IsSpentSearch}
-use Rattle.table_learn.specs.Given.{IsVersionFor, AreInLimits}
 use Rattle.table_learn.specs.Fitness.{IsFit, without_told}
 use Rattle.table_learn.specs.Searching.{EarnedFrom, width_at}
 use Rattle.table_learn.specs.Progress.{Progress, table_with}
@@ -206,42 +200,6 @@ valid_rule s states e narrow f =
           record { small = omega (arith, low, narrow); log = name.lines });
       ascending = f.ascending;
     }
-
--- versions with and without costs
-version_within : (costs : Option (List ℕ)) (version : ℕ) → IsVersionFor costs version → (1 ≤ version) × (version ≤ 4)
-version_within None version is = (is.0, (let few = is.1 in omega (arith, few)))
-version_within (Some costs) version is = (omega (arith, is), omega (arith, is))
-
-costed : (costs : Option (List ℕ)) (version : ℕ) → IsVersionFor costs version → nat_le 4 version ≡ true → IsSome costs
-costed None version is late = let four = leb-true 4 version late in let few = is.1 in absurd (omega (arith, four, few))
-costed (Some costs) version is late = refl
-
-uncosted : (costs : Option (List ℕ)) (version : ℕ) → IsVersionFor costs version → nat_le 4 version ≡ false → costs ≡ None
-uncosted None version is early = refl
-uncosted (Some costs) version is early = let low = leb-false 4 version early in absurd (omega (arith, low, is))
-
-pub in_limits : (s : Settings) → AreInLimits s → s.seed < 2 ^ 32 → is_pool s.pool ≡ true → IfSome s.costs AreCosts → IsHeader s
-in_limits s l seed pool costs = record { numbers = each; pool = pool; costs = costs; costed = costed s.costs s.version l.version; uncosted = uncosted s.costs s.version l.version; unsaid = said }
-  where
-    each : (f : Field) → IsWithin f (number_in s f)
-    each field.Version = version_within s.costs s.version l.version
-    each field.Regs = (l.some_regs, l.few_regs)
-    each field.Left = (l.some_left, l.few_left)
-    each field.Seed = (omega arith, omega (arith, seed))
-    each field.Budget = (l.some_budget, l.few_budget)
-    each field.Scratch = (omega arith, l.few_scratch)
-
-    -- each version has a line for each number but that of scratch registers
-    has : nat_le 1 s.version ≡ false → ⊥
-    has none = let late = leb-false 1 s.version none in let some = (version_within s.costs s.version l.version).0 in omega (arith, late, some)
-
-    said : (f : Field) → has_line s.version (Number f) ≡ false → number_in s f ≡ number_in blank f
-    said field.Version none = absurd (has none)
-    said field.Regs none = absurd (has none)
-    said field.Left none = absurd (has none)
-    said field.Seed none = absurd (has none)
-    said field.Budget none = absurd (has none)
-    said field.Scratch none = let late = leb-false 2 s.version none in let some = (version_within s.costs s.version l.version).0 in l.first_version (omega (arith, late, some))
 
 pub valid : (s : Settings) (windows : List Window) (states : List Seen) (rules : List Rule) → IsHeader s → width_of s ≤ 5000000 → Progress s windows states rules → IsTable (table_with s states rules)
 valid s windows states rules is narrow g = record {

@@ -24,7 +24,7 @@ use Rattle.rule_table.specs.declared.header.HeaderLine.{HeaderLine}
 use Rattle.rule_table.specs.declared.header.HeaderLine.TheVariants as head
 use Rattle.rule_table.specs.Header.{Header, heads, has_line, number_in, row, IsWithin, IsHeader}
 use Rattle.rule_table.specs.Table.{Opened, Rule, Table, IsState}
-use Rattle.rule_table.proofs.LinesTell.{within_small}
+use Rattle.rule_table.proofs.LinesTell.{within_small, word_short}
 use Rattle.rule_table.specs.Text.{Item, Number, Pool, Costs, State, Entry, Left, Right, Mask, Proof, Logged, Open, End, hex_of, instr_text, named, after_blanks, line_of, text_of_items, open_items, rule_items, said, cost_numbers, line_items, header_items, items_of}
 use Rattle.table_learn.specs.Learnt.{Settings, text_length}
 use Rattle.table_learn.specs.Lengths.{lines_length, log_length, opens_length, rules_length, instr_length, item_length}
@@ -230,20 +230,12 @@ numbered_line x word n is small =
     let d = few_digits n small in
     omega (arith, a, l, b, d)
 
-short_word : (f : Field) → length (row f).word ≤ 8
-short_word field.Version = omega arith
-short_word field.Regs = omega arith
-short_word field.Left = omega arith
-short_word field.Seed = omega arith
-short_word field.Budget = omega arith
-short_word field.Scratch = omega arith
-
 row_line : (f : Field) (n : ℕ) → IsWithin f n → lines_length (Number f n ∷ []) ≤ length (row f).word + 21
 row_line f n is = numbered_line (Number f n) (row f).word n refl (within_small f n is)
 
 -- the numbers' lines, the pool's and that of the costs
 head_short : (h : Header) → IsHeader h → (line : HeaderLine) → lines_length (said h line ∷ []) ≤ 600
-head_short h is (head.Number f) = omega (arith, row_line f (number_in h f) (is.numbers f), short_word f)
+head_short h is (head.Number f) = omega (arith, row_line f (number_in h f) (is.numbers f), word_short f)
 head_short h is head.Pool =
     let p = bounds h.pool is.pool in
     let one = one_line (Pool h.pool) in
@@ -269,8 +261,9 @@ heads_short h is (line ∷ lines) =
     let both = lines-append (line_items h line) (flat_map (line_items h) lines) in
     omega (arith, both, line_short h is line, heads_short h is lines)
 
-pub short_header : (s : Settings) → IsHeader s → lines_length (header_items s) ≤ 4800
-short_header s is = heads_short s is heads
+-- of a hundred lines
+pub short_header : (s : Settings) → IsHeader s → lines_length (header_items s) ≤ 60000
+short_header s is = (let few = heads_short s is heads in omega (arith, few))
 
 -- before the first window
 pub text_begins : (s : Settings) (states : List Seen) → IsHeader s → All IsState states → length states ≡ 64 → text_length (table_with s states []) ≤ 67108864

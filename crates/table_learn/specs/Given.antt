@@ -6,6 +6,7 @@ use Rattle.seq_enum.specs.Alphabet.{IsOver}
 use Rattle.bit_blast.specs.Exactness.{IsMaskOver}
 use Rattle.table_audit.specs.Shorter.{named_count, IsCanonicalSide}
 use Rattle.rule_table.specs.declared.header.Header as code
+use Rattle.rule_table.specs.Header.{IsHeader}
 use Rattle.rule_table.specs.Views.{header_of}
 use Rattle.table_learn.specs.Learnt.{Settings, Window}
 
@@ -17,18 +18,10 @@ abbrev pub IsVersionFor : Option (List ℕ) → ℕ → Type 0
 IsVersionFor None version = (1 ≤ version) × (version ≤ 2)
 IsVersionFor (Some costs) version = version ≡ 4
 
--- each lies in its limits; the seed, the pool and the costs do so by their types
+-- each lies in the limits of its line, and the version is one that is learnt
 pub record AreInLimits (s : Settings) : Type 0 where
-  pub some_regs : 1 ≤ s.regs
-  pub few_regs : s.regs ≤ 4
-  pub some_left : 1 ≤ s.left
-  pub few_left : s.left ≤ 5
-  pub some_budget : 1 ≤ s.budget
-  pub few_budget : s.budget ≤ 1000000
+  pub header : IsHeader s
   pub version : IsVersionFor s.costs s.version
-  pub few_scratch : s.scratch ≤ 1
-  -- version 1 has no scratch register
-  pub first_version : s.version ≡ 1 → s.scratch ≡ 0
 
 abbrev pub window_of : List Instr × Mask → Window
 window_of p = record { seq = p.0; mask = p.1.items.bits }

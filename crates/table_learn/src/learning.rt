@@ -17,7 +17,7 @@ use crate::errors::LearnError;
 use crate::keeping::candidates;
 use crate::lengths::{entry_length, plus, times};
 use crate::searching::search;
-use crate::settings::{Settings, hold};
+use crate::settings::Settings;
 use crate::window::Window;
 use fingerprints::{Tables, seeded};
 use rule_table::{Entry, Table, write_table};
@@ -58,7 +58,6 @@ fn begin(alloc: Global, settings: Settings) -> Result<(Settings, Learner), Alloc
     ensures begun { IfOk result (λ r. HasLearnt (settings_of settings) [] r.1) }
     ensures short { IfOk result (λ r. r.1.bytes ≤ text_limit) }
 {
-    hold(&settings);
     let states = seeded(alloc, settings.seed)?.into_vec();
     let table = table_of(alloc, settings, states, Vec::new(alloc));
     let bytes = write_table(alloc, &table)?.len() as u64;

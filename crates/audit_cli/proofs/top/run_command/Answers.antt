@@ -8,6 +8,7 @@ use Rattle.command_runs.specs.Plans.{Plan}
 use Rattle.command_runs.specs.Runs.{Runs}
 use Rattle.audit_cli.specs.Rewrite.{RewriteComesTo}
 use Rattle.audit_cli.specs.Tables.{AuditComesTo, ExportComesTo}
+use Rattle.rule_table.specs.Header.{learnt_header}
 use Rattle.table_learn.specs.Learnt.{Settings}
 use Rattle.audit_cli.specs.Learn.{LearnComesTo, LearnByCostsComesTo}
 use Rattle.audit_cli.specs.Trace.{TraceComesTo}
@@ -44,7 +45,7 @@ pub returns-in-None-clause-runs : goal.returns-in-None-clause-runs
 returns-in-None-clause-runs g c =
     let k = c.in-Learn in
     let settings : Settings =
-    record { version = 2; regs = k.regs.number; left = k.left.number; budget = k.budget.number; seed = k.seed; pool = k.pool; scratch = k.scratch.number; costs = None } in
+    record (learnt_header k.regs.number k.left.number k.budget.number k.seed k.scratch.number k.pool None) { version = 2 } in
     let out : c.as_str-in-Learn.result.now ≡ string_bytes k.out = c.as_str-in-Learn.ensures.value in
     let listing : c.as_str-in-None.result.now ≡ string_bytes k.listing = c.as_str-in-None.ensures.value in
     let is = k.is ∙ ap (λ costs. Learn k.listing k.out costs k.regs k.left k.budget k.seed k.scratch k.pool) c.in-None.is in
@@ -56,7 +57,7 @@ pub returns-in-Some-clause-runs : goal.returns-in-Some-clause-runs
 returns-in-Some-clause-runs g c =
     let k = c.in-Learn in
     let settings : Settings =
-    record { version = 4; regs = k.regs.number; left = k.left.number; budget = k.budget.number; seed = k.seed; pool = k.pool; scratch = k.scratch.number; costs = None } in
+    record (learnt_header k.regs.number k.left.number k.budget.number k.seed k.scratch.number k.pool None) { version = 4 } in
     let out : c.as_str-in-Learn.result.now ≡ string_bytes k.out = c.as_str-in-Learn.ensures.value in
     let listing : c.as_str-in-Some.result.now ≡ string_bytes k.listing = c.as_str-in-Some.ensures.value in
     let cost_text : c.as_str-in-Some-2.result.now ≡ string_bytes c.in-Some.cost_text = c.as_str-in-Some-2.ensures.value in

@@ -4,8 +4,8 @@ use Rattle.std.proofs.lemmas.Bool.{cases_Bool}
 use Rattle.std.proofs.lemmas.List.Elements.{All-cons, All-nil}
 use Rattle.thumb_instr.specs.declared.instr.Instr.{Instr}
 use Rattle.thumb_instr.specs.declared.items.Mask.{Mask}
-use Rattle.rule_table.specs.declared.header.Field.TheVariants.{Version, Regs, Left, Budget, Scratch}
-use Rattle.rule_table.specs.declared.header.HeaderLine.TheVariants.{Number, Costs}
+use Rattle.rule_table.specs.declared.header.Field.TheVariants.{Version}
+use Rattle.rule_table.specs.declared.header.HeaderLine.TheVariants.{Costs}
 use Rattle.rule_table.specs.Header.{has_line, IsWithin}
 use Rattle.rule_table.specs.Table.{Table}
 use Rattle.rule_table.specs.Views.{header_in}
@@ -45,14 +45,7 @@ learn-requires-clause-settings c =
     let same : held ≡ settings_of c.into_parts-settings.result.0 = ap (λ (t : Table). t.header) c.into_parts-settings.ensures in
     let in_limits : AreInLimits held =
     record {
-      some_regs = (c.requires.header.numbers Regs).0;
-      few_regs = (c.requires.header.numbers Regs).1;
-      some_left = (c.requires.header.numbers Left).0;
-      few_left = (c.requires.header.numbers Left).1;
-      some_budget = (c.requires.header.numbers Budget).0;
-      few_budget = (c.requires.header.numbers Budget).1;
+      header = c.requires.header;
       version = version_for held.costs held.version (c.requires.header.numbers Version) c.requires.header.costed c.requires.header.uncosted (c.is_learnt.ensures.0 c.if-not-is_learnt.false);
-      few_scratch = (c.requires.header.numbers Scratch).1;
-      first_version = λ e. c.requires.header.unsaid Scratch (ap (λ (v : ℕ). has_line v (Number Scratch)) e);
     } in
     subst AreInLimits same in_limits

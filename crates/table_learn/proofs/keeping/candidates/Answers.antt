@@ -65,7 +65,7 @@ in_order-requires g c =
     let e = c.in_ok-outcomes.outcomes in
     let trial : Trial = record { start = get_or c.args.states.now 0 zeros; end = c.run_seq.result } in
     all_there s w (table.sequences_below e.alphabet (c.longest_below-longest.result + 1)) c.candidates.new.outcomes.alphabet trial c.in_ok-found.found.items
-    (are_left s w c.args.window.now.k c.longest_below-longest.result e c.candidates.new.outcomes trial c.in_ok-found.found.items c.requires.window c.hold.ensures.costs c.requires.short c.requires.counted c.in_ok-outcomes.ensures.taken.alphabet c.longest_below-longest.ensures c.in_ok-found.ensures.grown c.in_ok-found.ensures.candidates)
+    (are_left s w c.args.window.now.k c.longest_below-longest.result e c.candidates.new.outcomes trial c.in_ok-found.found.items c.requires.window c.hold.ensures c.requires.short c.requires.counted c.in_ok-outcomes.ensures.taken.alphabet c.longest_below-longest.ensures c.in_ok-found.ensures.grown c.in_ok-found.ensures.candidates)
 
 pub returns-clause-candidates : goal.returns-clause-candidates
 returns-clause-candidates g c =
@@ -74,7 +74,7 @@ returns-clause-candidates g c =
     let e = c.in_ok-outcomes.outcomes in
     let here : WState = get_or c.args.states.now 0 zeros in
     let trial : Trial = record { start = here; end = c.run_seq.result } in
-    let left = are_left s w c.args.window.now.k c.longest_below-longest.result e c.candidates.new.outcomes trial c.in_ok-found.found.items c.requires.window c.hold.ensures.costs c.requires.short c.requires.counted c.in_ok-outcomes.ensures.taken.alphabet c.longest_below-longest.ensures c.in_ok-found.ensures.grown c.in_ok-found.ensures.candidates in
+    let left = are_left s w c.args.window.now.k c.longest_below-longest.result e c.candidates.new.outcomes trial c.in_ok-found.found.items c.requires.window c.hold.ensures c.requires.short c.requires.counted c.in_ok-outcomes.ensures.taken.alphabet c.longest_below-longest.ensures c.in_ok-found.ensures.grown c.in_ok-found.ensures.candidates in
     candidates_are s c.args.states.now w (table.sequences_below e.alphabet (c.longest_below-longest.result + 1)) c.candidates.new.outcomes.alphabet here trial c.in_ok-found.found.items c.in_ok-numbers.numbers.items c.args.window.now.mask.in_masks left
     (first_seen c.args.states.now zeros c.requires.states) refl c.run_seq.ensures.values c.in_ok-numbers.ensures
 

@@ -10,7 +10,7 @@ use Rattle.rule_table.specs.Header.{IsHeader}
 use Rattle.table_learn.specs.Given.{settings_of}
 use Rattle.table_learn.specs.Learnt.{text_length}
 use Rattle.table_learn.specs.Progress.{Progress, table_with}
-use Rattle.table_learn.proofs.Gains.{start, in_limits}
+use Rattle.table_learn.proofs.Gains.{start}
 use Rattle.table_learn.proofs.TextLengths.{text_begins}
 use Rattle.table_learn.proofs.learning.begin.Goals as goal
 use Rattle.table_audit.proofs.Limits.{states_count}
@@ -41,7 +41,7 @@ module _ (c : goal.After-drop-none) where
       ∙ ap (λ (rs : List Rule). text_length (table_with (settings_of c.args.settings) (map seen c.into_vec.result.items) rs)) (ap (λ (es : List Entry). map rule_of es) c.new.ensures.items)
 
   is_header : IsHeader (settings_of c.args.settings)
-  is_header = in_limits (settings_of c.args.settings) c.requires.limits c.hold.ensures.seed c.hold.ensures.pool c.hold.ensures.costs
+  is_header = c.requires.limits.header
 
 pub returns-clause-header : goal.returns-clause-header
 returns-clause-header c = is_header c

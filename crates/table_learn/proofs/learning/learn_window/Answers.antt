@@ -3,6 +3,7 @@ use Rattle.std.specs.Prelude.{All}
 use Rattle.std.proofs.lemmas.List.{map_push, length-map}
 use Rattle.window_exec.specs.declared.state.WState.{WState}
 use Rattle.window_exec.specs.State.{seen}
+use Rattle.rule_table.specs.declared.header.Field.TheVariants.{Left}
 use Rattle.rule_table.specs.Text.{rule_items}
 use Rattle.rule_table.specs.Views.{rule_of}
 use Rattle.table_learn.specs.Given.{settings_of}
@@ -19,7 +20,7 @@ pub candidates-requires-clause-left : goal.candidates-requires-clause-left
 candidates-requires-clause-left g c = (side_over (settings_of c.args.settings.now) (window_in c.args.window) c.requires.window).2
 
 pub candidates-requires-clause-short : goal.candidates-requires-clause-short
-candidates-requires-clause-short g c = narrow_lengths (settings_of c.args.settings.now) (window_in c.args.window) c.requires.window c.requires.limits.few_left c.requires.narrow
+candidates-requires-clause-short g c = narrow_lengths (settings_of c.args.settings.now) (window_in c.args.window) c.requires.window (c.requires.limits.header.numbers Left).1 c.requires.narrow
 
 pub candidates-requires-clause-states : goal.candidates-requires-clause-states
 candidates-requires-clause-states g c =
