@@ -1,5 +1,5 @@
 -- A formula of which a proof is accepted has no model.
-use Rattle.std.proofs.Common.{◌≡◌, ℕ, ◌+◌, ◌-◌, ℤ, List, [], ◌∷◌, ◌++◌, map, sym, inl, inr, arith, Option, None, subst, Bool, true, false, append_assoc}
+use Rattle.std.proofs.Common.{◌≡◌, ℕ, ℤ, List, [], ◌∷◌, ◌++◌, map, sym, inl, inr, arith, Option, None, subst, Bool, true, false, append_assoc}
 use Rattle.std.specs.Prelude.{All, nat_eq, unsigned_abs}
 use Rattle.std.proofs.lemmas.Bool.{cases_eq}
 use Rattle.std.proofs.lemmas.Bool.Decides.{nat_tests}

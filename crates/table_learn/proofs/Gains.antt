@@ -6,7 +6,7 @@ use Rattle.std.proofs.lemmas.Bool.{cases_lt}
 use Rattle.std.proofs.lemmas.Option.{slice_get_within}
 use Rattle.thumb_instr.specs.declared.instr.Instr.{Instr}
 use Rattle.thumb_model.specs.Effect.{AreOver}
-use Rattle.seq_enum.specs.Alphabet.{is_pool, IsOver}
+use Rattle.seq_enum.specs.Alphabet.{IsOver}
 use Rattle.std.specs.Int.{w32, rotate_right}
 use Rattle.std.proofs.Math.Nat.{div-le_self}
 use Rattle.std.proofs.lemmas.Nat.{or_of_32}
