@@ -22,7 +22,7 @@ use Rattle.thumb_model.proofs.LinesReplaced.{kept_places}
 use Rattle.kept_layout.proofs.BuildingParts.{bare_behind, bare_plain as bare_head, fixed_plain as plain_head}
 use Rattle.thumb_model.proofs.Cuts.{without_none}
 use Rattle.thumb_model.proofs.Shared.{two_bytes}
-use Rattle.label_layout.proofs.Shared.{two_least}
+use Rattle.label_layout.proofs.Shared.{new_before, two_least}
 
 -- ---- sizes ----
 
@@ -266,14 +266,6 @@ given write i is new short in_window (l ∷ ls) j p f = given_step write i is ne
 
 -- ---- bare lines ----
 
-bare_append : (xs ys : List ListingLine) → AreBare xs → AreBare ys → AreBare (xs ++ ys)
-bare_append [] ys a b = b
-bare_append (x ∷ xs) ys a b = (a.0, a.1, bare_append xs ys a.2 b)
-
-bare_new : (write : Instr → List ℕ) (is : List Instr) → AreBare (map (new_line write) is)
-bare_new write [] = tt
-bare_new write (i ∷ is) = (refl, refl, bare_new write is)
-
 bare_without : (n : ℕ) (ls : List ListingLine) → AreBare ls → AreBare (without n ls)
 bare_without n [] b = tt
 bare_without zero (l ∷ ls) b = b
@@ -283,7 +275,7 @@ bare_without (suc n) (l ∷ ls) b = elim (cases_Bool (is_op l.statement)) [
 ]
 
 bare_given : (write : Instr → List ℕ) (n : ℕ) (is : List Instr) (ls : List ListingLine) → AreBare ls → AreBare (map (new_line write) is ++ without n ls)
-bare_given write n is ls b = bare_append (map (new_line write) is) (without n ls) (bare_new write is) (bare_without n ls b)
+bare_given write n is ls b = new_before AreBare write (λ i rest a. (refl, refl, a)) is (without n ls) (bare_without n ls b)
 
 bare_replaced : (write : Instr → List ℕ) (p count : ℕ) (is : List Instr) (ls : List ListingLine) → AreBare ls → AreBare (replaced_lines write p count is ls)
 bare_replaced write p count is [] b = tt

@@ -8,6 +8,7 @@ use Rattle.thumb_model.specs.Layout.{instr_size, is_among, set_in, set_address}
 use Rattle.thumb_model.specs.Replaced.{is_op, without, labels_kept, new_line, replaced_lines}
 use Rattle.thumb_model.proofs.LinesReplaced.{AllOutside, all_back, no_names}
 use Rattle.thumb_model.proofs.Lists.{drop_back, length_map}
+use Rattle.label_layout.proofs.Shared.{new_before}
 use Rattle.steady_layout.specs.declared.starts.Start.{Start}
 use Rattle.steady_layout.specs.Steady.{most_of, ends_aligned, steady_at}
 use Rattle.steady_layout.proofs.Walks.{Sizes, after, look, ending, steady_by, ends_within}
@@ -50,10 +51,6 @@ pub record IsNoLonger (old new : List ListingLine) : Type 0 where
   pub bytes : total new ≤ total old
   pub aligned : (x y : Bool) → (x ≡ true → y ≡ true) → flags x old ≡ true → flags y new ≡ true
   pub sets : (name : Name) (ls : List ListingLine) → set_address name (old ++ ls) ≡ set_address name (new ++ ls)
-
-bare_append : (xs ys : List ListingLine) → AreBare xs → AreBare ys → AreBare (xs ++ ys)
-bare_append [] ys h k = k
-bare_append (x ∷ xs) ys h k = (h.0, bare_append xs ys h.1 k)
 
 total_append : (xs ys : List ListingLine) → total (xs ++ ys) ≡ total xs + total ys
 total_append [] ys = omega arith
@@ -220,10 +217,6 @@ cut_cons l ls news c = record {
 }
 
 -- the lines of new instructions
-fresh_bare : (write : Instr → List ℕ) (is : List Instr) → AreBare (map (new_line write) is)
-fresh_bare write [] = tt
-fresh_bare write (i ∷ is) = (record { names = refl; steady = λ labels sets base here. refl }, fresh_bare write is)
-
 fresh_total : (write : Instr → List ℕ) (is : List Instr) → AreTwos is → total (map (new_line write) is) ≡ 2 * length is
 fresh_total write [] h = refl
 fresh_total write (i ∷ is) h = let r = fresh_total write is h.1 in let two = h.0 in omega arith
@@ -236,7 +229,7 @@ window_no_longer : (write : Instr → List ℕ) (n : ℕ) (is : List Instr) (l :
     → IsNoLonger (bare_of l ∷ k.old) (map (new_line write) is ++ k.new)
 window_no_longer write n is l i ls e two short twos k = record {
   unnamed_old = (refl, bare_unnamed k.old k.bare_old);
-  bare_new = bare_append (map (new_line write) is) k.new (fresh_bare write is) k.bare_new;
+  bare_new = new_before AreBare write (λ i rest bare. (record { names = refl; steady = λ labels sets base here. refl }, bare)) is k.new k.bare_new;
   bytes =
       let size : most_of l.statement ≡ 2 = rw e two in
       let b = k.bytes in
