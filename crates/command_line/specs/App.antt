@@ -1,5 +1,5 @@
 -- The program and its commands, as clap's definitions see them.
-use Rattle.std.specs.Prelude.{true, List, [], ◌∷◌, Option, Some, codes, find, fold, map, option_and_then}
+use Rattle.std.specs.Prelude.{Bool, true, false, List, [], ◌∷◌, Option, Some, codes, find, fold, map, option_and_then}
 use Rattle.std.specs.Str.{bytes_eq}
 use Rattle.clap.specs.Words.{App, Row, first_of, Rule, Text, new_app, new_rule, with_rule, with_subcommand}
 use Rattle.command_line.specs.CommandLine.{Request, Form, rewrites, audits, learns, exports, traces, demos, upgrades, trims, tidies, generalises, all_given, name_of, options_of, request_by}
@@ -12,17 +12,18 @@ positional id = record (new_rule id) { required = true }
 abbrev pub option : Text → Rule
 option id = record (new_rule id) { long = Some id }
 
--- a command with these positional words more
-abbrev pub with_positionals : App → List Text → App
-with_positionals command words = fold (λ a id. with_rule a (positional id)) command words
+-- an option, or else a positional word
+abbrev pub argument : Bool → Text → Rule
+argument true = option
+argument false = positional
 
--- a command with these options more
-abbrev pub with_all_options : App → List Text → App
-with_all_options command options = fold (λ a id. with_rule a (option id)) command options
+-- a command with one more such argument for each of these names
+abbrev pub with_all : (Text → Rule) → App → List Text → App
+with_all rule command ids = fold (λ a id. with_rule a (rule id)) command ids
 
 -- a command with these positional words and options
 abbrev pub command_app : Text → List Text → List Text → App
-command_app name words options = with_all_options (with_positionals (new_app name) words) options
+command_app name words options = with_all option (with_all positional (new_app name) words) options
 
 -- the commands
 abbrev pub forms : List Form

@@ -3,65 +3,43 @@
 ghost use Rattle.std.specs.Prelude.{◌≡◌, IfOk, false, map};
 ghost use Rattle.clap.specs.Words.{app_of, with_rule, with_subcommand};
 ghost use Rattle.clap.specs.declared.builder.Command.TheViews.{out-Command as fields_of};
-ghost use Rattle.command_line.specs.App.{positional, option, with_positionals, with_all_options, command_app, bare_app, peep_app};
+ghost use Rattle.command_line.specs.App.{argument, with_all, command_app, bare_app, peep_app};
 
 use clap::{Arg, Command};
 use std::alloc::{AllocError, Global};
 
-/// The command with one more positional word.
-fn with_word<'a>(
+/// The command with one more argument: an option, `--id`, or else a positional word.
+fn with_argument<'a>(
     alloc: Global,
     command: Command<'a>,
     id: &'a str,
+    is_option: bool,
 ) -> Result<Command<'a>, AllocError>
     requires { (fields_of command).has_globals ≡ false }
-    ensures app { IfOk result (λ c. app_of c ≡ with_rule (app_of command.entry) (positional id.entry.now)) }
+    ensures app { IfOk result (λ c. app_of c ≡ with_rule (app_of command.entry) (argument is_option id.entry.now)) }
     ensures own { IfOk result (λ c. (fields_of c).has_globals ≡ false) }
 {
-    command.arg(Arg::new(alloc, id).required(true))
-}
-
-/// The command with one more option, `--id`.
-fn with_option<'a>(
-    alloc: Global,
-    command: Command<'a>,
-    id: &'a str,
-) -> Result<Command<'a>, AllocError>
-    requires { (fields_of command).has_globals ≡ false }
-    ensures app { IfOk result (λ c. app_of c ≡ with_rule (app_of command.entry) (option id.entry.now)) }
-    ensures own { IfOk result (λ c. (fields_of c).has_globals ≡ false) }
-{
-    command.arg(Arg::new(alloc, id).long(id))
-}
-
-/// The command with these positional words more.
-fn with_words<'a>(
-    alloc: Global,
-    mut command: Command<'a>,
-    words: &[&'a str],
-) -> Result<Command<'a>, AllocError>
-    requires { (fields_of command).has_globals ≡ false }
-    ensures app { IfOk result (λ c. app_of c ≡ with_positionals (app_of command.entry) (map (λ s. s.now) words.entry.now)) }
-    ensures own { IfOk result (λ c. (fields_of c).has_globals ≡ false) }
-{
-    for id in words {
-        command = with_word(alloc, command, id)?;
+    let arg = Arg::new(alloc, id);
+    if is_option {
+        command.arg(arg.long(id))
+    } else {
+        command.arg(arg.required(true))
     }
-    Ok(command)
 }
 
-/// The command with these options more, `--id`.
-fn with_options<'a>(
+/// The command with these arguments more: options, or else positional words.
+fn with_arguments<'a>(
     alloc: Global,
     mut command: Command<'a>,
-    options: &[&'a str],
+    ids: &[&'a str],
+    are_options: bool,
 ) -> Result<Command<'a>, AllocError>
     requires { (fields_of command).has_globals ≡ false }
-    ensures app { IfOk result (λ c. app_of c ≡ with_all_options (app_of command.entry) (map (λ s. s.now) options.entry.now)) }
+    ensures app { IfOk result (λ c. app_of c ≡ with_all (argument are_options) (app_of command.entry) (map (λ s. s.now) ids.entry.now)) }
     ensures own { IfOk result (λ c. (fields_of c).has_globals ≡ false) }
 {
-    for id in options {
-        command = with_option(alloc, command, id)?;
+    for id in ids {
+        command = with_argument(alloc, command, id, are_options)?;
     }
     Ok(command)
 }
@@ -76,8 +54,8 @@ fn with_command<'a>(
 ) -> Result<Command<'a>, AllocError>
     ensures { IfOk result (λ c. app_of c ≡ with_subcommand (app_of program.entry) (command_app name.entry.now (map (λ s. s.now) words.entry.now) (map (λ s. s.now) options.entry.now)).top) }
 {
-    let command = with_words(alloc, Command::new(alloc, name), words)?;
-    let command = with_options(alloc, command, options)?;
+    let command = with_arguments(alloc, Command::new(alloc, name), words, false)?;
+    let command = with_arguments(alloc, command, options, true)?;
     program.subcommand(command)
 }
 

@@ -1,11 +1,11 @@
 use Rattle.std.proofs.Common.{◌≡◌, false, map, drop}
 use Rattle.clap.specs.Words.{app_of}
 use Rattle.clap.specs.declared.builder.Command.TheViews.{out-Command as fields_of}
-use Rattle.command_line.specs.App.{with_all_options}
-use Rattle.command_line.proofs.app.with_options.Given as goal
+use Rattle.command_line.specs.App.{argument, with_all}
+use Rattle.command_line.proofs.app.with_arguments.Given as goal
 
 -- what is left leads to the same
 abbrev pub invariant-loop-id : goal.invariant-loop-id
 invariant-loop-id l =
-    (with_all_options (app_of l.command) (map (λ s. s.now) (drop l.id-index l.options)) ≡ with_all_options (app_of l.initial.command) (map (λ s. s.now) l.options))
+    (with_all (argument l.are_options) (app_of l.command) (map (λ s. s.now) (drop l.id-index l.ids)) ≡ with_all (argument l.are_options) (app_of l.initial.command) (map (λ s. s.now) l.ids))
     × ((fields_of l.command).has_globals ≡ false)
