@@ -4,7 +4,8 @@ use Rattle.std.proofs.lemmas.Option.{same_Some}
 use Rattle.thumb_instr.specs.declared.instr.Instr.{Instr}
 use Rattle.thumb_model.specs.Listing.{Place, Op, Word}
 use Rattle.listing_draft.specs.Drafted.{instr_in, name_in}
-use Rattle.flow_tidy.specs.Tidying.{is_always, is_branch}
+use Rattle.flow_tidy.specs.Due.{is_branch_always}
+use Rattle.flow_tidy.specs.Tidying.{is_branch}
 use Rattle.flow_tidy.specs.Made.{label_of_always, label_of_branch}
 
 pub label_branch : (o : Option Place) (i : Instr) → instr_in o ≡ Some i → is_branch i ≡ true → label_of_branch o ≡ name_in o
@@ -24,19 +25,10 @@ label_none None e = refl
 label_none (Some (Word v)) e = refl
 label_none (Some (Op j m)) e = absurd (cc)
 
-pub always_branch : (o : Option Place) (i : Instr) → instr_in o ≡ Some i → is_always i ≡ true → label_of_always o ≡ name_in o
-always_branch None i e h = absurd (cc)
-always_branch (Some (Word v)) i e h = absurd (cc)
-always_branch (Some (Op j None)) i e h = refl
-always_branch (Some (Op j (Some m))) i e h = ap (λ b. if b then Some m.name else None) (ap is_always (same_Some j i e) ∙ h)
+pub always_branch : (o : Option Place) → is_branch_always o ≡ true → label_of_always o ≡ name_in o
+always_branch (Some (Op j (Some m))) h = ap (λ b. if b then Some m.name else None) h
+always_branch o h = refl
 
-pub always_other : (o : Option Place) (i : Instr) → instr_in o ≡ Some i → is_always i ≡ false → label_of_always o ≡ None
-always_other None i e h = absurd (cc)
-always_other (Some (Word v)) i e h = absurd (cc)
-always_other (Some (Op j None)) i e h = refl
-always_other (Some (Op j (Some m))) i e h = ap (λ b. if b then Some m.name else None) (ap is_always (same_Some j i e) ∙ h)
-
-pub always_none : (o : Option Place) → instr_in o ≡ None → label_of_always o ≡ None
-always_none None e = refl
-always_none (Some (Word v)) e = refl
-always_none (Some (Op j m)) e = absurd (cc)
+pub always_other : (o : Option Place) → is_branch_always o ≡ false → label_of_always o ≡ None
+always_other (Some (Op j (Some m))) h = ap (λ b. if b then Some m.name else None) h
+always_other o h = refl

@@ -44,15 +44,10 @@ pub(crate) fn hop(draft: &mut Draft, place: u32) -> Option<u32>
     ensures kept { IfSome result (λ q. is_gone draft.old.gone q ≡ false) }
     ensures same { draft.new ≡ draft.old }
 {
-    match draft.instr(place) {
-        None => None,
-        Some(instr) => {
-            if is_always(&instr) {
-                draft.goes_to(place)
-            } else {
-                None
-            }
-        }
+    if is_branch_always(draft, place) {
+        draft.goes_to(place)
+    } else {
+        None
     }
 }
 
