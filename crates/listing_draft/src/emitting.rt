@@ -7,7 +7,7 @@ ghost use Rattle.listing_draft.specs.Drafted.{line_now, now_of};
 ghost use Rattle.listing_draft.specs.Invariant.{names_of};
 
 use kept_places::KeptPlaces;
-use listing_parser::{ListingLine, Memory, Statement, branch_line, is_op, label_line};
+use listing_parser::{ListingLine, Memory, Statement, branch_line, is_op, line_of_labels};
 use std::alloc::{AllocError, Global};
 
 /// How many lines were passed, and how many places they have.
@@ -31,7 +31,7 @@ fn emit_labels(out: &mut Vec<ListingLine>, line: ListingLine) -> Result<(), Allo
         return Ok(());
     }
     text.truncate(front);
-    out.push(label_line(names, text)?)?;
+    out.push(line_of_labels(names, text)?)?;
     Ok(())
 }
 

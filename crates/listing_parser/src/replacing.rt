@@ -160,7 +160,7 @@ fn front_text(alloc: Global, line: &ListingLine) -> Result<Vec<u8>, AllocError>
 }
 
 /// The line of these labels alone, whose text is the bytes up to the last one's colon and a newline.
-pub fn label_line(names: Vec<Vec<u8>>, mut text: Vec<u8>) -> Result<ListingLine, AllocError>
+pub fn line_of_labels(names: Vec<Vec<u8>>, mut text: Vec<u8>) -> Result<ListingLine, AllocError>
     requires { 0 < length names.items }
     ensures { IfOk result (λ l. line_view l ≡ record { names = map (λ name. name.items) names.items; statement = Nothing; text = text.items ++ 10 ∷ []; front = text.items ++ 10 ∷ [] }) }
 {
@@ -188,7 +188,7 @@ pub fn add_labels(
     }
     let names = copy_names(alloc, &line.names)?;
     let front = front_text(alloc, line)?;
-    out.push(label_line(names, front)?)?;
+    out.push(line_of_labels(names, front)?)?;
     Ok(())
 }
 
