@@ -60,8 +60,7 @@ fn add_line(
     if add_all(alloc, known, &line.names)? {
         return Ok(true);
     }
-    let again = add_set(alloc, known, &line.statement)?;
-    Ok(again)
+    add_set(alloc, known, &line.statement)
 }
 
 /// The first line, by its number from 1, that defines a name again.

@@ -19,8 +19,7 @@ use std::collections::HashSet;
 pub fn read_line(alloc: Global, bytes: &[u8]) -> Result<Option<Line>, Memory>
     ensures { IfOk result (λ r. MatchOption r ((content : Content) → IsLine content → text_of content ≡ bytes.now → ⊥) (λ line. IsLine (content_of line) × (text_of (content_of line) ≡ bytes.now))) }
 {
-    let line = line_of(alloc, bytes)?;
-    Ok(line)
+    line_of(alloc, bytes)
 }
 
 /// The text of a line, with a newline at its end.

@@ -1,6 +1,6 @@
-use Rattle.std.proofs.Common.{◌≡◌, ◌∙◌, ◌++◌, List, map, ap, append_assoc}
+use Rattle.std.proofs.Common.{◌≡◌, ◌++◌, map}
 use Rattle.std.specs.Prelude.{Decides}
-use Rattle.thumb_model.specs.Listing.{Name}
+use Rattle.std.proofs.lemmas.Result.{IfOk-weaker}
 use Rattle.listing_parser.specs.Views.{statement_view, names_view}
 use Rattle.listing_parser.specs.Targets.{set_names, IsAgain}
 use Rattle.listing_parser.proofs.FirstTwice.{is_again}
@@ -18,10 +18,4 @@ returns-clause-again c =
     let told : Decides c.in_ok-add_all.field-0 (IsAgain (map (λ k. k.items) c.args.known.now.keys) (names_view c.args.line.now)) = rw c.deref.ensures.value at c.in_ok-add_all.ensures.again in
     let front : c.in_ok-add_all.field-0 ≡ is_again (map (λ k. k.items) c.args.known.now.keys) (names_view c.args.line.now) = again_is _ _ _ told in
     let known : map (λ k. k.items) c.add_all.new.known.keys ≡ map (λ k. k.items) c.args.known.now.keys ++ names_view c.args.line.now = rw c.deref.ensures.value at (c.in_ok-add_all.ensures.known c.if-branch.false) in
-    again_decides _ _ _ (again_else _ _ (names_view c.args.line.now) (set_names (statement_view c.args.line.now.statement)) _ _ front c.if-branch.false known (again_is _ _ _ c.in_ok-again.ensures.again))
-
-pub returns-clause-known : goal.returns-clause-known
-returns-clause-known c = λ h.
-    let known : map (λ k. k.items) c.add_all.new.known.keys ≡ map (λ k. k.items) c.args.known.now.keys ++ names_view c.args.line.now = rw c.deref.ensures.value at (c.in_ok-add_all.ensures.known c.if-branch.false) in
-    c.in_ok-again.ensures.known h ∙ ap (λ (k : List Name). k ++ set_names (statement_view c.args.line.now.statement)) known
-    ∙ append_assoc (map (λ k. k.items) c.args.known.now.keys) (names_view c.args.line.now) (set_names (statement_view c.args.line.now.statement))
+    IfOk-weaker c.add_set.result _ _ (λ again h. again_decides _ _ _ (again_else _ _ (names_view c.args.line.now) (set_names (statement_view c.args.line.now.statement)) _ _ front c.if-branch.false known (again_is _ _ _ h))) c.add_set.ensures.again
