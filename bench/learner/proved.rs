@@ -17,7 +17,7 @@ use std::io::{Read, Write};
 use std::time::Instant;
 use step_ledger::{Counted, Ledger, Steps};
 use table_learn::{Settings, learn};
-use thumb_instr::{Mask, Seq};
+use thumb_instr::{Mask, Seq, Within};
 use window_harvest::windows;
 
 fn harvest<L: Ledger>(
@@ -78,20 +78,11 @@ fn end_of_costs(text: &[u8]) -> usize
 fn settings(pool: Pool, costs: Option<Costs>) -> Settings
     ensures { AreInLimits (settings_of result) }
 {
-    let (version, left) = match costs {
-        None => (2, 3),
-        Some(_) => (4, 2),
+    let left = match costs {
+        None => Within::of(3),
+        Some(_) => Within::of(2),
     };
-    Settings {
-        version,
-        regs: 3,
-        left,
-        seed: 42,
-        budget: 20_000,
-        pool,
-        scratch: 0,
-        costs,
-    }
+    Settings::learnt(Within::of(3), left, Within::of(20_000), 42, Within::of(0), pool, costs)
 }
 
 fn main(rt: HostRuntime) -> anyhow::Result<()> {

@@ -114,5 +114,5 @@ pub demo_limits : AreInLimits demo_settings
 unfolding is_pool ascends_from
 demo_limits = record {
   header = is_learnt_header 1 2 20000 42 0 (1 ∷ 24 ∷ []) None (omega arith, omega arith) (omega arith, omega arith) (omega arith, omega arith) (omega arith, omega arith) (omega arith, omega arith) refl tt;
-  version = (omega arith, omega arith);
+  version = λ three. omega (arith, three);
 }

@@ -1,6 +1,6 @@
 -- A listing's windows are windows to learn from.
 use Rattle.std.proofs.Common.{◌≡◌, ℕ, zero, suc, ◌+◌, ◌≤◌, List, [], ◌∷◌, ◌++◌, length, map, refl, sym, ap, subst, arith, Result, Ok, Err}
-use Rattle.std.specs.Prelude.{All, Option, None, Some}
+use Rattle.std.specs.Prelude.{All}
 use Rattle.std.specs.Result.{result_map_both}
 use Rattle.std.specs.List.{flat_map}
 use Rattle.std.proofs.lemmas.List.Elements.{All-append, All-cons, All-head, All-map, All-tail}
@@ -14,22 +14,15 @@ use Rattle.seq_enum.specs.ReadingCosts.{ReadsCosts}
 use Rattle.window_harvest.specs.Harvest.{Pair, WindowSpan, pair_of, spot_of, spots_at, spots, IsPairAt, ArePairs, none, passed, given, AreFirsts, ended, known, new, AreHarvest}
 use Rattle.table_audit.specs.Canonical.{IsSideOf}
 use Rattle.table_audit.proofs.CanonicalForms.{form_is_side}
-use Rattle.rule_table.specs.Header.{version_with}
 use Rattle.rule_table.specs.Table.{Table}
 use Rattle.table_learn.specs.Learnt.{Settings, Window}
-use Rattle.table_learn.specs.Given.{window_of, IsVersionFor, IsWindow, AreWindows}
+use Rattle.table_learn.specs.Given.{window_of, IsWindow, AreWindows}
 use Rattle.command_runs.specs.Plans.{Outcome, Refuses}
 use Rattle.audit_cli.specs.declared.refusal.Refusal.{Refusal}
 use Rattle.audit_cli.specs.declared.refusal.Refusal.TheVariants as refusal
 use Rattle.audit_cli.specs.Printed.{refusal_line}
 use Rattle.audit_cli.specs.Learn.{LearnArguments, limits_of, window_for, AreWindowsOf, kept_table, IsUnlearnt, IsLearnt, LinesLearn, unlearnt, learnt, Learns, LearnsByCosts, unpriced, priced_so, priced}
 use Rattle.audit_cli.specs.Answers.{Teach}
-
--- ---- settings ----
-
-pub version_is_for : (costs : Option (List ℕ)) → IsVersionFor costs (version_with costs)
-version_is_for None = (omega arith, omega arith)
-version_is_for (Some costs) = refl
 
 -- ---- windows ----
 

@@ -1,6 +1,6 @@
 //! The header of a table, and its lines. What they begin with and which numbers they may have stands in rows, by which they are read and
 //! written: a further line is a row more, with the first version that has it.
-ghost use Rattle.std.specs.Prelude.{◌≡◌};
+ghost use Rattle.std.specs.Prelude.{◌≡◌, ◌≢◌};
 ghost use Rattle.rule_table.specs.Header.{IsHeader, due_in, has_families, has_line, heads, is_same, learnt_header, row, since};
 ghost use Rattle.rule_table.specs.Views.{header_of, row_of};
 
@@ -36,6 +36,7 @@ impl Header {
     ) -> Header
         ensures same { header_of result ≡ learnt_header regs.number left.number budget.number seed scratch.number pool costs }
         ensures valid { IsHeader (header_of result) }
+        ensures version { result.version ≢ 3 }
     {
         Header {
             version: if costs.is_some() { 4 } else { 2 },

@@ -1,5 +1,5 @@
 -- What is asked of the settings and the windows that are given.
-use Rattle.std.specs.Prelude.{ℕ, ◌≡◌, ◌≤◌, List, All, Option, Some, None, length}
+use Rattle.std.specs.Prelude.{◌≢◌, ◌≤◌, List, All, length}
 use Rattle.thumb_instr.specs.declared.instr.Instr.{Instr}
 use Rattle.thumb_instr.specs.declared.items.Mask.{Mask}
 use Rattle.seq_enum.specs.Alphabet.{IsOver}
@@ -13,15 +13,10 @@ use Rattle.table_learn.specs.Learnt.{Settings, Window}
 abbrev pub settings_of : code.Header → Settings
 settings_of s = header_of s
 
--- tables that go by costs are of version 4, others of version 1 or 2
-abbrev pub IsVersionFor : Option (List ℕ) → ℕ → Type 0
-IsVersionFor None version = (1 ≤ version) × (version ≤ 2)
-IsVersionFor (Some costs) version = version ≡ 4
-
--- each lies in the limits of its line, and the version is one that is learnt
+-- each lies in the limits of its line; a table is learnt in version 1 or 2, or by costs in version 4
 pub record AreInLimits (s : Settings) : Type 0 where
   pub header : IsHeader s
-  pub version : IsVersionFor s.costs s.version
+  pub version : s.version ≢ 3
 
 abbrev pub window_of : List Instr × Mask → Window
 window_of p = record { seq = p.0; mask = p.1.items.bits }

@@ -1,28 +1,12 @@
-use Rattle.std.proofs.Common.{◌≡◌, ◌≢◌, [], ◌∷◌, ℕ, List, Option, Some, None, ap, sym, subst, map, refl, rules, arith, inl, inr, true, false, true≢false, leb-true, leb-false}
-use Rattle.std.specs.Prelude.{IsSome}
-use Rattle.std.proofs.lemmas.Bool.{cases_Bool}
+use Rattle.std.proofs.Common.{◌≡◌, [], ◌∷◌, List, ap, subst, map, refl, rules, false}
 use Rattle.std.proofs.lemmas.List.Elements.{All-cons, All-nil}
 use Rattle.thumb_instr.specs.declared.instr.Instr.{Instr}
 use Rattle.thumb_instr.specs.declared.items.Mask.{Mask}
-use Rattle.rule_table.specs.declared.header.Field.TheVariants.{Version}
-use Rattle.rule_table.specs.declared.header.HeaderLine.TheVariants.{Costs}
-use Rattle.rule_table.specs.Header.{has_line, IsWithin}
 use Rattle.rule_table.specs.Table.{Table}
 use Rattle.rule_table.specs.Views.{header_in}
 use Rattle.table_learn.specs.Learnt.{Settings}
-use Rattle.table_learn.specs.Given.{settings_of, window_of, IsVersionFor, AreInLimits, AreWindows, IsWindow}
+use Rattle.table_learn.specs.Given.{settings_of, window_of, AreInLimits, AreWindows, IsWindow}
 use Rattle.cases.proofs.learning.learnt_table.Goals as goal
-
--- a version that is learnt has costs where it is 4
-version_for : (costs : Option (List ℕ)) (v : ℕ) → IsWithin Version v → (has_line v Costs ≡ true → IsSome costs) → (has_line v Costs ≡ false → costs ≡ None) → v ≢ 3 → IsVersionFor costs v
-version_for None v within costed uncosted other = elim (cases_Bool (has_line v Costs)) [
-  | inl has ↦ absurd (true≢false (sym (costed has)))
-  | inr none ↦ (let few = leb-false 4 v none in (within.0, omega (arith, few, other)))
-]
-version_for (Some costs) v within costed uncosted other = elim (cases_Bool (has_line v Costs)) [
-  | inl has ↦ (let four = leb-true 4 v has in omega (arith, four, within))
-  | inr none ↦ absurd (let bad : Some costs ≡ None = uncosted none in cc)
-]
 
 only_window : (s : Settings) (w : List Instr × Mask) → IsWindow s (window_of w) → AreWindows s (map window_of (w ∷ []))
 only_window s w h = All-cons (IsWindow s) (window_of w) [] h (All-nil (IsWindow s))
@@ -43,9 +27,4 @@ pub learn-requires-clause-settings : goal.learn-requires-clause-settings
 learn-requires-clause-settings c =
     let held = header_in c.args.table in
     let same : held ≡ settings_of c.into_parts-settings.result.0 = ap (λ (t : Table). t.header) c.into_parts-settings.ensures in
-    let in_limits : AreInLimits held =
-    record {
-      header = c.requires.header;
-      version = version_for held.costs held.version (c.requires.header.numbers Version) c.requires.header.costed c.requires.header.uncosted (c.is_learnt.ensures.0 c.if-not-is_learnt.false);
-    } in
-    subst AreInLimits same in_limits
+    subst AreInLimits same (record { header = c.requires.header; version = c.is_learnt.ensures.0 c.if-not-is_learnt.false })
