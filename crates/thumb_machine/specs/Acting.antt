@@ -4,7 +4,6 @@ use Rattle.thumb_machine.specs.declared.answers.Answer.{Answer}
 use Rattle.thumb_machine.specs.declared.world.World.{World}
 use Rattle.thumb_machine.specs.declared.world.Continuation.{Continuation}
 use Rattle.thumb_machine.specs.declared.world.Continuation.TheVariants as next
-use Rattle.thumb_machine.specs.declared.world.End.TheVariants as end
 use Rattle.thumb_machine.specs.declared.world.Target.{Target}
 use Rattle.thumb_machine.specs.declared.world.Target.TheVariants as target
 use Rattle.thumb_machine.specs.declared.world.Landing.{Landing}

@@ -4,7 +4,6 @@ use Rattle.std.specs.HashMap.{get}
 use Rattle.thumb_machine.specs.declared.answers.Answer.{Answer}
 use Rattle.thumb_machine.specs.declared.world.Continuation.{Continuation}
 use Rattle.thumb_machine.specs.declared.world.Continuation.TheVariants as next
-use Rattle.thumb_machine.specs.declared.world.End.TheVariants as end
 use Rattle.thumb_machine.specs.declared.program.PlaceContents.{PlaceContents}
 use Rattle.thumb_machine.specs.declared.program.PlaceContents.TheVariants as contents
 use Rattle.thumb_machine.specs.declared.program.Program.{Program}
