@@ -1,2 +1,0 @@
-pub mod GaveWay
-mod Walks
