@@ -55,7 +55,10 @@ pub(crate) fn members(
     let mut members = PlaceSet::new(alloc, count).ok()?;
     for word in arguments.rest.split(' ') {
         match word {
-            "all" => members = PlaceSet::full(alloc, count).ok()?,
+            "all" => match PlaceSet::full(alloc, count) {
+                Ok(all) => members = all,
+                Err(_) => return None,
+            },
             "least" => add_place(members.take_least(), answer)?,
             "greatest" => add_place(members.take_greatest(), answer)?,
             _ => {
