@@ -10,7 +10,7 @@ ghost use Rattle.audit_cli.specs.Learn.{limits_of};
 
 use listing_parser::{Listing, parse};
 use liveness::live;
-use rule_table::write_table;
+use rule_table::{LearnOptions, write_table};
 use seq_enum::{Costs, Pool, read_costs};
 use std::alloc::Global;
 use std::io::{Read, Write};
@@ -82,7 +82,8 @@ fn settings(pool: Pool, costs: Option<Costs>) -> Settings
         None => Within::of(3),
         Some(_) => Within::of(2),
     };
-    Settings::learnt(Within::of(3), left, Within::of(20_000), 42, Within::of(0), pool, costs)
+    let options = LearnOptions { regs: Within::of(3), left, budget: Within::of(20_000), seed: 42, scratch: Within::of(0), pool };
+    options.header(costs)
 }
 
 fn main(rt: HostRuntime) -> anyhow::Result<()> {

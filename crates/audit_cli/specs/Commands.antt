@@ -11,7 +11,7 @@ use Rattle.audit_cli.specs.Learn.{LearnArguments}
 use Rattle.audit_cli.specs.declared.trace.Trace.{Trace}
 use Rattle.audit_cli.specs.Trace.{TraceArguments}
 use Rattle.audit_cli.specs.declared.generalising.Generalise.{Generalise}
-use Rattle.rule_table.specs.Header.{learnt_header}
+use Rattle.rule_table.specs.Views.{learnt_by}
 use Rattle.rule_table.specs.Table.{Family}
 use Rattle.audit_cli.specs.Generalise.{wanted}
 
@@ -25,7 +25,7 @@ abbrev pub export_arguments_of : Export → ExportArguments
 export_arguments_of e = record { entry = e.entry; cnf = e.cnf.now; lrat = e.lrat.now }
 
 abbrev pub settings_for : Learn → Settings
-settings_for l = learnt_header l.regs.number l.left.number l.budget.number l.seed l.scratch.number l.pool.now l.costs
+settings_for l = learnt_by l.options.now l.costs
 
 abbrev pub learn_arguments_of : Learn → LearnArguments
 learn_arguments_of l = record { out = l.out.now; settings = settings_for l }

@@ -22,7 +22,7 @@ use crate::steps::{
 };
 use command_runs::Outcome;
 use listing_parser::Listing;
-use rule_table::{Table, write_table};
+use rule_table::{LearnOptions, Table, write_table};
 use seq_enum::Pool;
 use std::alloc::{AllocError, Global};
 use step_ledger::{Ledger, Steps};
@@ -93,15 +93,15 @@ fn settings() -> Settings
     let Some(pool) = Pool::new(&POOL) else {
         unreachable!();
     };
-    Settings::learnt(
-        Within::of(1),
-        Within::of(2),
-        Within::of(20_000),
-        42,
-        Within::of(0),
+    let options = LearnOptions {
+        regs: Within::of(1),
+        left: Within::of(2),
+        budget: Within::of(20_000),
+        seed: 42,
+        scratch: Within::of(0),
         pool,
-        None,
-    )
+    };
+    options.header(None)
 }
 
 /// An accepted table, read back from its own text and audited.

@@ -13,23 +13,17 @@ use crate::refusal::{Refusal, refused};
 use crate::steps::{learnt, read_listing, table_report};
 use command_runs::Outcome;
 use listing_parser::Listing;
-use rule_table::{Table, write_table};
-use seq_enum::{CostLine, Costs, Pool, read_costs};
+use rule_table::{LearnOptions, Table, write_table};
+use seq_enum::{CostLine, Costs, read_costs};
 use std::alloc::{AllocError, Global};
 use step_ledger::{Ledger, Steps};
 use table_learn::Settings;
-use thumb_instr::Within;
 
-/// The command `learn`, with the name that the table is kept under and the settings.
+/// The command `learn`, with the name that the table is kept under, the options, and costs where there are some.
 #[derive(Drop)]
 pub(crate) struct Learn<'a> {
     pub(crate) out: &'a str,
-    pub(crate) regs: Within<1, 5>,
-    pub(crate) left: Within<1, 6>,
-    pub(crate) budget: Within<1, 1_000_001>,
-    pub(crate) seed: u32,
-    pub(crate) scratch: Within<0, 2>,
-    pub(crate) pool: &'a Pool,
+    pub(crate) options: &'a LearnOptions,
     pub(crate) costs: Option<Costs>,
 }
 
@@ -44,18 +38,7 @@ fn settings(learn: &Learn<'_>) -> Settings
     ensures same { settings_of result ≡ settings_for learn.now }
     ensures limits { AreInLimits (settings_of result) }
 {
-    let Some(pool) = Pool::new(learn.pool.numbers()) else {
-        unreachable!();
-    };
-    Settings::learnt(
-        learn.regs,
-        learn.left,
-        learn.budget,
-        learn.seed,
-        learn.scratch,
-        pool,
-        learn.costs,
-    )
+    learn.options.header(learn.costs)
 }
 
 /// What is kept and printed of a table.
@@ -104,15 +87,9 @@ fn outcome<L: Ledger>(
 fn with_costs<'a>(to: &LearnByCosts<'a>, costs: Costs) -> Learn<'a>
     ensures { learn_arguments_of result ≡ priced costs (learn_arguments_by_costs to.now) }
 {
-    let learn = &to.learn;
     Learn {
-        out: learn.out,
-        regs: learn.regs,
-        left: learn.left,
-        budget: learn.budget,
-        seed: learn.seed,
-        scratch: learn.scratch,
-        pool: learn.pool,
+        out: to.learn.out,
+        options: to.learn.options,
         costs: Some(costs),
     }
 }

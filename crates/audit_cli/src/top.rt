@@ -57,21 +57,11 @@ fn run_command<S: Store, O: Sink, L: Ledger>(
             listing,
             out,
             cost_text,
-            regs,
-            left,
-            budget,
-            seed,
-            scratch,
-            pool,
+            options,
         } => {
             let learn = Learn {
                 out: out.as_str(),
-                regs: *regs,
-                left: *left,
-                budget: *budget,
-                seed: *seed,
-                scratch: *scratch,
-                pool,
+                options,
                 costs: None,
             };
             match cost_text {

@@ -2,7 +2,7 @@
 ghost use Rattle.std.specs.Prelude.{◌≡◌, ◌≤◌, ◌%◌, Some, None, if◌then◌else◌, option_map};
 ghost use Rattle.command_line.specs.CommandLine.{is_base};
 
-use seq_enum::Pool;
+use rule_table::LearnOptions;
 use thumb_instr::Within;
 
 /// The greatest base of an image.
@@ -50,18 +50,8 @@ pub enum Command {
         out: String,
         /// The name of a text of costs.
         cost_text: Option<String>,
-        /// The most registers of a left side.
-        regs: Within<1, 5>,
-        /// The most instructions of a left side.
-        left: Within<1, 6>,
-        /// The clauses of a query.
-        budget: Within<1, 1_000_001>,
-        /// What the first states are made of.
-        seed: u32,
-        /// How many registers a right side may name that its left side doesn't.
-        scratch: Within<0, 2>,
-        /// The numbers of the alphabet.
-        pool: Pool,
+        /// What the table is learnt with.
+        options: LearnOptions,
     },
     /// Keep the formula of an entry, counted from 1, as `cnf`, and its proof as `lrat`.
     Export {

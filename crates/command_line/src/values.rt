@@ -11,6 +11,7 @@ use super::command::{Base, Command};
 use arrayvec::ArrayVec;
 use ascii_scan::number;
 use clap::ArgMatches;
+use rule_table::LearnOptions;
 use seq_enum::Pool;
 use std::alloc::{AllocError, Global};
 use thumb_instr::Within;
@@ -219,12 +220,14 @@ fn learn(alloc: Global, given: &ArgMatches<'_>) -> Result<Option<Command>, Alloc
         listing: String::from_str(alloc, listing)?,
         out: String::from_str(alloc, out)?,
         cost_text: name(alloc, given.get_str("costs"))?,
-        regs,
-        left,
-        budget,
-        seed,
-        scratch,
-        pool,
+        options: LearnOptions {
+            regs,
+            left,
+            budget,
+            seed,
+            scratch,
+            pool,
+        },
     }))
 }
 

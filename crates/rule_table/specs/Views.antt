@@ -1,14 +1,15 @@
 -- What tables, their headers and entries hold.
-use Rattle.std.specs.Prelude.{map}
+use Rattle.std.specs.Prelude.{ℕ, List, Option, map}
 use Rattle.lrat_check.specs.Text.{content_of}
 use Rattle.window_exec.specs.State.{seen}
 use Rattle.rule_table.specs.declared.header.Header as heading
+use Rattle.rule_table.specs.declared.header.LearnOptions as options
 use Rattle.rule_table.specs.declared.header.NumberLine as line
 use Rattle.rule_table.specs.declared.table.Open as opening
 use Rattle.rule_table.specs.declared.table.Entry as entry
 use Rattle.rule_table.specs.declared.table.Family as raised
 use Rattle.rule_table.specs.declared.table.Table as code
-use Rattle.rule_table.specs.Header.{Header, NumberLine}
+use Rattle.rule_table.specs.Header.{Header, NumberLine, learnt_header}
 use Rattle.rule_table.specs.Table.{Opened, Rule, Family, Table}
 
 abbrev pub row_of : line.NumberLine → NumberLine
@@ -16,6 +17,10 @@ row_of r = record { word = r.word.now; least = r.least; greatest = r.greatest }
 
 abbrev pub header_of : heading.Header → Header
 header_of h = record { version = h.version; regs = h.regs; left = h.left; seed = h.seed; budget = h.budget; pool = h.pool; scratch = h.scratch; costs = h.costs }
+
+-- the header of a table that is learnt with these options and costs
+abbrev pub learnt_by : options.LearnOptions → Option (List ℕ) → Header
+learnt_by o costs = learnt_header o.regs.number o.left.number o.budget.number o.seed o.scratch.number o.pool costs
 
 abbrev pub header_in : code.Table → Header
 header_in t = record { version = t.version; regs = t.regs; left = t.left; seed = t.seed; budget = t.budget; pool = t.pool; scratch = t.scratch; costs = t.costs }

@@ -1,8 +1,8 @@
 //! The header of a table, and its lines. What they begin with and which numbers they may have stands in rows, by which they are read and
 //! written: a further line is a row more, with the first version that has it.
 ghost use Rattle.std.specs.Prelude.{◌≡◌, ◌≢◌};
-ghost use Rattle.rule_table.specs.Header.{IsHeader, due_in, has_families, has_line, heads, is_same, learnt_header, row, since};
-ghost use Rattle.rule_table.specs.Views.{header_of, row_of};
+ghost use Rattle.rule_table.specs.Header.{IsHeader, due_in, has_families, has_line, heads, is_same, row, since};
+ghost use Rattle.rule_table.specs.Views.{header_of, learnt_by, row_of};
 
 use seq_enum::{Costs, Pool};
 use thumb_instr::Within;
@@ -23,29 +23,41 @@ pub struct Header {
     pub costs: Option<Costs>,
 }
 
-impl Header {
-    /// The header of a table that is learnt: of version 4 where instructions have costs, and else of version 2.
-    pub fn learnt(
-        regs: Within<1, 5>,
-        left: Within<1, 6>,
-        budget: Within<1, 1_000_001>,
-        seed: u32,
-        scratch: Within<0, 2>,
-        pool: Pool,
-        costs: Option<Costs>,
-    ) -> Header
-        ensures same { header_of result ≡ learnt_header regs.number left.number budget.number seed scratch.number pool costs }
+/// What a table is learnt with, but for costs: the numbers of its header, each within the limits of its line.
+#[derive(Drop)]
+pub struct LearnOptions {
+    /// The most registers of a left side.
+    pub regs: Within<1, 5>,
+    /// The most instructions of a left side.
+    pub left: Within<1, 6>,
+    /// The clauses of a query.
+    pub budget: Within<1, 1_000_001>,
+    /// What the first states are made of.
+    pub seed: u32,
+    /// How many registers a right side may name that its left side doesn't.
+    pub scratch: Within<0, 2>,
+    /// The numbers of the alphabet.
+    pub pool: Pool,
+}
+
+impl LearnOptions {
+    /// The header of the table that is learnt so: of version 4 where instructions have costs, and else of version 2.
+    pub fn header(&self, costs: Option<Costs>) -> Header
+        ensures same { header_of result ≡ learnt_by self.now costs }
         ensures valid { IsHeader (header_of result) }
         ensures version { result.version ≢ 3 }
     {
+        let Some(pool) = Pool::new(self.pool.numbers()) else {
+            unreachable!();
+        };
         Header {
             version: if costs.is_some() { 4 } else { 2 },
-            regs: regs.number as u8,
-            left: left.number as u8,
-            seed,
-            budget: budget.number,
+            regs: self.regs.number as u8,
+            left: self.left.number as u8,
+            seed: self.seed,
+            budget: self.budget.number,
             pool,
-            scratch: scratch.number as u8,
+            scratch: self.scratch.number as u8,
             costs,
         }
     }

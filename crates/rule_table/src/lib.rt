@@ -45,7 +45,7 @@ mod writing;
 
 pub use binding::same_kind;
 pub use errors::TableError;
-pub use header::{Field, Header, HeaderLine};
+pub use header::{Field, Header, HeaderLine, LearnOptions};
 pub use map::Map;
 pub use matching::matches;
 pub use reading::read_table;

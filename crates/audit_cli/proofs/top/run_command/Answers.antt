@@ -8,7 +8,7 @@ use Rattle.command_runs.specs.Plans.{Plan}
 use Rattle.command_runs.specs.Runs.{Runs}
 use Rattle.audit_cli.specs.Rewrite.{RewriteComesTo}
 use Rattle.audit_cli.specs.Tables.{AuditComesTo, ExportComesTo}
-use Rattle.rule_table.specs.Header.{learnt_header}
+use Rattle.rule_table.specs.Views.{learnt_by}
 use Rattle.table_learn.specs.Learnt.{Settings}
 use Rattle.audit_cli.specs.Learn.{LearnComesTo, LearnByCostsComesTo}
 use Rattle.audit_cli.specs.Trace.{TraceComesTo}
@@ -45,11 +45,11 @@ pub returns-in-None-clause-runs : goal.returns-in-None-clause-runs
 returns-in-None-clause-runs g c =
     let k = c.in-Learn in
     let settings : Settings =
-    record (learnt_header k.regs.number k.left.number k.budget.number k.seed k.scratch.number k.pool None) { version = 2 } in
+    record (learnt_by k.options None) { version = 2 } in
     let out : c.as_str-in-Learn.result.now ≡ string_bytes k.out = c.as_str-in-Learn.ensures.value in
     let listing : c.as_str-in-None.result.now ≡ string_bytes k.listing = c.as_str-in-None.ensures.value in
-    let is = k.is ∙ ap (λ costs. Learn k.listing k.out costs k.regs k.left k.budget k.seed k.scratch k.pool) c.in-None.is in
-    asked _ (Learn k.listing k.out None k.regs k.left k.budget k.seed k.scratch k.pool) c.args.command.now
+    let is = k.is ∙ ap (λ costs. Learn k.listing k.out costs k.options) c.in-None.is in
+    asked _ (Learn k.listing k.out None k.options) c.args.command.now
     (g.S.Store.seen c.args.store.now) (g.S.Store.seen c.run-in-None.new.store) (g.O.Sink.sunk c.args.sink.now) (g.O.Sink.sunk c.run-in-None.new.sink) c.run-in-None.result
     (λ i. record { names = listing i ∷ []; comes = LearnComesTo (record { out = out i; settings = settings }) }) is c.run-in-None.ensures.runs
 
@@ -57,12 +57,12 @@ pub returns-in-Some-clause-runs : goal.returns-in-Some-clause-runs
 returns-in-Some-clause-runs g c =
     let k = c.in-Learn in
     let settings : Settings =
-    record (learnt_header k.regs.number k.left.number k.budget.number k.seed k.scratch.number k.pool None) { version = 4 } in
+    record (learnt_by k.options None) { version = 4 } in
     let out : c.as_str-in-Learn.result.now ≡ string_bytes k.out = c.as_str-in-Learn.ensures.value in
     let listing : c.as_str-in-Some.result.now ≡ string_bytes k.listing = c.as_str-in-Some.ensures.value in
     let cost_text : c.as_str-in-Some-2.result.now ≡ string_bytes c.in-Some.cost_text = c.as_str-in-Some-2.ensures.value in
-    let is = k.is ∙ ap (λ name. Learn k.listing k.out name k.regs k.left k.budget k.seed k.scratch k.pool) c.in-Some.is in
-    asked _ (Learn k.listing k.out (Some c.in-Some.cost_text) k.regs k.left k.budget k.seed k.scratch k.pool) c.args.command.now
+    let is = k.is ∙ ap (λ name. Learn k.listing k.out name k.options) c.in-Some.is in
+    asked _ (Learn k.listing k.out (Some c.in-Some.cost_text) k.options) c.args.command.now
     (g.S.Store.seen c.args.store.now) (g.S.Store.seen c.run-in-Some.new.store) (g.O.Sink.sunk c.args.sink.now) (g.O.Sink.sunk c.run-in-Some.new.sink) c.run-in-Some.result
     (λ i. record { names = listing i ∷ cost_text i ∷ []; comes = LearnByCostsComesTo (record { out = out i; settings = settings }) }) is c.run-in-Some.ensures.runs
 
