@@ -47,6 +47,7 @@ impl LearnOptions {
         ensures valid { IsHeader (header_of result) }
         ensures version { result.version ≢ 3 }
     {
+        let seed = self.seed;
         let Some(pool) = Pool::new(self.pool.numbers()) else {
             unreachable!();
         };
@@ -54,7 +55,7 @@ impl LearnOptions {
             version: if costs.is_some() { 4 } else { 2 },
             regs: self.regs.number as u8,
             left: self.left.number as u8,
-            seed: self.seed,
+            seed,
             budget: self.budget.number,
             pool,
             scratch: self.scratch.number as u8,
