@@ -1,7 +1,7 @@
 use Rattle.std.proofs.Common.{[], ◌∷◌, ◌∙◌, ap}
 use Rattle.std.specs.Prelude.{slice_index}
 use Rattle.thumb_model.specs.Effect.{Values, assigned}
-use Rattle.thumb_machine.proofs.registers.Registers.serve.Goals as goal
+use Rattle.thumb_machine.proofs.registers.Registers.take_words.Goals as goal
 
 pub returns : goal.returns
 returns c =
