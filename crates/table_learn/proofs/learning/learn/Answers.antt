@@ -1,4 +1,5 @@
 use Rattle.std.proofs.Common.{ℕ, ◌≡◌, ◌∙◌, ◌<◌, ◌≤◌, ◌+◌, sym, ap, subst, arith, map, length, take, get_or}
+use Rattle.rule_table.specs.declared.header.Field.TheVariants.{Regs, Left}
 use Rattle.table_audit.specs.Shorter.{sequences_below}
 use Rattle.table_learn.specs.Given.{settings_of, window_of, AreWindows, IsWindow}
 use Rattle.table_learn.specs.Found.{window_in}
@@ -6,6 +7,12 @@ use Rattle.table_audit.specs.Acceptance.{lengths_below, width_of}
 use Rattle.table_learn.specs.Progress.{HasLearnt}
 use Rattle.table_learn.proofs.Finished.{Pairs, window_at, same_window, learnt_next, cost_next, is_full, learnt_whole, valid_all, fits_all, cost_all}
 use Rattle.table_learn.proofs.learning.learn.Goals as goal
+
+pub width-width-requires-clause-some : goal.width-width-requires-clause-some
+width-width-requires-clause-some g c = let some = (c.requires.settings.header.numbers Regs).0 in omega (arith, c.with_scratch-registers.ensures, some)
+
+pub width-width-requires-clause-short : goal.width-width-requires-clause-short
+width-width-requires-clause-short g c = (c.requires.settings.header.numbers Left).1
 
 pub new-window-requires : goal.new-window-requires
 new-window-requires g c =
@@ -59,7 +66,7 @@ returns-then-learner-gt-TEXT_LIMIT-clause-spends g c =
     let next : HasLearnt (settings_of c.args.settings) (map window_of (take (c.loop-left.left-index + 1) c.args.windows.items)) c.in_ok-learner.learner =
     learnt_next (settings_of c.args.settings) (settings_of c.in_ok-settings.settings) ws c.loop-left.left-index c.loop-left-item.result c.new-window.result c.loop-left.learner c.in_ok-learner.learner c.in_ok-settings.ensures.same low item
     (same_window c.new-window.result c.loop-left-item.result c.new-window.ensures.left c.new-window.ensures.mask) c.loop-left.invariant.learnt c.in_ok-learner.ensures.learnt in
-    cost_all (settings_of c.args.settings) (settings_of c.in_ok-settings.settings) ws (c.loop-left.left-index + 1) c.learn_window.new.steps c.args.steps.now c.in_ok-learner.learner _ c.requires.settings.some_left next (omega (arith, low)) c.table_of-table.ensures
+    cost_all (settings_of c.args.settings) (settings_of c.in_ok-settings.settings) ws (c.loop-left.left-index + 1) c.learn_window.new.steps c.args.steps.now c.in_ok-learner.learner _ (c.requires.settings.header.numbers Left).0 next (omega (arith, low)) c.table_of-table.ensures
     (cost_next (settings_of c.args.settings) (settings_of c.in_ok-settings.settings) ws c.loop-left.left-index c.loop-left.learner c.in_ok-learner.learner c.loop-left.steps c.learn_window.new.steps c.args.steps.now c.in_ok-settings.ensures.same low c.loop-left.invariant.learnt next c.in_ok-learner.ensures.grown c.loop-left.invariant.cost c.in_ok-learner.ensures.cost)
 
 pub returns-clause-learnt : goal.returns-clause-learnt
@@ -83,4 +90,4 @@ returns-clause-fits g c = fits_all (settings_of c.args.settings) (settings_of c.
 pub returns-clause-cost : goal.returns-clause-cost
 returns-clause-cost g c =
     let within : c.loop-left.left-index ≤ length c.args.windows.items = subst (λ (vs : Pairs). c.loop-left.left-index ≤ length vs) c.deref-left-items.ensures.value (omega arith) in
-    cost_all (settings_of c.args.settings) (settings_of c.in_ok-settings.settings) c.args.windows.items c.loop-left.left-index c.loop-left.steps c.args.steps.now c.loop-left.learner _ c.requires.settings.some_left c.loop-left.invariant.learnt within c.table_of.ensures c.loop-left.invariant.cost
+    cost_all (settings_of c.args.settings) (settings_of c.in_ok-settings.settings) c.args.windows.items c.loop-left.left-index c.loop-left.steps c.args.steps.now c.loop-left.learner _ (c.requires.settings.header.numbers Left).0 c.loop-left.invariant.learnt within c.table_of.ensures c.loop-left.invariant.cost
