@@ -1,6 +1,6 @@
 //! Cases of listings that change, and what is brought up to date then: `aimed PLACE LABEL TEXT`, `relaid BASE PLACE TEXT` and `relived PLACE TEXT`; and of
 //! places that are reached: `reached TEXT`.
-ghost use Rattle.std.specs.Prelude.{IfOk, IfSome};
+ghost use Rattle.std.specs.Prelude.{IfSome};
 ghost use Rattle.thumb_model.specs.Listing.{code_of};
 ghost use Rattle.liveness.specs.Live.{Sets, IsLive};
 ghost use Rattle.liveness.specs.Changes.{WasLive};
@@ -9,7 +9,7 @@ use crate::listings::{add_addresses, listing_of};
 use crate::printing::Answer;
 use crate::reading::Arguments;
 use label_layout::layout;
-use listing_parser::{Listing, Memory, print};
+use listing_parser::{Listing, print};
 use liveness::live;
 use std::alloc::Global;
 use step_ledger::{Counted, Steps};
@@ -34,22 +34,20 @@ pub(crate) fn aimed(
 }
 
 /// The listing with `uxtb r0, r0` in place of two instructions from a place on. None where no window of two stands there.
-fn with_one(alloc: Global, listing: &Listing, place: u32) -> Result<Option<Listing>, Memory>
-    ensures { IfOk result (λ found. IfSome found (λ changed. (sets : Sets) → IsLive (code_of listing.now) sets → WasLive changed place 2 1 sets)) }
+fn with_one(alloc: Global, listing: &Listing, place: u32) -> Option<Listing>
+    ensures { IfSome result (λ changed. (sets : Sets) → IsLive (code_of listing.now) sets → WasLive changed place 2 1 sets) }
 {
+    let rows = rows(alloc, listing.lines()).ok()?;
+    let window = run(&rows, place as usize, 2);
+    if window.len() != 2 {
+        return None;
+    }
     let instr = Instr::Extend {
         extension: Extension::Uxtb,
         target: Low::of(0),
         source: Low::of(0),
     };
-    let rows = rows(alloc, listing.lines())?;
-    let window = run(&rows, place as usize, 2);
-    if window.len() == 2 {
-        let changed = listing.replaced(alloc, place, 2, &[instr])?;
-        Ok(Some(changed))
-    } else {
-        Ok(None)
-    }
+    listing.replaced(alloc, place, 2, &[instr]).ok()
 }
 
 /// Where a listing ends, and the addresses of its places and labels, once its layout is brought up to date where one instruction comes in place of two.
@@ -62,7 +60,7 @@ pub(crate) fn relaid(
     let place = arguments.number()?;
     let listing = listing_of(alloc, arguments)?;
     let mut laid = layout(alloc, &listing, base).ok()?;
-    let changed = with_one(alloc, &listing, place).ok()??;
+    let changed = with_one(alloc, &listing, place)?;
     laid.change(alloc, &changed, place, 2, 1).ok()?;
     answer.hex(laid.end())?;
     add_addresses(&changed, &laid, answer)
@@ -79,7 +77,7 @@ pub(crate) fn relived(
     let listing = listing_of(alloc, arguments)?;
     let mut steps = Steps::new(Counted::new());
     let mut sets = live(alloc, &listing, &mut steps).ok()?;
-    let changed = with_one(alloc, &listing, place).ok()??;
+    let changed = with_one(alloc, &listing, place)?;
     let mut visits = Steps::new(Counted::new());
     sets.change(alloc, &changed, place, 2, 1, &mut visits).ok()?;
     let found = live(alloc, &changed, &mut steps).ok()?;
