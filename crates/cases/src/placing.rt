@@ -55,10 +55,7 @@ pub(crate) fn members(
     let mut members = PlaceSet::new(alloc, count).ok()?;
     for word in arguments.rest.split(' ') {
         match word {
-            "all" => match PlaceSet::full(alloc, count) {
-                Ok(all) => members = all,
-                Err(_) => return None,
-            },
+            "all" => members = PlaceSet::full(alloc, count).ok()?,
             "least" => add_place(members.take_least(), answer)?,
             "greatest" => add_place(members.take_greatest(), answer)?,
             _ => {
