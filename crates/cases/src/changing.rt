@@ -38,8 +38,7 @@ fn with_one(alloc: Global, listing: &Listing, place: u32) -> Option<Listing>
     ensures { IfSome result (λ changed. (sets : Sets) → IsLive (code_of listing.now) sets → WasLive changed place 2 1 sets) }
 {
     let rows = rows(alloc, listing.lines()).ok()?;
-    let window = run(&rows, place as usize, 2);
-    if window.len() != 2 {
+    if run(&rows, place as usize, 2).len() < 2 {
         return None;
     }
     let instr = Instr::Extend {

@@ -1,5 +1,6 @@
 //! Cases of propagation: `followed LITERAL CLAUSE CLAUSE ..`, a clause by its literals. Those of three variables are 0, 2 and 4, their contraries 1, 3 and 5.
-ghost use Rattle.std.specs.Prelude.{◌≡◌, IfSome, length};
+ghost use Rattle.std.specs.Prelude.{◌≡◌, ◌<◌, IfSome, OnSome, All, length};
+ghost use Rattle.clause_arena.specs.Contents.{HasLiteral};
 ghost use Rattle.unit_propagation.specs.Watching.{IsAttached, IsKnown};
 
 use crate::printing::Answer;
@@ -22,12 +23,7 @@ fn add(arena: &mut Arena, literals: &[u32]) -> Option<Ref>
         return None;
     }
     match literals {
-        [first, second, ..] if first != second => {
-            match attach(arena, literals, *first, *second) {
-                Ok(at) => Some(at),
-                Err(_) => None,
-            }
-        }
+        [first, second, ..] if first != second => attach(arena, literals, *first, *second).ok(),
         _ => None,
     }
 }

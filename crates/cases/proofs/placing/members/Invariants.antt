@@ -1,8 +1,0 @@
-use Rattle.std.proofs.Common.{◌≡◌, length}
-use Rattle.cases.proofs.placing.members.Given as goal
-
-abbrev pub invariant-loop-word : goal.invariant-loop-word
-invariant-loop-word l =
-    (goal.iterator-loop-word).can_next l.word-iterator ×
-    (goal.iterator-loop-word).is_finite l.word-iterator ×
-    (length l.members ≡ l.count)
