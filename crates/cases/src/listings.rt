@@ -1,7 +1,4 @@
 //! Cases of listings and where they lie: `printed TEXT`, `refused TEXT`, `laid BASE TEXT` and `addresses BASE TEXT`.
-ghost use Rattle.std.specs.Prelude.{◌≡◌, length};
-ghost use Rattle.thumb_model.specs.Listing.{places_of};
-
 use crate::printing::Answer;
 use crate::reading::Arguments;
 use label_layout::{Layout, LayoutError, LayoutFault, layout};
@@ -69,19 +66,6 @@ fn add_labels(laid: &Layout, names: &[Vec<u8>], answer: &mut Answer) -> Option<(
     Some(())
 }
 
-/// Adds the addresses of a listing's places, and the names of its labels with theirs.
-pub(crate) fn add_addresses(listing: &Listing, laid: &Layout, answer: &mut Answer) -> Option<()>
-    requires { length laid.now.places ≡ length (places_of listing.now) }
-{
-    for place in 0..listing.place_count() {
-        answer.hex(laid.address(place))?;
-    }
-    for line in listing.lines() {
-        add_labels(laid, &line.names, answer)?;
-    }
-    Some(())
-}
-
 /// The addresses of a listing's places, and the names of its labels with theirs.
 pub(crate) fn addresses(
     alloc: Global,
@@ -91,5 +75,11 @@ pub(crate) fn addresses(
     let base = arguments.hex()?;
     let listing = listing_of(alloc, arguments)?;
     let laid = layout(alloc, &listing, base).ok()?;
-    add_addresses(&listing, &laid, answer)
+    for place in 0..listing.place_count() {
+        answer.hex(laid.address(place))?;
+    }
+    for line in listing.lines() {
+        add_labels(&laid, &line.names, answer)?;
+    }
+    Some(())
 }

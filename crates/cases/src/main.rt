@@ -1,12 +1,10 @@
 //! Calls what the crates offer by cases from standard input, and prints what they answer.
 //!
-//! A line `==== NAME` begins a part, and the module of the part tells what its lines may be: `listings` (`listing_part`), `rules` (`rule_part`) or `calls`
-//! (`call_part`). A line that can't be read, or for which memory is wanting, is answered by `?`.
+//! A line `==== NAME` begins a part, and the module of the part tells what its lines may be: `listings` (`listing_part`) or `rules` (`rule_part`). A line that
+//! can't be read, or for which memory is wanting, is answered by `?`.
 #![tactic(auto)]
 
 mod arithmetic;
-mod call_part;
-mod changing;
 mod codes;
 mod costs;
 mod escapes;
@@ -16,10 +14,8 @@ mod listing_part;
 mod listings;
 mod living;
 mod machines;
-mod placing;
 mod printing;
 mod proofs;
-mod propagating;
 mod reading;
 mod rule_part;
 mod stepping;
@@ -36,14 +32,12 @@ use std::io;
 enum Part {
     Listings,
     Rules,
-    Calls,
 }
 
 /// The part of a name.
 fn part_of(name: &str) -> Part {
     match name {
         "rules" => Part::Rules,
-        "calls" => Part::Calls,
         _ => Part::Listings,
     }
 }
@@ -61,7 +55,6 @@ fn main(rt: HostRuntime) -> io::Result<()> {
         let shown = match part {
             Part::Listings => listing_part::answer_line(rt.alloc(), line),
             Part::Rules => rule_part::answer_line(&mut given, line),
-            Part::Calls => call_part::answer_line(rt.alloc(), line),
         };
         let put = match &shown {
             Some(shown) => output.put(shown),

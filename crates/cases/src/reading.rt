@@ -5,7 +5,7 @@ use std::alloc::Global;
 /// The arguments of a case that are yet to be read.
 #[derive(Clone, Copy)]
 pub(crate) struct Arguments<'a> {
-    pub(crate) rest: &'a str,
+    rest: &'a str,
 }
 
 impl<'a> Arguments<'a> {

@@ -10,6 +10,8 @@ mod kept;
 pub mod laws;
 mod leading;
 mod set;
+#[cfg(test)]
+mod tests;
 mod words;
 
 pub use kept::KeptPlaces;

@@ -1,0 +1,2 @@
+pub mod GaveWay
+mod Walks

@@ -1,0 +1,92 @@
+//! `Layout::change` asks how the lines changed, so it is run here, beside a layout of the changed lines from scratch.
+ghost use Rattle.std.specs.Prelude.{◌≡◌, length};
+ghost use Rattle.thumb_model.specs.Listing.{places_of};
+
+use crate::windows::{uxtb, with_one};
+use label_layout::{Layout, layout};
+use listing_parser::{Listing, ListingLine, parse};
+use std::alloc::Global;
+use std::test::Fail;
+
+/// Whether two layouts tell the same addresses of a line's labels.
+fn are_one_at(line: &ListingLine, laid: &Layout, other: &Layout) -> bool {
+    for name in &line.names {
+        if laid.find_label(name) != other.find_label(name) {
+            return false;
+        }
+    }
+    true
+}
+
+/// Whether two layouts tell the same addresses of a listing's labels.
+fn are_one_at_labels(listing: &Listing, laid: &Layout, other: &Layout) -> bool {
+    for line in listing.lines() {
+        if !are_one_at(line, laid, other) {
+            return false;
+        }
+    }
+    true
+}
+
+/// Whether two layouts tell the same addresses of a listing's places.
+fn are_one_at_places(listing: &Listing, laid: &Layout, other: &Layout) -> bool
+    requires laid { length laid.now.places ≡ length (places_of listing.now) }
+    requires other { length other.now.places ≡ length (places_of listing.now) }
+{
+    for place in 0..listing.place_count() {
+        if laid.address(place) != other.address(place) {
+            return false;
+        }
+    }
+    true
+}
+
+/// Whether two layouts of a listing are the same.
+fn are_one(listing: &Listing, laid: &Layout, other: &Layout) -> bool
+    requires laid { length laid.now.places ≡ length (places_of listing.now) }
+    requires other { length other.now.places ≡ length (places_of listing.now) }
+{
+    laid.base() == other.base()
+        && laid.end() == other.end()
+        && are_one_at_places(listing, laid, other)
+        && are_one_at_labels(listing, laid, other)
+}
+
+/// Where the text's listing ends, and whether it is laid out as `layout` does it, once it is brought up to date where `uxtb r0, r0` comes in place of two
+/// instructions from this place on. There is none where no window of two stands there.
+fn outcome(alloc: Global, text: &[u8], place: u32) -> Result<Option<(u32, bool)>, Fail> {
+    let listing = parse(alloc, text)?;
+    let mut laid = layout(alloc, &listing, 4096)?;
+    let Some(changed) = with_one(alloc, &listing, place, uxtb())? else {
+        return Ok(None);
+    };
+    laid.change(alloc, &changed, place, 2, 1)?;
+    let anew = layout(alloc, &changed, 4096)?;
+    Ok(Some((laid.end(), are_one(&changed, &laid, &anew))))
+}
+
+#[test]
+fn layouts_are_brought_up_to_date(rt: HostRuntime) -> Result<(), Fail> {
+    for (text, place, want) in [
+        // the label behind comes nearer by two bytes
+        (
+            "f: lsls r0, r0, #24\n lsrs r0, r0, #24\n g: b g\n",
+            0,
+            Some((4100, true)),
+        ),
+        // the words stay where they are, behind two bytes of padding
+        (
+            "ldr r1, w\nf: lsls r0, r0, #24\n lsrs r0, r0, #24\n bx lr\n .align 2\nw: .word 1, 2\nend:\n",
+            1,
+            Some((4112, true)),
+        ),
+        (" lsls r0, r0, #24\nf: lsrs r0, r0, #24\n", 0, None),
+    ] {
+        assert_eq!(rt;
+            outcome(rt.alloc(), text.as_bytes(), place)?,
+            want,
+            "{text}{place}"
+        );
+    }
+    Ok(())
+}

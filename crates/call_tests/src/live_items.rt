@@ -1,0 +1,82 @@
+//! `Live::change` asks how the lines changed, so it is run here, beside the sets of the changed lines from scratch.
+use crate::windows::{uxtb, with_one};
+use listing_parser::parse;
+use liveness::{Live, live};
+use std::alloc::Global;
+use std::test::Fail;
+use step_ledger::{Counted, Steps};
+
+/// Whether two listings' sets are the same.
+fn are_one(sets: &Live, other: &Live) -> bool {
+    sets.before_sets() == other.before_sets() && sets.after_sets() == other.after_sets()
+}
+
+/// How the sets of a listing were brought up to date.
+#[derive(Clone, Copy, Debug, PartialEq, Eq)]
+enum Change {
+    /// There is no window of two.
+    NoWindow,
+    /// They are those of the listing, and no place was visited.
+    Kept,
+    /// They are those of the listing, and places were visited.
+    FoundAnew,
+    /// They are not those of the listing.
+    Wrong,
+}
+
+/// How the sets of the text's listing are brought up to date, where `uxtb r0, r0` comes in place of two instructions from this place on.
+fn outcome(alloc: Global, text: &[u8], place: u32) -> Result<Change, Fail> {
+    let listing = parse(alloc, text)?;
+    let mut steps = Steps::new(Counted::new());
+    let mut sets = live(alloc, &listing, &mut steps)?;
+    let Some(changed) = with_one(alloc, &listing, place, uxtb())? else {
+        return Ok(Change::NoWindow);
+    };
+    let mut visits = Steps::new(Counted::new());
+    sets.change(alloc, &changed, place, 2, 1, &mut visits)?;
+    let found = live(alloc, &changed, &mut steps)?;
+    if !are_one(&sets, &found) {
+        return Ok(Change::Wrong);
+    }
+    if visits.ledger().count() == 0 {
+        Ok(Change::Kept)
+    } else {
+        Ok(Change::FoundAnew)
+    }
+}
+
+#[test]
+fn sets_are_brought_up_to_date(rt: HostRuntime) -> Result<(), Fail> {
+    for (text, place, want) in [
+        // r0 is read before and after, and no flag is live
+        (
+            "f: lsls r0, r0, #24\n lsrs r0, r0, #24\n bx lr\n",
+            0,
+            Change::Kept,
+        ),
+        // Z is live before the one, and was not before the two, which write it
+        (
+            "f: nop\n lsls r0, r0, #24\n lsrs r0, r0, #24\n beq f\n bx lr\n",
+            1,
+            Change::FoundAnew,
+        ),
+        // r1 was live for the first of the two alone
+        (
+            " nop\n nop\nf: lsls r0, r1, #24\n lsrs r0, r0, #24\n movs r1, #0\n bx lr\n",
+            2,
+            Change::FoundAnew,
+        ),
+        (
+            " lsls r0, r0, #24\nf: lsrs r0, r0, #24\n bx lr\n",
+            0,
+            Change::NoWindow,
+        ),
+    ] {
+        assert_eq!(rt;
+            outcome(rt.alloc(), text.as_bytes(), place)?,
+            want,
+            "{text}{place}"
+        );
+    }
+    Ok(())
+}
