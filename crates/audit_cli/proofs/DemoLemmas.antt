@@ -1,5 +1,5 @@
 -- Why what `demo` tells is what its definition says, and why nothing is refused but a text that is too long.
-use Rattle.std.proofs.Common.{◌≡◌, ◌∙◌, ℕ, ◌≤◌, List, [], ◌++◌, append_assoc, length, refl, sym, subst, tt, arith, Option, Some, None, leb-true}
+use Rattle.std.proofs.Common.{◌≡◌, ◌∙◌, ℕ, ◌≤◌, List, [], ◌∷◌, ◌++◌, append_assoc, length, refl, sym, subst, arith, Option, Some, None, leb-true}
 use Rattle.thumb_model.specs.Listing.{ListingLine}
 use Rattle.rule_model.specs.Rewriting.{Replacement, AreRewritten}
 use Rattle.seq_enum.specs.Alphabet.{is_pool, ascends_from, numbers_from, those_within, grid2, grid3, rows, members, alphabet, words}
