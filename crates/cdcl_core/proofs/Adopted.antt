@@ -1,4 +1,4 @@
--- A clause more, before any decision.
+-- A clause that is added before any decision keeps the solver's invariant.
 use Rattle.std.proofs.Common.{◌≡◌, ◌≢◌, ℕ, ◌+◌, ◌<◌, ◌⊎◌, List, [], ◌∷◌, ◌++◌, length, length-append, get_or, take, map, refl, sym, ◌∙◌, ap, inl, inr, arith, Option, Some, None, subst, false}
 use Rattle.std.specs.Prelude.{All, Any, Contains, slice_get}
 use Rattle.std.proofs.lemmas.List.{map_push, take_at, get_or_push}
@@ -53,7 +53,7 @@ module _ (clauses : List (List ℕ)) (size : ℕ) (content : Content) (refs : Li
     ]
   ]
 
-  -- the new clause watches two literals, or is true
+  -- the case in which the new clause watches two literals, or is true
   pub base_covered : IsWatched content' at ⊎ Any (Contains trail) literals → IsBase (clauses ++ literals ∷ []) size content' refs' reasons trail conflict
   base_covered n = record {
     clauses_are = clauses_more;
@@ -68,7 +68,7 @@ module _ (clauses : List (List ℕ)) (size : ℕ) (content : Content) (refs : Li
     falsified = λ r f. old_conflict trail (λ x c. c) r (b.falsified r f);
   }
 
-  -- or is false
+  -- the case in which it is false
   pub base_false : AllFalse trail literals → IsBase (clauses ++ literals ∷ []) size content' refs' reasons trail (Some at)
   base_false n = record {
     clauses_are = clauses_more;
@@ -83,7 +83,7 @@ module _ (clauses : List (List ℕ)) (size : ℕ) (content : Content) (refs : Li
     falsified = λ r f. let g : at ≡ r = cc in subst (IsConflict content' trail) g (d.clause, subst (AllFalse trail) (sym d.new_literals) n);
   }
 
-  -- or has one literal, which becomes true
+  -- the case in which it has one literal, which becomes true
   pub base_unit : (l : ℕ) → Contains literals l → All (λ x. x ≡ l) literals → IsUnset trail l → (reasons' : List (Option ℕ)) (trail' : List ℕ) → reasons' ≡ reasons ++ Some at ∷ [] → trail' ≡ trail ++ l ∷ []
       → IsBase (clauses ++ literals ∷ []) size content' refs' reasons' trail' conflict
   base_unit l i all unset reasons' trail' f g =
@@ -143,7 +143,7 @@ same_grows a = All-contains_itself a
 pub push_grows : (a b : List ℕ) (l : ℕ) → b ≡ a ++ l ∷ [] → All (Contains b) a
 push_grows a b l e = rw e (All-weaker (Contains a) (Contains (a ++ l ∷ [])) (λ x c. Contains-append_left a (l ∷ []) x c) a (All-contains_itself a))
 
--- what follows before any decision
+-- propagation before any decision keeps it
 module _ (clauses : List (List ℕ)) (size : ℕ) (content : Content) (refs : List ℕ) (reasons : List (Option ℕ)) (trail : List ℕ) (b : IsBase clauses size content refs reasons trail None)
     (content' : Content) (reasons' : List (Option ℕ)) (trail' : List ℕ) (l : IsLater content trail reasons content' trail' reasons') where
   same_clauses : clauses_of content' ≡ clauses
@@ -166,7 +166,7 @@ module _ (clauses : List (List ℕ)) (size : ℕ) (content : Content) (refs : Li
     falsified = h;
   }
 
--- and again before any decision
+-- it holds again after the trail was cut back to the root level
 pub base_back : (level : Level) (content : Content) (reasons rb : List (Option ℕ)) (trail tb refs : List ℕ) → BeginsAtRoot level content reasons trail → refs ≡ level.references → tb ≡ take level.low trail → rb ≡ take level.low reasons → IsBase level.clauses level.size content refs rb tb None
 base_back level content reasons rb trail tb refs g r e f = rw (e, f) record {
   clauses_are = g.clauses;
@@ -192,6 +192,6 @@ watched_new content content' at literals l m d w v n i j = record {
   second_in = subst (λ (ls : List ℕ). Contains ls m) (sym d.new_literals) j;
 }
 
--- what is said of the clauses as they are
+-- the invariant, stated for the arena's own clauses
 pub base_here : {clauses : List (List ℕ)} {size : ℕ} {content : Content} {refs : List ℕ} {reasons : List (Option ℕ)} {trail : List ℕ} {conflict : Option ℕ} → IsBase clauses size content refs reasons trail conflict → IsBase (clauses_of content) size content refs reasons trail conflict
 base_here {clauses} {size} {content} {refs} {reasons} {trail} {conflict} b = subst (λ (cs : List (List ℕ)). IsBase cs size content refs reasons trail conflict) (sym b.clauses_are) b

@@ -1,4 +1,4 @@
--- Literals that are made false.
+-- The loop that assumes literals false.
 use Rattle.std.proofs.Common.{◌≡◌, ℕ, ◌+◌, ◌<◌, List, [], ◌∷◌, ◌++◌, length, get_or, take, length-append, append-nil, append_assoc, sym, ◌∙◌, ap, arith, Option, None, subst, suc}
 use Rattle.std.specs.Prelude.{All, Any, Contains, replicate}
 use Rattle.std.proofs.lemmas.List.{take_more}
@@ -51,18 +51,18 @@ module _ (literals : List ℕ) (i l n : ℕ) (b : i < length literals) (e : l �
         (subst (Contains (t ++ n ∷ [])) q (Contains-push t n)));
   }
 
--- what made a part of the literals false stands in any assignment that makes them all false
+-- what made a part of the literals false is contained in any assignment that makes them all false
 pub within_under : (literals part : List ℕ) (r : List (Option ℕ)) (a : List ℕ) (s : List (Option ℕ)) (t u : List ℕ) → IsAssumed part r a s t → ((x : ℕ) → Contains part x → Contains literals x) → All (Contains u) a → AllFalse u literals → All (Contains u) t
 within_under literals part r a s t u h w g f = rw h.trail (All-append (Contains u) a h.added g (All-weaker (λ x. Contains part (negated x)) (Contains u) (λ x c. subst (Contains u) (negated-negated x) (All-contains (IsFalse u) literals (negated x) f (w (negated x) c))) h.added h.within))
 
--- the contrary of a literal that isn't true, where it isn't either
+-- a literal is unset where neither it nor its contrary is true
 pub opposite_unset : (t : List ℕ) (l n : ℕ) → n ≡ negated l → (Contains t l → ⊥) → (Contains t n → ⊥) → IsUnset t n
 opposite_unset t l n q f g = (g, λ p. f (subst (Contains t) (ap negated q ∙ negated-negated l) p))
 
 pub part_in : (n : ℕ) (xs : List ℕ) → All (Contains xs) (take n xs)
 part_in n xs = All-weaker (Contains (take n xs)) (Contains xs) (λ x p. Contains-take x n xs p) (take n xs) (All-contains_itself (take n xs))
 
--- none of literals that can be false together becomes true
+-- where literals can be false together, none of them is found true
 pub never_true : (size : ℕ) (a literals tried : List ℕ) (r s : List (Option ℕ)) (t : List ℕ) → CanFalsify size a literals → All (Contains literals) tried → IsAssumed tried r a s t → Any (Contains t) literals → ⊥
 never_true size a literals tried r s t h w g y =
     let all : All (Contains h.under) t = within_under literals tried r a s t h.under g (λ x c. All-contains (Contains literals) tried x w c) h.contains h.falsifies in

@@ -1,4 +1,4 @@
--- From a conflict back to the first place through which all of its level goes.
+-- The loop of conflict analysis, back from a conflict to the first unique implication point.
 use Rattle.std.proofs.Common.{◌≡◌, ◌≢◌, ℕ, ◌+◌, ◌-◌, ◌<◌, ◌≤◌, ◌⊎◌, List, [], ◌∷◌, ◌++◌, length, get_or, take, drop, refl, sym, ◌∙◌, ap, inl, inr, arith, Option, Some, None, subst}
 use Rattle.std.specs.Prelude.{All, AllPairs, Any, Contains, slice_get}
 use Rattle.std.proofs.lemmas.Bool.{cases_eq, cases_lt}
@@ -44,7 +44,7 @@ sees_more trail clause before seen seen' i l m n b e z q h part grows sees only 
       ]) seen' only;
     }
 
--- what is seen of the trail before `at` is refutable
+-- the contraries of the seen literals before `at` are refutable
 pub record Resolved (clauses : List (List ℕ)) (trail : List ℕ) (start at : ℕ) (seen : List ℕ) : Type 0 where
   pub within : at ≤ length trail
   pub part : All (Contains trail) seen
@@ -182,7 +182,7 @@ module _ (content : Content) (reasons : List (Option ℕ)) (trail : List ℕ) (l
             let lt : pl.0 < n = omega (arith, pl.1) in
             distinct pl.0 n 0 lt below pl.3
 
-    -- a literal of this level that is not alone has a reason
+    -- a seen literal of this level that isn't the only one has a reason
     pub has_reason : (q : ℕ) → start ≤ q → q < n → slice_get reasons n ≡ Some None → ⊥
     has_reason q b c s = h.later n (omega arith) (omega (arith, h.aligned, below)) s
 

@@ -1,4 +1,4 @@
--- Clauses of which the arena holds those that aren't dropped.
+-- What the held clauses show holds of all clauses, since the dropped ones are true before any decision.
 use Rattle.std.proofs.Common.{◌≡◌, ℕ, ◌+◌, ◌-◌, ◌<◌, ◌⊎◌, List, [], ◌∷◌, ◌++◌, length, get_or, length-append, refl, sym, ◌∙◌, ap, inl, inr, arith, Option, Some, subst, pos, nat_eq, true, false, Bool, None}
 use Rattle.std.specs.Prelude.{All, Any, Contains, slice_get, map, cond}
 use Rattle.std.proofs.lemmas.Bool.{cases_eq, cases_lt}
@@ -49,7 +49,7 @@ module _ (clauses held : List (List ℕ)) (ids base : List ℕ) (c : Covers clau
       let t : (hints : List ℕ) × (line.hints.items ≡ map pos hints) × TidyPropagation (numbered clauses) line.literals.items hints = w (numbered clauses) c.numbers in
       record { id = e ∙ f; hints = t.0; hints_are = t.1; tidy = t.2 }
 
-  -- what is true before any decision may become more
+  -- more literals may become true before any decision
   pub covers_grown : (a : List ℕ) → All (Contains a) base → Covers clauses held ids a
   covers_grown a w = record {
     aligned = c.aligned;
@@ -60,7 +60,7 @@ module _ (clauses held : List (List ℕ)) (ids base : List ℕ) (c : Covers clau
     ]) clauses c.kept;
   }
 
-  -- and a clause more has the next number
+  -- one more clause gets the next id
   pub covers_more : (a : List ℕ) → All (Contains a) base → (clause : List ℕ) (id : ℕ) → id ≡ length clauses + 1 → Covers (clauses ++ clause ∷ []) (held ++ clause ∷ []) (ids ++ id ∷ []) a
   covers_more a w clause id e = record {
     aligned = omega (arith, length-append ids (id ∷ []), length-append held (clause ∷ []), c.aligned);
@@ -102,6 +102,6 @@ module _ (clauses held : List (List ℕ)) (ids base : List ℕ) (c : Covers clau
           let d : length cs < length (cs ++ x ∷ []) = omega (arith, length-append cs (x ∷ [])) in
           rw (z, j) (slice_get-get_or (cs ++ x ∷ []) (length cs) [] d ∙ ap (λ (v : List ℕ). Some v) (get_or_push cs x [] (length cs) refl))
 
--- no clause
+-- the case without clauses
 pub covers_none : (base : List ℕ) → Covers [] [] [] base
 covers_none base = record { aligned = refl; numbers = λ k b. absurd (omega (arith, b)); kept = All-nil (λ clause. Contains [] clause ⊎ Any (Contains base) clause) }

@@ -1,4 +1,4 @@
--- The clause that is denied, and what follows, where it is certified.
+-- Certifying a clause: its literals are assumed false, and the conflict that follows yields the log's line.
 use Rattle.std.proofs.Common.{◌≡◌, ◌≢◌, ℕ, ◌+◌, ◌-◌, ◌<◌, ◌≤◌, ◌⊎◌, List, [], ◌∷◌, ◌++◌, length, length-append, get_or, take, drop, map, refl, sym, ◌∙◌, ap, inl, inr, arith, Option, Some, None, subst, zero, suc}
 use Rattle.std.specs.Prelude.{All, AllPairs, Contains, slice_get, replicate}
 use Rattle.std.proofs.lemmas.Bool.{cases_eq, cases_lt}
@@ -62,7 +62,7 @@ module _ (content : Content) (low : ℕ) (reasons : List (Option ℕ)) (trail : 
   pub denied_root : BeginsAtRoot level content r1 t1
   denied_root = root_assumed level content rb tb (back_root level content reasons rb trail tb g eb er) clause r1 t1 h (assumed_bounded (length content.chains) tb clause (back_falsifiable (length content.chains) low trail tb clause eb f) rb r1 t1 h)
 
-  -- the literals' contraries, said of what was added
+  -- what was assumed, stated for the literals that were added
   exactly : IsAssumed (map negated h.added) rb tb r1 t1
   exactly = record {
     added = h.added;
@@ -88,7 +88,7 @@ module _ (content : Content) (low : ℕ) (reasons : List (Option ℕ)) (trail : 
     whole_trail : t' ≡ (tb ++ h.added) ++ drop (length t1) t'
     whole_trail = sym (take-append-drop (length t1) t') ∙ ap (λ (xs : List ℕ). xs ++ drop (length t1) t') (l.prefix ∙ h.trail)
 
-    -- what was given is the part of the trail from one length to the other
+    -- the given literals are the part of the trail between the two lengths
     pub givens_are : (shown : List ℕ) (high : ℕ) → shown ≡ t' → high ≡ length t1 → take (high - low) (drop low shown) ≡ h.added
     givens_are shown high e i =
         let n : high - low ≡ length h.added = omega (arith, high_is) in

@@ -1,4 +1,4 @@
--- An ending tells of one conflict at most.
+-- An ending has at most one conflict.
 use Rattle.std.proofs.Common.{◌≤◌, arith}
 use Rattle.cdcl_core.specs.declared.search.Ending.{Ending}
 use Rattle.cdcl_core.specs.declared.search.Ending.TheVariants.{Model, Refuted, Taught}

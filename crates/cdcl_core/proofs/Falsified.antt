@@ -1,4 +1,4 @@
--- Literals that are made false, and what follows.
+-- Denying literals: its outcomes, from assuming and from propagation.
 use Rattle.std.proofs.Common.{◌≡◌, ℕ, ◌≤◌, List, [], ◌++◌, length, take, length-append, refl, sym, ◌∙◌, ap, arith, subst, map, Option, None, true, false}
 use Rattle.std.specs.Prelude.{All, Any, Contains, replicate}
 use Rattle.std.proofs.lemmas.List.{take_at, take_all, take-take}
@@ -32,7 +32,7 @@ back_justified level content reasons rb trail tb denied g e f = rw (e, f) (justi
 pub back_falsifiable : (size low : ℕ) (trail tb literals : List ℕ) → tb ≡ take low trail → CanFalsify size (take low trail) literals → CanFalsify size tb literals
 back_falsifiable size low trail tb literals e f = rw e f
 
--- how the watches have moved, said of an earlier part of the trail
+-- how the watches have moved, stated for an earlier part of the trail
 pub watches_of : (earlier later : Content) (a t b : List ℕ) (ra r s : List (Option ℕ)) → length ra ≡ length a → length a ≤ length t → take (length a) t ≡ a → IsLater earlier t r later b s → IsLater earlier a ra later a ra
 watches_of earlier later a t b ra r s al n e l = record {
   clauses = l.clauses;
@@ -75,7 +75,7 @@ module _ (content : Content) (ra : List (Option ℕ)) (a literals tried : List �
   tried_justified denied j = justified_assumed content (denied ++ literals) tried ra r a t (justified_more content denied (denied ++ literals) ra a (within_left denied literals) j)
       h (within_trans tried literals (denied ++ literals) w (within_right denied literals))
 
-  -- a literal that follows is to be false
+  -- the case in which a literal to be denied is true
   pub denied_true : All (HasLiteral content) literals → Any (Contains t) literals → IsDenied literals content a ra content t r true
   denied_true k y = record {
     prefix = tried_prefix;
@@ -99,7 +99,7 @@ module _ (content : Content) (ra : List (Option ℕ)) (a literals tried : List �
     later_justified : (denied : List ℕ) → IsJustified content denied ra a → IsJustified content' (denied ++ literals) r' t'
     later_justified denied j = justified_later content content' (denied ++ literals) r r' t t' (tried_justified denied j) l
 
-    -- a clause is false
+    -- the case in which a clause becomes false
     pub denied_false : (at : ℕ) → IsConflict content' t' at → IsDenied literals content a ra content' t' r' true
     denied_false at c = record {
       prefix = later_prefix;
@@ -111,7 +111,7 @@ module _ (content : Content) (ra : List (Option ℕ)) (a literals tried : List �
       refuted = λ e denied j b p o f. conflict_refutes content' (clauses_of content) (ap (λ (cs : List Clause). map (λ (x : Clause). x.literals) cs) l.clauses) (denied ++ literals) r' t' (later_justified denied j) b p o f at c;
     }
 
-    -- nothing is left to propagate
+    -- the case in which nothing is left to propagate
     pub denied_settled : AllFalse t literals → Rule content' t' → IsDenied literals content a ra content' t' r' false
     denied_settled f rule = record {
       prefix = later_prefix;

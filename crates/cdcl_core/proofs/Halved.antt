@@ -1,4 +1,4 @@
--- Literals that are needed, half by half.
+-- The recursion of minimising over the halves of a list.
 use Rattle.std.proofs.Common.{◌≡◌, ℕ, ◌-◌, ◌<◌, ◌≤◌, List, [], ◌++◌, length, get_or, take, drop, map, sym, ◌∙◌, ap, arith, subst, Option, Bool, false}
 use Rattle.std.specs.Prelude.{All, Contains}
 use Rattle.std.proofs.lemmas.List.{take_all, take-append-drop, length-drop}
@@ -36,7 +36,7 @@ module _ (P : ℕ → Type 0) (xs : List ℕ) (m : ℕ) (h : All P xs) where
 pub All-within : (P : ℕ → Type 0) (xs ys : List ℕ) → Within xs ys → All P ys → All P xs
 All-within P xs ys w h = All-weaker (Contains ys) P (λ x p. All-contains P ys x h p) xs w
 
--- what is part of the halves
+-- parts of the halves are parts of the list
 pub within_halves : (xs : List ℕ) (m : ℕ) (part rest whole : List ℕ) → Within part (take m xs) → Within rest (take (length xs - m) (drop m xs)) → whole ≡ part ++ rest → Within whole xs
 within_halves xs m part rest whole v w e =
     let first : List ℕ = take m xs in
@@ -44,7 +44,7 @@ within_halves xs m part rest whole v w e =
     rw e (subst (λ (ys : List ℕ). Within (part ++ rest) ys) (halves xs m) (All-append (Contains (first ++ second)) part rest
     (within_trans part first (first ++ second) v (within_left first second)) (within_trans rest second (first ++ second) w (within_right first second))))
 
--- where watches alone have moved
+-- the case in which only watches have moved
 module _ (content later : Content) (r s : List (Option ℕ)) (t b : List ℕ) (l : IsLater content t r later t r) (et : b ≡ t) (es : s ≡ r) where
   pub root_there : (level : Level) → BeginsAtRoot level content r t → BeginsAtRoot level later s b
   root_there level g = rw (et, es) (root_later level content r t g later r t l)

@@ -1,4 +1,4 @@
--- From a false clause back to what was given.
+-- The loop that collects hints, from a false clause back to the given literals.
 use Rattle.std.proofs.Common.{◌≡◌, ◌≢◌, ℕ, ◌+◌, ◌<◌, ◌≤◌, ◌⊎◌, List, [], ◌∷◌, ◌++◌, length, get_or, take, map, refl, sym, ◌∙◌, ap, inl, inr, arith, Option, Some, None, subst, false, zero, suc, pos, ℤ}
 use Rattle.std.specs.Prelude.{All, AllPairs, Contains, slice_get, insert}
 use Rattle.std.proofs.lemmas.Bool.{cases_eq}
@@ -56,7 +56,7 @@ pub record Certified (live : ℕ → Option (List ℕ)) (trail givens : List ℕ
   pub used : All (λ t. IsUsed live (negated t) hints) seen
   pub fresh : All (IsFresh live (take at trail)) hints
 
--- the place of a literal in the trail is one
+-- a literal has only one place in the trail
 only_place : (trail : List ℕ) → AllPairs (λ l m. l ≢ m) trail → (n q t : ℕ) → n ≤ q → q < length trail → get_or trail q 0 ≡ t → Contains (take n trail) t → ⊥
 only_place trail d n q t b c e f =
     let p = place_in trail n t f in
@@ -64,7 +64,7 @@ only_place trail d n q t b c e f =
     d p.0 q 0 j c (p.3 ∙ sym e)
 
 module _ (live : ℕ → Option (List ℕ)) (content : Content) (reasons : List (Option ℕ)) (trail givens : List ℕ) (conflict : ℕ) (h : HasReasons content reasons trail givens conflict) (consistent : IsConsistent trail) (distinct : AllPairs (λ l m. l ≢ m) trail) where
-  -- each literal of a false clause makes its contrary seen
+  -- at the start the contraries of the false clause's literals are seen
   pub Certified-begun : (seen : List ℕ) (number : ℕ) → Sees trail (literals_of content conflict) [] seen → live number ≡ Some (literals_of content conflict) → Certified live trail givens (length trail) seen (number ∷ [])
   Certified-begun seen number s e =
       let clause : List ℕ = literals_of content conflict in
@@ -230,13 +230,13 @@ module _ (live : ℕ → Option (List ℕ)) (content : Content) (reasons : List 
       r.refutes givens (All-weaker (Contains givens) (Contains (take at trail ++ givens)) (λ x p. Contains-append_right (take at trail) givens x p) givens (All-contains_itself givens)) (All-contains_itself givens)
       (All-weaker (Contains trail) (λ t. Contains givens t ⊎ Pending trail at t) (λ t p. inr (p.0, omega arith, p.1, get_or_default trail p.0 0 t p.1 ∙ p.2)) seen r.part)
 
--- the hints are their numbers
+-- the same for hints as signed numbers
 pub record Noted (live : ℕ → Option (List ℕ)) (trail givens : List ℕ) (at : ℕ) (seen : List ℕ) (hints : List ℤ) : Type 0 where
   pub numbers : List ℕ
   pub same : hints ≡ map pos numbers
   pub certified : Certified live trail givens at seen numbers
 
--- whatever the clauses are under whose numbers those of the arena are live
+-- for any live clauses among which the arena's are, under their ids
 pub record Noting (held : List (List ℕ)) (ids trail givens : List ℕ) (at : ℕ) (seen : List ℕ) (hints : List ℤ) : Type 0 where
   pub within : at ≤ length trail
   pub part : All (Contains trail) seen

@@ -1,4 +1,4 @@
--- The clause that a conflict teaches is asserting once it has been minimised.
+-- The learnt clause is asserting once it has been minimised.
 use Rattle.std.proofs.Common.{◌≡◌, ℕ, ◌<◌, ◌⊎◌, List, [], ◌∷◌, ◌++◌, length, get_or, take, refl, sym, ◌∙◌, ap, inl, inr, arith, Option, subst}
 use Rattle.std.specs.Prelude.{All, Contains}
 use Rattle.std.proofs.lemmas.List.{length-take, get_or-take}
@@ -11,7 +11,7 @@ use Rattle.cdcl_core.specs.Assumed.{CanFalsify}
 use Rattle.cdcl_core.specs.Analysed.{AtConflict, LearnsFrom}
 use Rattle.cdcl_core.proofs.Minimised.{Within, CanFalsify-within, Freed-within}
 
--- the same clause
+-- a clause with the same literals in another order
 pub same_asserting : (clauses : List (List ℕ)) (xs ys : List ℕ) → Within ys xs → Within xs ys → IsAsserting clauses xs → IsAsserting clauses ys
 same_asserting clauses xs ys w v s = (
   All-weaker (Contains xs) (IsFreed clauses ys) (λ m p. Freed-within clauses 0 [] xs ys w m (All-contains (IsFreed clauses xs) xs m s.0 p)) ys w,
@@ -90,6 +90,6 @@ module _ (content : Content) (reasons : List (Option ℕ)) (trail : List ℕ) (l
       (u, take start trail, member, prefix_frees, l.unset),
     )
 
--- what was shown of the arena as it was when the clause was certified
+-- literals known to the arena after certifying were known before
 pub known_there : (level : Level) (content content' : Content) (reasons : List (Option ℕ)) (trail literals : List ℕ) → BeginsAtRoot level content' reasons trail → length content.chains ≡ level.size → All (HasLiteral content') literals → All (HasLiteral content) literals
 known_there level content content' reasons trail literals g e h = All-weaker (HasLiteral content') (HasLiteral content) (λ l b. omega (arith, b, e, g.size)) literals h

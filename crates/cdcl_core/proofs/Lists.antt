@@ -1,4 +1,4 @@
--- Lists.
+-- Lemmas on entries and prefixes of lists, for trails and reasons.
 use Rattle.std.proofs.Common.{◌≡◌, ℕ, ◌+◌, ◌-◌, ◌<◌, ◌≤◌, ◌⊎◌, List, [], ◌∷◌, ◌++◌, length, get_or, take, drop, refl, sym, ◌∙◌, ap, inl, inr, arith, Option, Some, None, subst, zero, suc}
 use Rattle.std.specs.Prelude.{All, Any, Contains, slice_get, replicate}
 use Rattle.std.proofs.lemmas.Bool.{cases_lt}
@@ -25,7 +25,7 @@ entry_cases [] y z (suc k) e = let f : None ≡ Some z = e in cc
 entry_cases (x ∷ xs) y z zero e = inl (omega arith, e)
 entry_cases (x ∷ xs) y z (suc k) e = elim (entry_cases xs y z k e) [ inl w ↦ inl (omega (arith, w.0), w.1) | inr w ↦ inr (ap suc w.0, w.1) ]
 
--- an entry of two lists
+-- an entry of two concatenated lists
 pub entry_append : {X : Type 0} (xs ys : List X) (z : X) (k : ℕ) → slice_get (xs ++ ys) k ≡ Some z → ((k < length xs) × (slice_get xs k ≡ Some z)) ⊎ ((length xs ≤ k) × (slice_get ys (k - length xs) ≡ Some z))
 entry_append [] ys z k e = let n : k - 0 ≡ k = omega arith in inr (omega arith, rw n e)
 entry_append (x ∷ xs) ys z zero e = inl (omega arith, e)

@@ -1,4 +1,4 @@
--- The log that a solver keeps.
+-- The loop of searches: the invariant of solver and log.
 use Rattle.std.proofs.Common.{◌≡◌, ℕ, ◌+◌, ◌*◌, ◌<◌, ◌≤◌, List, [], ◌∷◌, ◌++◌, length, get_or, take, map, length-append, append-nil, append_assoc, refl, sym, ◌∙◌, ap, inl, inr, arith, subst}
 use Rattle.std.specs.Prelude.{All, Any, Contains}
 use Rattle.std.proofs.lemmas.Bool.{cases_lt}
@@ -19,7 +19,7 @@ use Rattle.cdcl_core.proofs.Adopted.{base_here}
 use Rattle.cdcl_core.proofs.Covered.{covers_more}
 use Rattle.common_lemmas.proofs.Numbers.{one_more_times}
 
--- what holds after so many lines
+-- what holds after `round` lines
 pub record Running (formula : List (List ℕ)) (solver : Solver) (log : List Line) (round : ℕ) : Type 0 where
   pub base : HasBase (clauses_of solver.arena) solver solver.conflict
   pub covers : Covers (with_log formula log) (clauses_of solver.arena) solver.ids.items solver.trail
@@ -52,7 +52,7 @@ log_more formula log line h t k d b = elim (cases_lt k (length log)) [
 ]
 
 module _ (formula : List (List ℕ)) (solver : Solver) (log : List Line) (round : ℕ) (h : Running formula solver log round) where
-  -- there are as many numbers as references
+  -- there are as many ids as references
   pub running_aligned : length solver.ids.items ≡ length solver.refs.items
   running_aligned = h.covers.aligned ∙ (length-map solver.arena.clauses (λ (c : Clause). c.literals) ∙ (sym (length-map solver.arena.clauses (λ (c : Clause). c.at)) ∙ sym (ap length h.base.numbered_by)))
 

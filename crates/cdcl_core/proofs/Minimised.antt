@@ -1,4 +1,4 @@
--- Literals that are needed.
+-- Which literals minimising keeps: cases of none, one, and two halves.
 use Rattle.std.proofs.Common.{◌≡◌, ℕ, ◌≤◌, ◌⊎◌, List, [], ◌++◌, length, get_or, take, append-nil, append_assoc, refl, sym, ◌∙◌, ap, inl, inr, arith, Option, subst}
 use Rattle.std.specs.Prelude.{All, Contains}
 use Rattle.std.proofs.lemmas.List.{take_at, get_or_default}
@@ -71,7 +71,7 @@ none_needed clauses others part e r = rw e record {
   freed = All-nil (IsFreed clauses (others ++ []));
 }
 
--- the first half where the second is false, and then the second where the part of the first is
+-- the first half is tried with the second false, then the second with the kept part of the first false
 module _ (clauses : List (List ℕ)) (others first second : List ℕ) (r : IsRefutable clauses (others ++ (first ++ second))) where
   pub first_refutable : IsRefutable clauses ((others ++ second) ++ first)
   first_refutable =
@@ -120,6 +120,6 @@ module _ (clauses : List (List ℕ)) (first literals part kept : List ℕ) (e : 
   pub kept_begins : take (length first) kept ≡ first
   kept_begins = rw e (take_at first part (length first) refl)
 
--- what the next trial requires, said of the arena and the trail as they are
+-- what the next trial requires, stated for the present arena and trail
 pub falsifiable_here : (level : Level) (content : Content) (reasons : List (Option ℕ)) (trail literals : List ℕ) → BeginsAtRoot level content reasons trail → CanFalsify level.size level.base literals → CanFalsify (length content.chains) (take level.low trail) literals
 falsifiable_here level content reasons trail literals g h = rw (g.size, g.base) h

@@ -1,4 +1,4 @@
--- The clauses that are held, after those that are dropped have gone.
+-- Compaction after clauses were dropped keeps the solver's invariant.
 use Rattle.std.proofs.Common.{◌≡◌, ℕ, ◌<◌, ◌⊎◌, List, [], length, get_or, take, refl, sym, ◌∙◌, ap, inl, inr, arith, Option, Some, None, subst, true, false}
 use Rattle.std.specs.Prelude.{All, Any, Contains, slice_get}
 use Rattle.std.proofs.lemmas.List.{length-map, get_or_default}
@@ -21,7 +21,7 @@ entry_at xs k b = slice_get-get_or xs k 0 b
 
 module _ (content : Content) (refs ids : List ℕ) (reasons : List (Option ℕ)) (trail : List ℕ) {size : ℕ} (b : IsBase (clauses_of content) size content refs reasons trail None)
     (kept names : List ℕ) (h : Remains content refs ids (length refs) kept names) where
-  -- each clause that is kept is the arena's
+  -- each kept clause is the arena's
   kept_clause : (k : ℕ) → k < length kept → HasClause content (get_or kept k 0)
   kept_clause k c =
       let w = h.from k c in

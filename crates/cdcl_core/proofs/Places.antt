@@ -1,4 +1,4 @@
--- The place of a number in an ascending list.
+-- Binary search for a reference among ascending ones.
 use Rattle.std.proofs.Common.{◌≡◌, ℕ, ◌<◌, ◌≤◌, List, length, get_or, inl, inr, sym, ◌∙◌, ap, arith, Some}
 use Rattle.std.specs.Prelude.{AllPairs, Contains, slice_get}
 use Rattle.std.proofs.lemmas.Bool.{cases_eq, cases_lt}

@@ -1,4 +1,4 @@
--- What closed assignments contain.
+-- Closed assignments contain what propagation made true, so a conflict refutes the denied literals.
 use Rattle.std.proofs.Common.{◌≡◌, ℕ, ◌<◌, ◌≤◌, List, [], length, get_or, take, take-suc, subst, arith, Option, Some, None, zero, suc}
 use Rattle.std.specs.Prelude.{All, Contains, slice_get}
 use Rattle.std.proofs.lemmas.List.{take_all}

@@ -1,4 +1,4 @@
--- What keeps the root level of a search.
+-- The invariant of the trail's root level is kept by propagation and by cutting the trail back.
 use Rattle.std.proofs.Common.{◌≡◌, ℕ, ◌+◌, ◌-◌, ◌<◌, ◌≤◌, List, [], ◌∷◌, ◌++◌, length, get_or, take, map, length-append, refl, sym, ◌∙◌, ap, inl, inr, arith, Option, Some, None, subst, zero, suc, true, false, nat_eq}
 use Rattle.std.specs.Prelude.{All, Any, AllPairs, Contains, slice_get, replicate, MatchOption}
 use Rattle.std.proofs.lemmas.Bool.{cases_eq, cases_lt}
@@ -38,7 +38,7 @@ open_among (c ∷ cs) a r h o = elim (cases_eq c.at r) [
 pub open_at : (content : Content) (clauses : List (List ℕ)) (a : List ℕ) (r : ℕ) → clauses_of content ≡ clauses → HasClause content r → IsClosed clauses a → IsOpen a (literals_of content r)
 open_at content clauses a r e h o = open_among content.clauses a r h (subst (λ (xs : List (List ℕ)). All (IsOpen a) xs) (sym e) o)
 
--- and under its own reference
+-- and is found under its own reference
 pub found_at : (cs : List Clause) (k : ℕ) (d : Clause) → AllPairs (λ r s. r < s) (map (λ (c : Clause). c.at) cs) → k < length cs → clause_among cs (get_or cs k d).at ≡ Some (get_or cs k d)
 found_at [] k d h b = absurd (omega arith)
 found_at (c ∷ cs) zero d h b = let z : nat_eq c.at c.at ≡ true = grind (arith, nat_tests) in rw z refl

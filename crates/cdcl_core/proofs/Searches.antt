@@ -1,4 +1,4 @@
--- Decisions, and what they lead to.
+-- The loop of decisions: its invariant, that it ends within the number of variables, and what a model or a conflict yields.
 use Rattle.std.proofs.Common.{◌≡◌, ◌≢◌, ℕ, ◌+◌, ◌*◌, ◌<◌, ◌≤◌, List, [], ◌∷◌, ◌++◌, length, length-append, get_or, take, map, refl, sym, ◌∙◌, ap, inl, inr, arith, Option, Some, None, subst}
 use Rattle.std.specs.Prelude.{All, AllPairs, Any, Contains}
 use Rattle.std.proofs.lemmas.Bool.{cases_eq}
@@ -23,7 +23,7 @@ use Rattle.cdcl_core.proofs.Refuted.{root_forces}
 use Rattle.cdcl_core.proofs.Assumptions.{part_in}
 use Rattle.cdcl_core.proofs.Covered.{covers_grown}
 
--- literals of distinct variables are as many as these at most
+-- a trail has at most as many literals as there are variables
 pub count_variables : (variables : ℕ) (trail : List ℕ) → IsConsistent trail → AllPairs (λ l m. l ≢ m) trail → All (λ l. l < 2 * variables) trail → length trail ≤ variables
 count_variables variables trail c d h =
     let b : length (map variable_of trail) ≤ variables = length_below variables (map variable_of trail) apart (All-map (λ v. v < variables) variable_of trail (All-weaker (λ l. l < 2 * variables) (λ l. variable_of l < variables) (λ l k. omega (arith, k)) trail h)) in
@@ -40,7 +40,7 @@ count_variables variables trail c d h =
         let n : variable_of l ≢ variable_of m = variables_differ l m (d i j 0 lt bj) (λ f. c m (Contains-get_or trail j 0 bj) (subst (Contains trail) f (Contains-get_or trail i 0 bi))) in
         λ same. n (sym p ∙ (same ∙ q))
 
--- with an unset literal there are fewer
+-- with an unset literal it has fewer
 pub room_for : (variables : ℕ) (trail : List ℕ) (l : ℕ) → IsConsistent trail → AllPairs (λ l m. l ≢ m) trail → All (λ l. l < 2 * variables) trail → IsUnset trail l → l < 2 * variables → length trail < variables
 room_for variables trail l c d h u b =
     let n : length (trail ++ l ∷ []) ≤ variables = count_variables variables (trail ++ l ∷ []) (Consistent-push trail l u c) (Distinct-push trail l u.0 d) (All-push (λ x. x < 2 * variables) trail l h b) in
@@ -110,7 +110,7 @@ model_of level content reasons trail d whole consistent none = record {
       ]));
 }
 
--- a decision, and what follows
+-- a decision and its propagation
 module _ (level : Level) (content : Content) (reasons : List (Option ℕ)) (trail : List ℕ) (d : Deciding level content reasons trail) (l : ℕ) (known : HasLiteral content l) (reasons1 : List (Option ℕ)) (trail1 : List ℕ) (er : reasons1 ≡ reasons ++ None ∷ []) (et : trail1 ≡ trail ++ l ∷ []) where
   assumed : IsAssumed (negated l ∷ []) reasons trail reasons1 trail1
   assumed = record {
@@ -172,7 +172,7 @@ module _ (level : Level) (content : Content) (reasons : List (Option ℕ)) (trai
       forced = λ a p o. rw (later_root.base) (root_forces level content' reasons' trail' later_root a p (subst (λ (cs : List (List ℕ)). IsClosed cs a) later_root.clauses o));
     }
 
--- what holds over the same clauses, where more is true before any decision
+-- what still holds of the same clauses when more is true before any decision
 module _ (before after : Solver) (e : clauses_of after.arena ≡ clauses_of before.arena) (w : All (Contains after.trail) before.trail) where
   pub ends_onto : (id : ℕ) (a : List ℕ) (ending : Ending) → IsSearched before after → EndsOver (clauses_of after.arena) after.ids.items after.trail id a ending → EndsOver (clauses_of before.arena) before.ids.items before.trail id a ending
   ends_onto id a ending f r clauses v n = r clauses (rw (e, f) (covers_grown clauses (clauses_of before.arena) before.ids.items before.trail v after.trail w)) n

@@ -1,9 +1,9 @@
--- Which fields of a solver steps change.
+-- Which fields of a solver the steps of a search change.
 use Rattle.std.proofs.Common.{ℕ, ◌≡◌, ◌*◌, ◌∙◌, ap, refl, subst, sym}
 use Rattle.cdcl_core.specs.declared.order.Order.{Order}
 use Rattle.cdcl_core.specs.declared.solver.Solver.{Solver}
 
--- while decisions are made
+-- the fields that change while decisions are made
 abbrev pub IsDecided : Solver → Solver → Type 0
 IsDecided a b = b ≡ record a { arena = b.arena; trail = b.trail; reasons = b.reasons; order = b.order }
 

@@ -1,4 +1,4 @@
--- Clauses that are dropped: each has a true literal, and none became true by it.
+-- Dropped clauses stay spare: each has a true literal and is no reason, also after more literals became true.
 use Rattle.std.proofs.Common.{◌≡◌, ◌≢◌, ℕ, ◌<◌, ◌≤◌, ◌⊎◌, List, [], ◌∷◌, ◌++◌, length, length-append, get_or, take, map, refl, sym, ◌∙◌, ap, inl, inr, arith, Option, Some, None, subst, Bool, true, false, nat_eq}
 use Rattle.std.specs.Prelude.{All, AllPairs, Any, Contains, slice_get, cond}
 use Rattle.std.proofs.lemmas.Bool.{cases_eq, cases_lt}
@@ -61,7 +61,7 @@ module _ (content content' : Content) (at : ℕ) (literals : List ℕ) (d : IsAd
     | inr e ↦ absurd (not_new r e f)
   ]
 
-  -- and where it makes a literal true
+  -- also where the new clause makes a literal true
   pub spare_unit : (l : ℕ) (reasons' : List (Option ℕ)) (trail' : List ℕ) → reasons' ≡ reasons ++ Some at ∷ [] → trail' ≡ trail ++ l ∷ [] → AreSpare content' reasons' trail'
   spare_unit l reasons' trail' g i r c f = elim (Contains-push_cases (references_of content) at r (subst (λ (xs : List ℕ). Contains xs r) references c)) [
     | inl o ↦
@@ -135,7 +135,7 @@ dropped_literals (c ∷ cs) at r =
     ap (λ (x : ℕ). literals_in (cond (nat_eq x r) (Some (marked (nat_eq c.at at) c)) (clause_among (map (dropped at) cs) r))) (marked_at (nat_eq c.at at) c)
     ∙ first_literals (nat_eq c.at at) (nat_eq c.at r) c (clause_among (map (dropped at) cs) r) (clause_among cs r) (dropped_literals cs at r)
 
--- it is the clause's own
+-- the mark found is the clause's own
 first_other : (d : Bool) (c : Clause) (rest rest' : Option Clause) → dropped_in rest ≡ dropped_in rest' → dropped_in (cond d (Some c) rest) ≡ dropped_in (cond d (Some c) rest')
 first_other true c rest rest' e = refl
 first_other false c rest rest' e = e

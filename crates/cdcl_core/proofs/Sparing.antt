@@ -1,4 +1,4 @@
--- Which clauses are dropped.
+-- The loops that mark reasons, drop spare clauses, list the rest and rename the reasons.
 use Rattle.std.proofs.Common.{◌≡◌, ◌≢◌, ℕ, ◌+◌, ◌<◌, List, [], ◌∷◌, ◌++◌, length, get_or, length-append, refl, sym, ◌∙◌, ap, inl, inr, arith, Option, Some, None, Bool, true, false, subst, zero, suc}
 use Rattle.std.specs.Prelude.{AllPairs, Any, Contains, slice_get, replicate}
 use Rattle.std.proofs.Math.ListN.{set}
@@ -105,7 +105,7 @@ not_marked refs reasons ascending n at b e marks mark bm em z all k f =
     let t : true ≡ false = sym m.2 ∙ (ap (λ (x : ℕ). get_or marks x false) is ∙ (get_or_default marks n false mark bm ∙ (sym em ∙ z))) in
     absurd cc
 
--- and one that is marked is
+-- a clause that is marked is a reason
 pub is_marked : (refs : List ℕ) (reasons : List (Option ℕ)) (n at : ℕ) → n < length refs → at ≡ get_or refs n at → (marks : List Bool) (mark : Bool) → n < length marks → mark ≡ get_or marks n mark
     → ((j : ℕ) → get_or marks j false ≡ true → IsNoReason reasons (get_or refs j 0) → ⊥) → IsNoReason reasons at → mark ≡ false
 is_marked refs reasons n at b e marks true bm em only free = absurd (only n (get_or_default marks n false true bm ∙ sym em) (subst (IsNoReason reasons) (e ∙ get_or_default refs n at 0 b) free))
@@ -164,7 +164,7 @@ module _ (content : Content) (refs ids : List ℕ) where
     here : get_or refs n 0 ≡ at
     here = get_or_default refs n 0 at b ∙ sym e
 
-    -- the clause is dropped
+    -- the case in which the clause is dropped
     pub remains_without : is_dropped_of content at ≡ true → Remains content refs ids (n + 1) kept names
     remains_without t = record {
       aligned = h.aligned;
@@ -180,7 +180,7 @@ module _ (content : Content) (refs ids : List ℕ) where
       ];
     }
 
-    -- or is kept
+    -- the case in which it is kept
     pub remains_with : is_dropped_of content at ≡ false → AllPairs (λ r s. r < s) refs → (id : ℕ) → n < length ids → id ≡ get_or ids n id → (kept' names' : List ℕ) → kept' ≡ kept ++ at ∷ [] → names' ≡ names ++ id ∷ [] → Remains content refs ids (n + 1) kept' names'
     remains_with t ascending id bi ei kept' names' f g = rw (f, g) record {
       aligned = omega (arith, h.aligned, length-append kept (at ∷ []), length-append names (id ∷ []));

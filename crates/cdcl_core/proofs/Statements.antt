@@ -1,4 +1,4 @@
--- Formulas clause by clause.
+-- Loops over a formula's clauses: its number of variables, loading, and the values of a model.
 use Rattle.std.proofs.Common.{◌≡◌, ◌≢◌, ℕ, ◌+◌, ◌-◌, ◌*◌, ◌/◌, ◌%◌, ◌<◌, ◌≤◌, List, [], ◌∷◌, ◌++◌, length, get_or, take, map, refl, sym, ◌∙◌, ap, inl, inr, arith, Option, Some, None, subst, zero, suc, true, false, Bool, pos, negsuc, ℤ, nat_eq, true≢false}
 use Rattle.std.specs.Prelude.{All, Any, Contains, FitsSigned, slice_get, replicate, max, not, IsTrue, ◌↔◌}
 use Rattle.std.proofs.lemmas.Bool.{cases_eq, cases_lt, and_from as both, or_left, or_right}
@@ -57,7 +57,7 @@ pub code_below : (z : ℤ) → IsLiteral z → code_of z < 400000
 code_below (pos n) h = omega (arith, ints)
 code_below (negsuc v) h = omega (arith, ints)
 
--- a number that the literals so far are below
+-- the least number of variables for the literals so far
 pub record Reaches (from reach : ℕ) (literals : List ℕ) : Type 0 where
   pub few : reach ≤ 200000
   pub more : from ≤ reach
@@ -186,7 +186,7 @@ values_for model variables formula e reached below = subst (λ (n : ℕ). (formu
 pub filled_formula : (formula : Cnf) → All (λ clause. clause ≢ []) formula.clauses → HasEmpty formula → ⊥
 filled_formula formula h e = All-contains (λ clause. clause ≢ []) formula.clauses e.1 h (e.0, e.2, e.3) e.4
 
--- one clause more that the number reaches
+-- one more clause within the number of variables
 module _ (clauses : List (List ℤ)) (i : ℕ) (x : List ℤ) (e : slice_get clauses (i + 1 - 1) ≡ Some x) (reach reach' : ℕ) where
   pub below_next : reach ≤ reach' → AreBelow reach (codes_of (take i clauses)) → All (λ l. l < 2 * reach') (map code_of x) → AreBelow reach' (codes_of (take (i + 1) clauses))
   below_next m h b =
@@ -210,7 +210,7 @@ pub loaded : (clauses : List (List ℤ)) (i : ℕ) (x : List ℤ) (literals show
     → HasBase (codes_of (take i clauses)) before before.conflict → HasBase (clauses_of before.arena ++ shown ∷ []) after after.conflict → HasBase (codes_of (take (i + 1) clauses)) after after.conflict
 loaded clauses i x literals shown before after e f g b d = subst (λ (cs : List (List ℕ)). HasBase cs after after.conflict) (ap (λ (cs : List (List ℕ)). cs ++ shown ∷ []) b.clauses_are ∙ (ap (λ (ls : List ℕ). codes_of (take i clauses) ++ ls ∷ []) (f ∙ g) ∙ sym (codes_next clauses i x e))) d
 
--- and its number is the next one
+-- its id is the next one
 pub loaded_covers : (clauses : List (List ℤ)) (i : ℕ) (x : List ℤ) (id : ℕ) (ids ids' trail trail' : List ℕ) → slice_get clauses (i + 1 - 1) ≡ Some x → id ≡ i + 1 → ids' ≡ ids ++ id ∷ [] → All (Contains trail') trail
     → Covers (codes_of (take i clauses)) (codes_of (take i clauses)) ids trail → Covers (codes_of (take (i + 1) clauses)) (codes_of (take (i + 1) clauses)) ids' trail'
 loaded_covers clauses i x id ids ids' trail trail' e f g w v =

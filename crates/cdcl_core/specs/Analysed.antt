@@ -1,4 +1,4 @@
--- What a conflict teaches.
+-- The state at a conflict, and what must hold of the clause that is learnt from it.
 use Rattle.std.specs.Prelude.{ℕ, ◌≡◌, ◌≢◌, ◌<◌, ◌≤◌, ◌⊎◌, List, ◌∷◌, All, Contains, Option, Some, None, slice_get, length, take}
 use Rattle.clause_model.specs.Clauses.{negated, IsFalse, IsUnset, IsConsistent, AllFalse, IsClosed}
 use Rattle.clause_arena.specs.Contents.{Content}
@@ -23,7 +23,7 @@ pub record LearnsFrom (clauses : List (List ℕ)) (trail : List ℕ) (low start 
   pub falsified : IsFalse trail u
   pub fresh : All (λ l. IsFalse (take low trail) l → ⊥) (u ∷ others)
 
--- the true literals whose contraries the clause has are seen, and no more than before
+-- the seen literals are those before and the true ones whose contraries the clause has
 pub record Sees (trail clause before seen : List ℕ) : Type 0 where
   pub part : All (Contains trail) seen
   pub grows : All (Contains seen) before

@@ -1,4 +1,4 @@
--- Literals that are made false.
+-- The states of the trail after literals were assumed false, without and with propagation.
 use Rattle.std.specs.Prelude.{ℕ, ◌≡◌, ◌<◌, List, ◌++◌, Bool, true, false, All, Contains, Option, None, length, replicate, take}
 use Rattle.clause_model.specs.Clauses.{negated, IsConsistent, AllFalse}
 use Rattle.clause_arena.specs.Contents.{Content}
@@ -21,7 +21,7 @@ pub record IsAssumed (literals : List ℕ) (before : List (Option ℕ)) (a : Lis
   pub within : All (λ t. Contains literals (negated t)) added
   pub falsified : AllFalse b literals
 
--- after a the literals became false, and what follows became true, with nothing left to propagate; or they can't be false where those that a denies are
+-- after trail a the literals were made false and propagated to the end; or it was refuted that they are false together with those denied before
 pub record IsDenied (literals : List ℕ) (earlier : Content) (a : List ℕ) (before : List (Option ℕ)) (later : Content) (b : List ℕ) (reasons : List (Option ℕ)) (is_refuted : Bool) : Type 0 where
   pub prefix : take (length a) b ≡ a
   pub reasons_kept : take (length a) reasons ≡ before

@@ -1,4 +1,4 @@
--- Clauses that are dropped because they are true before any decision.
+-- Which clauses are dropped because they are true before any decision, and what remains.
 use Rattle.std.specs.Prelude.{ℕ, ◌≡◌, ◌<◌, ◌⊎◌, Bool, true, false, List, All, AllPairs, Contains, Option, Some, None, slice_get, get_or, length}
 use Rattle.clause_arena.specs.Contents.{Content, is_dropped_of}
 use Rattle.cdcl_core.specs.Implied.{IsSpare}

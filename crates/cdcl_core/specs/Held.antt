@@ -1,4 +1,4 @@
--- Clauses of which the arena holds those that aren't dropped.
+-- How the clauses of formula and log relate to those that the arena still holds after some were dropped.
 use Rattle.std.specs.Prelude.{ℕ, ◌≡◌, ◌<◌, ◌⊎◌, List, [], All, Any, Contains, Option, Some, get_or, length}
 use Rattle.clause_model.specs.Clauses.{numbered}
 

@@ -1,4 +1,4 @@
--- A conflict that reasons lead to.
+-- A conflict that propagation reached from given literals, each other true literal having a reason: a line of the log can be derived from it.
 use Rattle.std.specs.Prelude.{ℕ, ◌≡◌, ◌≢◌, ◌<◌, List, All, AllPairs, Contains, Option, Some, None, slice_get, get_or, length}
 use Rattle.clause_arena.specs.Contents.{Content, references_of}
 use Rattle.unit_propagation.specs.Watching.{IsReason}
@@ -14,7 +14,7 @@ pub record HasReasons (content : Content) (reasons : List (Option ℕ)) (trail g
   pub part : All (Contains trail) givens
   pub falsified : IsConflict content trail conflict
 
--- so it is in a solver, where each clause has a reference and a number; the given literals differ
+-- the same for a solver's fields, where each clause has a reference and an id; the given literals differ
 pub record IsDerivable (solver : Solver) (givens : List ℕ) (conflict : ℕ) : Type 0 where
   pub refs : solver.refs.items ≡ references_of solver.arena
   pub ids : length solver.ids.items ≡ length solver.refs.items

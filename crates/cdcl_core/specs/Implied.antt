@@ -1,4 +1,4 @@
--- What follows from the clauses of an arena by propagation.
+-- What propagation shows about clauses, and the invariant of trail, reasons and watches while decisions are made.
 use Rattle.std.specs.Prelude.{ℕ, ◌≡◌, ◌≤◌, ◌⊎◌, true, List, [], All, Any, Contains, Option, Some, None, slice_get, get_or, length, take, map}
 use Rattle.clause_model.specs.Clauses.{negated, IsConsistent, AllFalse, IsClosed}
 use Rattle.clause_arena.specs.Contents.{Clause, Content, HasClause, HasLiteral, literals_of, is_dropped_of, references_of}
@@ -35,7 +35,7 @@ IsCovered content a = (at : ℕ) → HasClause content at → IsWatched content 
 abbrev pub IsNoReason : List (Option ℕ) → ℕ → Type 0
 IsNoReason reasons at = (k : ℕ) → slice_get reasons k ≡ Some (Some at) → ⊥
 
--- the clause has a true literal, and none became true by it
+-- the clause has a true literal, and is no literal's reason
 abbrev pub IsSpare : Content → List (Option ℕ) → List ℕ → ℕ → Type 0
 IsSpare content reasons a at = IsNoReason reasons at × Any (Contains a) (literals_of content at)
 
@@ -54,7 +54,7 @@ pub record Level : Type 0 where
 abbrev pub level_of : Content → List ℕ → ℕ → Level
 level_of content trail low = record { clauses = clauses_of content; references = references_of content; size = length content.chains; low = low; base = take low trail }
 
--- the trail begins with what is true before any decision, where nothing is left to propagate
+-- the trail begins with the literals that are true before any decision, under which nothing is left to propagate
 pub record BeginsAtRoot (level : Level) (content : Content) (reasons : List (Option ℕ)) (trail : List ℕ) : Type 0 where
   pub clauses : clauses_of content ≡ level.clauses
   pub references : references_of content ≡ level.references

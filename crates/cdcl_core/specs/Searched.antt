@@ -1,4 +1,4 @@
--- What a search begins with, and how it ends.
+-- The invariant of a solver before a search, what a search may change, and how it ends.
 use Rattle.std.specs.Prelude.{ℕ, ◌≡◌, ◌≤◌, ◌+◌, ◌*◌, List, [], All, Any, Contains, Option, Some, None, length}
 use Rattle.clause_model.specs.Clauses.{codes_of, IsConsistent, IsAsserting}
 use Rattle.cnf_gates.specs.Cnf.{Cnf}
@@ -24,7 +24,7 @@ pub record IsBase (clauses : List (List ℕ)) (size : ℕ) (content : Content) (
   pub spare : conflict ≡ None → AreSpare content reasons trail
   pub falsified : (at : ℕ) → conflict ≡ Some at → IsConflict content trail at
 
--- so it is in a solver
+-- the same for a solver's fields
 abbrev pub HasBase : List (List ℕ) → Solver → Option ℕ → Type 0
 HasBase clauses solver conflict = IsBase clauses (2 * solver.variables) solver.arena solver.refs.items solver.reasons.items solver.trail conflict
 
@@ -34,7 +34,7 @@ pub record IsReady (solver : Solver) (conflict : Option ℕ) : Type 0 where
   pub ids : length solver.ids.items ≡ length solver.refs.items
   pub variables : solver.variables ≤ 200000
 
--- it has the formula's clauses, but for some that have a literal that is true before any decision
+-- the solver has the formula's clauses, but for some that have a literal that is true before any decision
 pub record IsLoaded (formula : Cnf) (solver : Solver) : Type 0 where
   pub variables : solver.variables ≤ 200000
   pub reached : formula.variables ≤ solver.variables
@@ -42,11 +42,11 @@ pub record IsLoaded (formula : Cnf) (solver : Solver) : Type 0 where
   pub base : HasBase (clauses_of solver.arena) solver solver.conflict
   pub covers : Covers (codes_of formula.clauses) (clauses_of solver.arena) solver.ids.items solver.trail
 
--- only watches changed, and what is true
+-- only the watches, the trail and the reasons changed
 abbrev pub IsPropagated : Solver → Solver → Type 0
 IsPropagated before after = after ≡ record before { arena = after.arena; trail = after.trail; reasons = after.reasons }
 
--- and whether a clause is false before any decision, and the order of decisions
+-- these, the conflict before any decision, and the order of decisions changed, and nothing else
 abbrev pub IsSearched : Solver → Solver → Type 0
 IsSearched before after = after ≡ record before { arena = after.arena; trail = after.trail; reasons = after.reasons; conflict = after.conflict; order = after.order }
 
@@ -61,7 +61,7 @@ EndsAs clauses a Model = IsModelOf clauses a
 EndsAs clauses a (Refuted line) = Adds clauses line × (line.literals.items ≡ [])
 EndsAs clauses a (Taught line) = Adds clauses line × IsAsserting clauses line.literals.items
 
--- so it ends over any clauses of which these are held, where the line's number is the next one
+-- the search ends so for any clauses of which these are held, where the line's id is the next one
 abbrev pub EndsOver : List (List ℕ) → List ℕ → List ℕ → ℕ → List ℕ → Ending → Type 0
 EndsOver held ids base id a ending = (clauses : List (List ℕ)) → Covers clauses held ids base → id ≡ length clauses + 1 → EndsAs clauses a ending
 

@@ -1,4 +1,4 @@
--- What the verdicts say.
+-- What the solver's verdicts guarantee: models, refutations, and logs of a spent budget.
 use Rattle.std.specs.Prelude.{ℕ, pos, ◌≡◌, ◌<◌, ◌≤◌, ◌+◌, ◌*◌, ◌⊎◌, Bool, List, [], ◌∷◌, ◌++◌, All, Any, Contains, Option, Some, map, length, take, get_or}
 use Rattle.clause_model.specs.Clauses.{codes_of, negated, AllFalse, IsUnit, numbered, IsAsserting}
 use Rattle.cnf_gates.specs.Cnf.{Cnf}
@@ -22,11 +22,11 @@ RefutesTidily live a [] = ⊥
 RefutesTidily live a (h ∷ hints) = (clause : List ℕ) × (live h ≡ Some clause) × (Contains hints h → ⊥)
     × ((AllFalse a clause × (hints ≡ [])) ⊎ ((u : ℕ) × IsUnit a clause u × IsUsed live (negated u) hints × RefutesTidily live (a ++ u ∷ []) hints))
 
--- with each literal of the clause false, the hints refute, and none is to spare
+-- with each literal of the clause false, the hints refute, and none is redundant
 abbrev pub TidyPropagation : (ℕ → Option (List ℕ)) → List ℕ → List ℕ → Type 0
 TidyPropagation live clause hints = RefutesTidily live (map negated clause) hints
 
--- a line adds these literals under the number after those of the clauses, by hints with none to spare
+-- a line adds a clause under the id after those of the clauses, by hints of which none is redundant
 pub record Adds (clauses : List (List ℕ)) (line : Addition) : Type 0 where
   pub id : line.id ≡ length clauses + 1
   pub hints : List ℕ
@@ -38,7 +38,7 @@ abbrev pub literals_in : Line → List ℕ
 literals_in (Adding line) = line.literals.items
 literals_in (Deleting line) = []
 
--- the clauses of a formula, and those that the lines of a log add
+-- the clauses of a formula, followed by those that the lines of a log add
 abbrev pub with_log : List (List ℕ) → List Line → List (List ℕ)
 with_log formula log = formula ++ map literals_in log
 
@@ -62,7 +62,7 @@ IsRefutation formula log = (front : List Line) × (last : Line) × (log ≡ fron
 
 -- ---- verdicts ----
 
--- each literal is one of the first n variables' (2v and 2v + 1 are those of the variable v, counted from 0)
+-- each literal is of one of the first n variables (2v and 2v + 1 are those of the variable v, counted from 0)
 abbrev pub AreBelow : ℕ → List (List ℕ) → Type 0
 AreBelow n clauses = All (λ clause. All (λ l. l < 2 * n) clause) clauses
 

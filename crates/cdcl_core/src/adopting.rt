@@ -1,4 +1,4 @@
-//! Clauses that join those of the search, from the formula or learnt: which two literals they watch, and what they make true at once.
+//! How a clause, from the formula or learnt, is added to the search: which two literals it watches, or that it is unit and set at once.
 
 ghost use Rattle.std.specs.Prelude.{◌≡◌, ◌≢◌, ◌<◌, ◌++◌, ◌∷◌, [], OnOk, IfSome, None, All, length, Contains};
 ghost use Rattle.clause_arena.specs.Contents.{HasLiteral};
@@ -25,8 +25,8 @@ fn find_other(literals: &[u32], first: u32) -> Option<u32>
 }
 
 impl Solver {
-    /// Adds a clause to those of the search, under a number, where nothing is decided. It watches two different literals
-    /// of its own; where it has only one, this is made true, or the clause is the conflict.
+    /// Adds a clause under an id, before any decision. It watches two different literals
+    /// of its own; where it has only one, that is made true, or the clause is the conflict where that is false.
     pub fn adopt(&mut self, literals: &[u32], id: Id) -> Result<(), Memory>
         requires base { HasBase (clauses_of self.old.arena) self.old self.old.conflict }
         requires some { 0 < length literals.now }

@@ -1,4 +1,4 @@
-//! What a conflict teaches: the clause of the first unique implication point.
+//! Conflict analysis: the clause that is learnt is that of the first unique implication point.
 
 ghost use Rattle.std.specs.Prelude.{◌≡◌, ◌<◌, ◌⊎◌, OnOk, IfOk, All, Any, Contains, IsTrue, ◌↔◌, ◌-◌};
 ghost use Rattle.clause_model.specs.Clauses.{negated, AllFalse};
@@ -10,7 +10,7 @@ use clause_arena::{Memory, Ref};
 use clause_model::{Assignment, Literal};
 use std::alloc::Global;
 
-/// Sees a literal, if it is true.
+/// Adds a literal to the seen ones, if it is true.
 fn see_one(seen: &mut Assignment, literal: Literal, trail: &Assignment) -> Result<(), Memory>
     requires { All (Contains trail.now) seen.old }
     ensures part { OnOk result (All (Contains trail.now) seen.new) }
@@ -30,7 +30,7 @@ fn see_one(seen: &mut Assignment, literal: Literal, trail: &Assignment) -> Resul
     Ok(())
 }
 
-/// Sees each true literal whose contrary the clause has.
+/// Adds to the seen literals each true one whose contrary the clause has.
 pub fn see(seen: &mut Assignment, clause: &[u32], trail: &Assignment) -> Result<(), Memory>
     requires { All (Contains trail.now) seen.old }
     ensures { OnOk result (Sees trail.now clause.now seen.old seen.new) }
@@ -42,7 +42,7 @@ pub fn see(seen: &mut Assignment, clause: &[u32], trail: &Assignment) -> Result<
     Ok(())
 }
 
-/// Whether a literal of the part is seen, looked for from its end.
+/// Whether a literal of a part of the trail is seen. The search is from the end.
 fn sees_some(seen: &Assignment, part: &[Literal]) -> bool
     ensures { IsTrue result ↔ Any (Contains seen.now) part.now }
 {
@@ -56,7 +56,7 @@ fn sees_some(seen: &Assignment, part: &[Literal]) -> bool
     false
 }
 
-/// The contraries of the seen literals of the part.
+/// The contraries of the seen literals of a part of the trail.
 fn contraries(alloc: Global, seen: &Assignment, part: &[Literal]) -> Result<Vec<Literal>, Memory>
     ensures all { IfOk result (λ v. All (λ t. Contains seen.now t → Contains v.items (negated t)) part.now) }
     ensures only { IfOk result (λ v. AllFalse part.now v.items) }
@@ -71,8 +71,8 @@ fn contraries(alloc: Global, seen: &Assignment, part: &[Literal]) -> Result<Vec<
 }
 
 impl Solver {
-    /// The clause that the conflict teaches: the literal of this level, and the others. `seen` is room for the literals
-    /// that led to the conflict, which it holds then.
+    /// The clause learnt from the conflict: its one literal of this decision level, and the others. `seen` is overwritten with
+    /// the true literals that led to the conflict.
     pub fn analyse(
         &self,
         seen: &mut Assignment,

@@ -1,4 +1,4 @@
-//! Literals that are made false, to see what follows.
+//! Literals are assumed false and propagated, to find whether a clause follows; the trail can be cut back afterwards.
 
 ghost use Rattle.std.specs.Prelude.{◌≡◌, ℕ, OnOk, IfOk, All, Any, Contains, List, take, true, false};
 ghost use Rattle.clause_arena.specs.Contents.{HasLiteral};
@@ -10,7 +10,7 @@ use clause_arena::{Arena, Memory, Ref};
 use clause_model::{Assignment, Literal};
 use unit_propagation::propagate;
 
-/// Keeps the first literals, with their reasons.
+/// Cuts the trail back to its first `low` literals, with their reasons.
 pub fn back(trail: &mut Assignment, reasons: &mut Vec<Option<Ref>>, low: usize)
     ensures trail { trail.new ≡ take low trail.old }
     ensures reasons { reasons.new.items ≡ take low reasons.old.items }
@@ -19,7 +19,7 @@ pub fn back(trail: &mut Assignment, reasons: &mut Vec<Option<Ref>>, low: usize)
     reasons.truncate(low);
 }
 
-/// Makes each literal false, without a reason, up to one that is true; the answer is whether one is.
+/// Makes each literal false, without a reason, until one is true; the answer is whether one is.
 pub fn assume(
     literals: &[Literal],
     trail: &mut Assignment,
@@ -42,7 +42,7 @@ pub fn assume(
     Ok(false)
 }
 
-/// Makes each literal false and propagates, where nothing was left to propagate; the answer is
+/// Makes each literal false and propagates, from a state in which nothing is left to propagate; the answer is
 /// whether a literal is true or a clause is then false.
 pub fn deny(
     arena: &mut Arena,

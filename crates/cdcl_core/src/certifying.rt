@@ -1,4 +1,4 @@
-//! The line of the log that certifies a clause, by propagating from its negation with hints for each step.
+//! A line of the log certifies its clause: propagation from the clause's negation ends in a conflict, and the hints name its reasons.
 
 ghost use Rattle.std.specs.Prelude.{◌≡◌, ℕ, ◌≤◌, OnOk, IfOk, All, List, length, map, take, Contains, Option, pos};
 ghost use Rattle.clause_model.specs.Clauses.{IsFalse};
@@ -17,7 +17,7 @@ use lrat_check::{Addition, Id};
 use unit_propagation::propagate;
 
 impl Solver {
-    /// The line that adds the clause, which follows from those of the arena: its literals are made false after what is
+    /// The line that adds the clause, which follows from those of the arena: its literals are made false on top of what is
     /// true before any decision, and the hints lead from there to a false clause.
     pub fn certify(
         &mut self,

@@ -1,6 +1,6 @@
-//! Clauses that are true before any decision.
+//! Clauses that are true before any decision are dropped.
 //!
-//! Such a clause is dropped, unless a literal is true by it: nothing follows from it any more. The
+//! Such a clause can't become unit or false any more; it is kept only while it is the reason of a literal. The
 //! arena is compacted once dropped clauses have more than half of its words.
 
 ghost use Rattle.std.specs.Prelude.{◌≡◌, ◌≢◌, ℕ, ◌<◌, OnOk, IfOk, IsTrue, ◌↔◌, AllPairs, Any, List, length, Contains, Some, None, slice_get, get_or, false, true};
@@ -29,7 +29,7 @@ fn has_true(literals: &[u32], trail: &Assignment) -> bool
     false
 }
 
-/// Whether a clause may be dropped.
+/// Whether a clause may be dropped: a literal is true, and it is no reason.
 fn is_spare(literals: &[u32], trail: &Assignment, is_reason: bool) -> bool
     ensures { IsTrue result ↔ (is_reason ≡ false) × Any (Contains trail.now) literals.now }
 {
@@ -39,7 +39,7 @@ fn is_spare(literals: &[u32], trail: &Assignment, is_reason: bool) -> bool
     has_true(literals, trail)
 }
 
-/// Marks the clauses by which literals are true.
+/// Marks the clauses that are reasons, by their places in `refs`.
 fn mark_reasons(alloc: Global, refs: &[Ref], reasons: &[Option<Ref>]) -> Result<Vec<bool>, Memory>
     requires ascending { AllPairs (λ r s. r < s) refs.now }
     requires within { (k r : ℕ) → slice_get reasons.now k ≡ Some (Some r) → Contains refs.now r }
@@ -60,7 +60,7 @@ fn mark_reasons(alloc: Global, refs: &[Ref], reasons: &[Option<Ref>]) -> Result<
     Ok(marks)
 }
 
-/// Drops the clauses that have a true literal, unless a literal is true by them.
+/// Drops the clauses that have a true literal and aren't reasons.
 fn drop_spare(
     alloc: Global,
     arena: &mut Arena,
@@ -137,7 +137,7 @@ fn moved_to(kept: &[Ref], moved: &[Ref], at: Ref) -> Ref
     moved[place_of(kept, at)]
 }
 
-/// The reasons by their new references.
+/// The reasons, with each reference replaced by the new one.
 fn rename(
     alloc: Global,
     kept: &[Ref],
@@ -160,8 +160,8 @@ fn rename(
 }
 
 impl Solver {
-    /// Drops clauses that are true before any decision, where nothing is decided and more is true than when this was
-    /// done last. Where dropped clauses have more than half of the arena's words, they go.
+    /// Drops clauses that are true before any decision, if more literals are true than when this was last
+    /// done. Where dropped clauses take more than half of the arena's words, the arena is compacted.
     pub fn drop_true(&mut self) -> Result<(), Memory>
         requires { IsReady self.old None }
         ensures fields { OnOk result (self.new ≡ record self.old { arena = self.new.arena; refs = self.new.refs; ids = self.new.ids; reasons = self.new.reasons; swept = self.new.swept }) }

@@ -1,4 +1,4 @@
-//! Formulas as clauses of an arena, which is how propagation holds them, with the numbers that the log's hints will name.
+//! A formula's clauses are loaded into the solver's arena, under the numbers by which the log's hints name them.
 
 ghost use Rattle.std.specs.Prelude.{◌≡◌, ◌≢◌, ℕ, ◌<◌, ◌≤◌, ◌*◌, OnOk, All, Any, true, false, [], map, length};
 ghost use Rattle.clause_model.specs.Clauses.{code_of, codes_of};
@@ -27,7 +27,7 @@ pub fn has_empty(formula: &Formula) -> bool
     false
 }
 
-/// The least number, from another one on, such that each literal is one of so many first variables'.
+/// The least n from `from` on such that each literal is of one of the first n variables.
 fn reach_of(numbers: &[i32], from: u32) -> u32
     requires literals { All IsLiteral numbers.now }
     requires few { from ≤ 200000 }
@@ -44,8 +44,8 @@ fn reach_of(numbers: &[i32], from: u32) -> u32
     reach
 }
 
-/// The least number that is no less than that of the formula's variables, and such that each literal
-/// is one of so many first variables'.
+/// The least n that is at least the formula's number of variables, and such that each literal
+/// is of one of the first n variables.
 pub fn reach(formula: &Formula) -> u32
     ensures few { result ≤ 200000 }
     ensures literals { All (λ clause. All IsLiteral clause) formula.now.clauses }
@@ -61,7 +61,7 @@ pub fn reach(formula: &Formula) -> u32
     reach
 }
 
-/// Makes the codes of the literals that the numbers name all that a vector holds.
+/// Replaces the content of `codes` by the codes of the literals that the numbers name.
 fn write_codes(numbers: &[i32], codes: &mut Vec<u32>) -> Result<(), Memory>
     ensures { OnOk result (codes.new.items ≡ map code_of numbers.now) }
 {
@@ -74,7 +74,7 @@ fn write_codes(numbers: &[i32], codes: &mut Vec<u32>) -> Result<(), Memory>
 }
 
 impl Solver {
-    /// Takes the formula's clauses, numbered from 1.
+    /// Adds the formula's clauses, with ids from 1 on.
     pub fn load(&mut self, formula: &Formula) -> Result<(), Memory>
         requires base { HasBase [] self.old self.old.conflict }
         requires ids { self.old.ids.items ≡ [] }

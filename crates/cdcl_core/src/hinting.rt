@@ -1,7 +1,7 @@
-//! The line that a false clause gives, with the hints that show it.
+//! The log's line for a conflict: the clause that it proves, with hints.
 //!
 //! The hints are read off the trail from its end: the false clause, and before it the reason of each
-//! literal whose contrary stands in a clause of a hint.
+//! literal whose contrary is in the clause of a later hint. So no hint is redundant.
 
 ghost use Rattle.std.specs.Prelude.{◌≡◌, ℕ, ◌+◌, ◌<◌, IfOk, AllPairs, List, length, map, Contains, Option, Some, slice_get, get_or, pos};
 ghost use Rattle.clause_model.specs.Clauses.{negated};
@@ -17,7 +17,7 @@ use clause_model::{Assignment, Literal};
 use lrat_check::{Addition, Hint, Id};
 use std::alloc::Global;
 
-/// The place of a reference among ascending ones.
+/// The place of a reference among ascending ones, by binary search.
 pub fn place_of(refs: &[Ref], at: Ref) -> usize
     requires ascending { AllPairs (λ r s. r < s) refs.now }
     requires within { Contains refs.now at }
@@ -48,8 +48,8 @@ fn negations(alloc: Global, literals: &[Literal]) -> Result<Vec<Literal>, Memory
 }
 
 impl Solver {
-    /// The line that adds the clause of the contraries of the given literals, which leave a clause false. `seen` is room
-    /// for the literals that led there.
+    /// The line that adds the clause of the contraries of the given literals, from which propagation led to the conflict. `seen`
+    /// is overwritten with the true literals that led there.
     pub fn derive(
         &self,
         seen: &mut Assignment,

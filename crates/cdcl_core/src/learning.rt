@@ -1,4 +1,4 @@
-//! The clause that a conflict teaches, without a literal to spare, and the line that certifies it.
+//! Learning from a conflict: the clause is found, minimised and certified by a line of the log.
 
 ghost use Rattle.std.specs.Prelude.{◌≡◌, ℕ, ◌≤◌, OnOk, IfOk, All, List, length, map, Option, pos};
 ghost use Rattle.clause_model.specs.Clauses.{IsAsserting};
@@ -15,7 +15,7 @@ use clause_model::Assignment;
 use lrat_check::{Addition, Id};
 
 impl Solver {
-    /// The clause that the conflict teaches.
+    /// The line that adds the clause learnt from the conflict.
     pub fn learn(
         &mut self,
         seen: &mut Assignment,

@@ -1,4 +1,4 @@
-//! A solver by clause learning, whose log certifies what it finds.
+//! A CDCL solver whose log can be checked: it refutes the formula, or shows that the search spent its budget.
 #![tactic(auto)]
 
 mod adopting;

@@ -1,12 +1,12 @@
-//! Literals that a learnt clause can spare.
+//! Redundant literals are removed from a learnt clause.
 //!
-//! A literal is left out where propagation from the negations of the others still ends in a false
+//! A literal is redundant where propagation from the negations of the others still ends in a false
 //! clause. One pass is enough: where it doesn't, the assignment in which it ends shows that this
 //! literal is needed, and it shows so as well once more literals are left out.
 //!
-//! The literals are halved until one is left, so that those on which a trial agrees with the one
-//! before it are propagated once for both: the first half is tried where the second is false, and
-//! then the second where what the first needs is. Where the others alone end in a false clause, a
+//! The list of literals is halved recursively, so that literals which are false in two successive trials
+//! are propagated once for both: the first half is tried with the second half false, and
+//! then the second with the needed literals of the first false. Where those alone end in a false clause, a
 //! whole half is left out at once.
 
 ghost use Rattle.std.specs.Prelude.{◌≡◌, ℕ, ◌⊎◌, ◌++◌, OnOk, IfOk, All, List, length, take, Contains};
@@ -24,7 +24,7 @@ use clause_arena::Memory;
 use clause_model::Literal;
 
 impl Solver {
-    /// Those of the literals that are needed where `denied` are false as well.
+    /// Those of the literals that the clause needs, where `denied` are made false as well.
     fn needed(&mut self, denied: &[Literal], literals: &[Literal]) -> Result<Vec<Literal>, Memory>
         requires root { (level : Level) × BeginsAtRoot level self.old.arena self.old.reasons.items self.old.trail }
         requires rule { Rule self.old.arena self.old.trail }
@@ -61,7 +61,7 @@ impl Solver {
         Ok(part)
     }
 
-    /// Adds to `kept` each literal of `rest` without which the others' negations leave nothing false.
+    /// Appends to `kept` the literals of `rest` that the clause needs: without one of them, propagation falsifies no clause.
     pub fn minimise(
         &mut self,
         low: usize,

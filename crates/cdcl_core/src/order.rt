@@ -1,11 +1,11 @@
-//! The order of decisions, which only proposes: some searches go by the numbers of the variables, the
+//! The order of decisions is a heuristic that no contract rests on. Some searches go by the numbers of the variables, the
 //! others by the latest conflicts, the variables of the last one first. Each variable takes the value
 //! that it had last.
 //!
-//! Neither order is good for all formulas: the one by numbers needs a fifth of the conflicts where a
-//! product is compared with shifts and sums, and twenty times as many where sums are. So both take
-//! part. What a conflict costs grows with the square of the length of the clause that it teaches,
-//! since shortening it is most of the work; the searches by number may cost twice as much as the
+//! Neither order is good for all formulas: the one by numbers needs a fifth of the other's conflicts where a
+//! product is compared with shifts and sums, and twenty times as many where sums are compared. So they
+//! alternate. The cost of a conflict grows with the square of the learnt clause's length,
+//! since shortening the clause is most of the work; the searches by number may cost twice as much as the
 //! others in all, so that an order whose clauses are long gets few conflicts.
 
 ghost use Rattle.std.specs.Prelude.{◌*◌, ◌<◌, ◌≤◌, IfSome, IsTrue, ◌↔◌, ◌≡◌, ◌+◌, ◌^◌, ◌⊎◌};
@@ -19,11 +19,11 @@ use std::mem::swap;
 /// Which variable is decided next, and how.
 #[derive(Drop)]
 pub struct Order {
-    /// The variables, those of the latest conflicts first.
+    /// All variables, those of the latest conflicts first.
     ranked: Vec<u32>,
     /// Room for another ranking.
     spare: Vec<u32>,
-    /// Whether the last conflict involved a variable, while they are ranked anew.
+    /// Whether the last conflict involved a variable; set only while they are ranked anew.
     is_involved: Vec<bool>,
     /// Whether this search goes by the numbers of the variables.
     by_number: bool,
@@ -44,7 +44,7 @@ pub fn is_unset(trail: &Assignment, literal: Literal) -> bool
     !trail.is_true(literal) && !trail.is_true(literal.negated())
 }
 
-/// Adds to a ranking the variables that are involved, or those that aren't, in their order.
+/// Appends to a ranking the variables that are involved, or where `wanted` is false those that aren't, in their order.
 fn rank(
     ranking: &mut Vec<u32>,
     variables: &[u32],
@@ -64,7 +64,7 @@ fn rank(
 }
 
 impl Order {
-    /// No conflict yet: the last variables come first, since they depend on the others.
+    /// The order before any conflict: the last variables come first, since they depend on the others.
     pub fn new(alloc: Global, variables: u32) -> Result<Self, Memory> {
         let mut ranked = Vec::with_capacity(alloc, variables as usize)?;
         for variable in (0..variables).rev() {
@@ -126,7 +126,7 @@ impl Order {
         None
     }
 
-    /// Keeps the values that variables have.
+    /// Keeps the values of variables for later decisions (phase saving).
     pub fn save(&mut self, literals: &[Literal]) {
         for literal in literals {
             let negative = literal.index() % 2 == 1;
@@ -136,7 +136,7 @@ impl Order {
         }
     }
 
-    /// Notes which variables the literals name.
+    /// Marks the variables of the literals as involved, or as not.
     fn mark(&mut self, literals: &[Literal], involved: bool) {
         for literal in literals {
             if let Some(mark) = self.is_involved.get_mut(literal.variable() as usize) {
@@ -156,7 +156,7 @@ impl Order {
         Ok(())
     }
 
-    /// A conflict involved these literals, and taught a clause of so many.
+    /// Takes note of a conflict that involved these literals, and from which a clause of `length` literals was learnt.
     pub fn note(&mut self, literals: &[Literal], length: usize) -> Result<(), Memory> {
         let cost = (length as u64).saturating_mul(length as u64);
         if self.by_number {

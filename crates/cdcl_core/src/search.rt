@@ -1,4 +1,4 @@
-//! The search for a model: decisions, until each clause is true or one is false.
+//! One search for a model: decisions, each propagated, until all variables are set or a clause is false, from which one is learnt.
 
 ghost use Rattle.std.specs.Prelude.{◌≡◌, ℕ, ◌+◌, ◌*◌, ◌<◌, ◌≤◌, OnOk, IfOk, IfSome, None, Some, All, Contains, length};
 ghost use Rattle.clause_model.specs.Clauses.{IsUnset};
@@ -24,11 +24,11 @@ pub enum Ending {
     Model,
     /// The empty clause follows.
     Refuted(Addition),
-    /// A conflict teaches a clause.
+    /// A clause was learnt from a conflict.
     Taught(Addition),
 }
 
-/// An unset literal of the first variables, that which the order proposes, if it does.
+/// An unset literal of the first `variables`: the one that the order proposes, else the negation of the first unset variable.
 fn pick(order: &mut Order, variables: u32, trail: &Assignment) -> Option<Literal>
     requires few { variables ≤ 200000 }
     requires bounded { All (λ l. l < 2 * variables) trail.now }
@@ -52,7 +52,7 @@ fn pick(order: &mut Order, variables: u32, trail: &Assignment) -> Option<Literal
 }
 
 impl Solver {
-    /// Makes true what follows before any decision, where no clause is false.
+    /// Propagates before any decision, unless a clause is false already.
     fn settle(&mut self) -> Result<(), Memory>
         requires { IsReady self.old self.old.conflict }
         ensures fields { OnOk result (IsSearched self.old self.new) }
@@ -72,7 +72,7 @@ impl Solver {
         }
     }
 
-    /// The line that adds the empty clause, where one is false before any decision.
+    /// The line that adds the empty clause, where a clause is false before any decision.
     fn refute(&self, seen: &mut Assignment, conflict: Ref, id: Id) -> Result<Ending, Memory>
         requires { IsReady self.now (Some conflict) }
         ensures ends { IfOk result (EndsOver (clauses_of self.now.arena) self.now.ids.items self.now.trail id self.now.trail) }
@@ -82,7 +82,7 @@ impl Solver {
         Ok(Ending::Refuted(line))
     }
 
-    /// Decides until each clause is true or one is false, where nothing is left to propagate.
+    /// Decides and propagates until each clause is true or one is false. At the start nothing is left to propagate.
     fn decide<L: Ledger>(
         &mut self,
         seen: &mut Assignment,

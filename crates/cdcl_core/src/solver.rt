@@ -1,4 +1,4 @@
-//! The solver's state as one record: a step of the search says which of its fields it changes, and keeps the others.
+//! The solver's state as one record, so that the contract of each step of the search can say which fields it changes.
 
 ghost use Rattle.std.specs.Prelude.{◌≡◌, [], IfOk};
 ghost use Rattle.cdcl_core.specs.Searched.{HasBase};
@@ -16,15 +16,15 @@ pub struct Solver {
     pub alloc: Global,
     /// How many variables there are.
     pub variables: u32,
-    /// The clauses of the formula and those that were learnt, with their watches. It is compacted only where nothing is decided.
+    /// The clauses of the formula and those that were learnt, with their watches. It is compacted only before any decision.
     pub arena: Arena,
-    /// Where the arena's clauses lie, in their order, until it is compacted.
+    /// The references of the arena's clauses, in their order.
     pub refs: Vec<Ref>,
-    /// The numbers of these clauses in the log.
+    /// The ids of these clauses in the log.
     pub ids: Vec<Id>,
-    /// What is true, in the order in which it became so; between searches it follows from the clauses alone.
+    /// The true literals, in the order in which they became so; between searches all follow from the clauses.
     pub trail: Assignment,
-    /// The clause by which each of these became true, none for one that was decided or assumed.
+    /// For each literal of the trail the clause by which it became true, none for one that was decided or assumed.
     pub reasons: Vec<Option<Ref>>,
     /// A clause that is false before any decision; there is none while decisions are made.
     pub conflict: Option<Ref>,
@@ -35,7 +35,7 @@ pub struct Solver {
 }
 
 impl Solver {
-    /// No clause.
+    /// A solver without clauses.
     pub fn new(alloc: Global, variables: u32) -> Result<Self, Memory>
         ensures base { IfOk result (λ s. HasBase [] s s.conflict) }
         ensures ids { IfOk result (λ s. s.ids.items ≡ []) }

@@ -1,4 +1,4 @@
-//! The solver's one call. It searches until there is a model, the empty clause or no budget left, and keeps a log that says why.
+//! The solver's one call, `solve`. It searches until there is a model, the empty clause or no budget left, and logs each learnt clause.
 
 ghost use Rattle.std.specs.Prelude.{◌≡◌, ◌≢◌, ℕ, ◌+◌, ◌*◌, ◌<◌, ◌≤◌, [], IfOk, All, IsTrue, ◌↔◌, length, Contains};
 ghost use Rattle.clause_model.specs.Clauses.{codes_of};
@@ -27,7 +27,7 @@ pub enum Verdict {
     /// The formula has no model: the log's last clause is empty, or there is no line where a clause
     /// of the formula is empty.
     Unsat(Vec<Line>),
-    /// As many clauses were learnt as the budget allows, and none is empty.
+    /// Undecided: as many clauses were learnt as the budget allows, and none is empty.
     Spent(Vec<Line>),
 }
 
@@ -100,10 +100,10 @@ impl Solver {
     }
 }
 
-/// Whether the formula has a model, as far as so many learnt clauses tell.
+/// Whether the formula has a model, as far as learning `budget` clauses decides it.
 ///
-/// The log has no deletion, and its lines follow by reverse unit propagation, with the hints that
-/// show it; each but the empty one adds a clause that is new and has no literal to spare. The steps
+/// The log has no deletion, and its clauses follow by reverse unit propagation with their hints;
+/// each but the empty one contains no earlier clause and has no redundant literal. The steps
 /// are the decisions and conflicts, of which there is one at least for each line of the log.
 pub fn solve<L: Ledger>(
     alloc: Global,

@@ -1,4 +1,4 @@
--- What follows in a chain is a slot of a clause.
+-- The first and the next watch of a chain are slots of clauses that watch its literal.
 use Rattle.std.proofs.Common.{◌≡◌, ℕ, ◌<◌, List, [], ◌∷◌, ◌++◌, sym, subst, Option, ◌∙◌, append_assoc}
 use Rattle.std.specs.Prelude.{slice_get, Contains, IfSome}
 use Rattle.std.proofs.lemmas.List.Elements.{Contains-append_right}
@@ -12,7 +12,7 @@ followed content literal seen (x ∷ later) next w k c e =
     let s : HasClause content x.0 × (x.1 < 2) = w.slots literal x k i in
     rw e ((k, i), s.0, s.1)
 
--- and so is what follows a watch
+-- the case of the next watch
 pub follows : (content : Content) (literal : ℕ) (watch : ℕ × ℕ) (next : Option (ℕ × ℕ)) → IsWhole content → Watches content watch.0 watch.1 literal
     → ((earlier later : List (ℕ × ℕ)) → IsBetween content literal earlier watch later → next ≡ slice_get later 0) → IfSome next (IsWatch content literal)
 follows content literal watch next w v f =

@@ -1,4 +1,4 @@
--- What an arena holds: clauses as lists of literals, and for each literal the chain of the places that watch it.
+-- What an arena holds: clauses as lists of literals, and for each literal the chain of the slots that watch it.
 use Rattle.std.specs.Prelude.{ℕ, ◌≡◌, ◌<◌, Bool, true, false, cond, nat_eq, List, [], ◌∷◌, ◌++◌, Option, Some, None, map, get_or, set, length, Contains, slice_get, ◌-◌, AllPairs}
 
 -- a clause under its reference
@@ -58,19 +58,19 @@ pub record IsFree (content : Content) (at slot : ℕ) : Type 0 where
   pub low : slot < 2
   pub free : WatchesNothing content at slot
 
--- the literal's chain is another one, and all else as before
+-- the literal's chain is replaced, and all else is as before
 abbrev pub with_chain : Content → ℕ → List (ℕ × ℕ) → Content
 with_chain content literal chain = record { clauses = content.clauses; chains = set content.chains literal chain }
 
--- a clause more, the last
+-- the clause is added as the last
 abbrev pub with_clause : Content → Clause → Content
 with_clause content clause = record { clauses = content.clauses ++ clause ∷ []; chains = content.chains }
 
--- the clause under the reference is dropped
+-- the clause is marked as dropped if it is the one under the reference
 abbrev pub dropped : ℕ → Clause → Clause
 dropped at clause = cond (nat_eq clause.at at) (record { at = clause.at; literals = clause.literals; is_dropped = true }) clause
 
--- the clause under the reference is dropped, and all else as before
+-- the clause under the reference is marked as dropped, and all else is as before
 abbrev pub with_dropped : Content → ℕ → Content
 with_dropped content at = record { clauses = map (dropped at) content.clauses; chains = content.chains }
 
@@ -78,7 +78,7 @@ with_dropped content at = record { clauses = map (dropped at) content.clauses; c
 abbrev pub watched : Content → ℕ → ℕ → ℕ → Content
 watched content at slot literal = with_chain content literal ((at, slot) ∷ chain_of content literal)
 
--- the watch stands in the literal's chain, after these and before those
+-- the watch is in the literal's chain, right after the earlier ones and before the later ones
 pub record IsBetween (content : Content) (literal : ℕ) (earlier : List (ℕ × ℕ)) (watch : ℕ × ℕ) (later : List (ℕ × ℕ)) : Type 0 where
   pub literal_known : HasLiteral content literal
   pub chain : chain_of content literal ≡ earlier ++ watch ∷ later
@@ -87,7 +87,7 @@ pub record IsBetween (content : Content) (literal : ℕ) (earlier : List (ℕ ×
 abbrev pub literals_of : Content → ℕ → List ℕ
 literals_of content at = literals_in (clause_of content at)
 
--- and the one right before it in the chain is this one, or none
+-- the watch is in the literal's chain, and `before` is the one right before it, or none
 pub record IsAfter (content : Content) (before : Option (ℕ × ℕ)) (watch : ℕ × ℕ) (literal : ℕ) (earlier later : List (ℕ × ℕ)) : Type 0 where
   pub between : IsBetween content literal earlier watch later
   pub last : slice_get earlier (length earlier - 1) ≡ before
@@ -100,13 +100,13 @@ dropped_in (Some clause) = clause.is_dropped
 abbrev pub is_dropped_of : Content → ℕ → Bool
 is_dropped_of content at = dropped_in (clause_of content at)
 
--- what holds of each content of an arena
+-- the invariant of every arena's content
 pub record IsWhole (content : Content) : Type 0 where
-  -- no two clauses have one reference
+  -- references ascend, so that no two clauses have the same one
   pub apart : AllPairs (λ r s. r < s) (references_of content)
   -- a watch is a slot of a clause
   pub slots : (literal : ℕ) (watch : ℕ × ℕ) → HasLiteral content literal → Contains (chain_of content literal) watch → HasClause content watch.0 × (watch.1 < 2)
-  -- a slot stands in one chain at most
+  -- a slot is in at most one chain
   pub one : (l m : ℕ) (watch : ℕ × ℕ) → HasLiteral content l → HasLiteral content m → Contains (chain_of content l) watch → Contains (chain_of content m) watch → l ≡ m
-  -- and there once
+  -- and in that only once
   pub once : (literal : ℕ) (earlier : List (ℕ × ℕ)) (watch : ℕ × ℕ) (later : List (ℕ × ℕ)) → IsBetween content literal earlier watch later → Contains (earlier ++ later) watch → ⊥

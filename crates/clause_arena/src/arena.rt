@@ -1,4 +1,4 @@
-//! All clauses of a solver in one vector of words, so that propagation reads memory in order and makes no list for a clause.
+//! All clauses of a solver in one vector of words, so that propagation reads memory in order and a clause needs no allocation of its own.
 ghost use Rattle.std.specs.Prelude.{◌≡◌, ◌≢◌, ℕ, ◌+◌, ◌-◌, ◌*◌, ◌<◌, ◌^◌, List, [], ◌∷◌, ◌++◌, length, replicate, OnOk, OnErr, IfOk, IfSome, Option, Some, None, false, slice_get, ◌↔◌, All};
 ghost use Rattle.clause_arena.specs.Contents.{Content, literals_of, chain_of, HasClause, HasLiteral, Watches, IsWatch, WatchesNothing, IsFree, IsWhole, watched, with_chain, with_clause, with_dropped, is_dropped_of, references_of, IsBetween, IsAfter};
 ghost use Rattle.clause_arena.specs.Words.{place_of};
@@ -27,7 +27,7 @@ impl Model for Arena {
     ghost invariant = { λ a. IsArena a.words.items a.heads.items };
 }
 
-/// The place of the literal that the slot watches, before that of its link.
+/// The place of the word for the literal that the slot watches; that of its link is next.
 fn place_of(at: Ref, slot: u8) -> usize
     ensures { result ≡ place_of (at, slot) }
 {
@@ -61,7 +61,7 @@ fn extend(words: &mut Vec<u32>, literals: &[u32]) -> Result<(), Memory>
 }
 
 impl Arena {
-    /// No clause, and the literals of so many variables.
+    /// An arena without clauses, with the literals of this many variables. `Memory` is also the answer from 2^31 variables on.
     pub fn new(alloc: Global, variables: u32) -> Result<Self, Memory>
         ensures { IfOk result (λ a. a ≡ record { clauses = []; chains = replicate (2 * variables) [] }) }
     {
@@ -71,7 +71,7 @@ impl Arena {
         Arena::with_literals(alloc, 2 * variables as usize)
     }
 
-    /// No clause, and so many literals.
+    /// An arena without clauses, with this many literals.
     fn with_literals(alloc: Global, literals: usize) -> Result<Self, Memory>
         requires { literals < 2 ^ 32 }
         ensures { IfOk result (λ a. a ≡ record { clauses = []; chains = replicate literals [] }) }
@@ -84,7 +84,7 @@ impl Arena {
         })
     }
 
-    /// No clause, and the same literals.
+    /// An arena without clauses, with the same literals.
     pub(crate) fn emptied(&self) -> Result<Self, Memory>
         ensures { IfOk result (λ a. a ≡ record { clauses = []; chains = replicate (length self.now.chains) [] }) }
     {
@@ -114,7 +114,7 @@ impl Arena {
         &self.words[start..start + len]
     }
 
-    /// The literal that a slot watches.
+    /// The literal that a slot, 0 or 1, watches, if any.
     pub fn watched(&self, at: Ref, slot: u8) -> Option<u32>
         requires clause { HasClause self.now at }
         requires slot { slot < 2 }
@@ -143,7 +143,7 @@ impl Arena {
         watch_of(self.words[place_of(at, slot) + 1])
     }
 
-    /// Adds a clause. Its slots watch nothing.
+    /// Adds a clause, whose slots watch nothing. `Memory` is also the answer from 2^30 - 6 words in the arena or 2^30 literals on.
     pub fn push(&mut self, literals: &[u32]) -> Result<Ref, Memory>
         ensures ok { IfOk result (λ at. self.new ≡ with_clause self.old (record { at = at; literals = literals.now; is_dropped = false })) }
         ensures free { IfOk result (λ at. (slot : ℕ) → slot < 2 → IsFree self.new at slot) }
@@ -158,7 +158,7 @@ impl Arena {
         Ok(Ref::new(start as u32))
     }
 
-    /// Lets a slot that watches nothing watch a literal, first in its chain.
+    /// Makes a slot that watches nothing watch a literal, at the head of the literal's chain.
     pub fn watch(&mut self, at: Ref, slot: u8, literal: u32)
         requires clause { HasClause self.old at }
         requires slot { slot < 2 }
@@ -187,7 +187,7 @@ impl Arena {
         self.words[place] = 0;
     }
 
-    /// Takes the watch after another one out of their chain.
+    /// Takes a watch out of its chain, in which `other` is right before it.
     fn unwatch_after(&mut self, other: (Ref, u8), at: Ref, slot: u8)
         requires { (literal : ℕ) × ((earlier : List (ℕ × ℕ)) × ((later : List (ℕ × ℕ)) × IsBetween self.old literal (earlier ++ other ∷ []) (at, slot) later)) }
         ensures chain { (literal : ℕ) (earlier later : List (ℕ × ℕ)) → IsBetween self.old literal (earlier ++ other ∷ []) (at, slot) later → self.new ≡ with_chain self.old literal (earlier ++ other ∷ later) }
@@ -199,7 +199,7 @@ impl Arena {
         self.words[place] = 0;
     }
 
-    /// Takes a watch out of its chain, where it stands right after another one or first.
+    /// Takes a watch out of its chain, in which `before` is right before it, or none where it is the first.
     fn unwatch(&mut self, before: Option<(Ref, u8)>, at: Ref, slot: u8)
         requires { (literal : ℕ) × ((earlier : List (ℕ × ℕ)) × ((later : List (ℕ × ℕ)) × IsAfter self.old before (at, slot) literal earlier later)) }
         ensures chain { (literal : ℕ) (earlier later : List (ℕ × ℕ)) → IsAfter self.old before (at, slot) literal earlier later → self.new ≡ with_chain self.old literal (earlier ++ later) }
@@ -211,8 +211,8 @@ impl Arena {
         }
     }
 
-    /// Lets a slot watch another literal, first in its chain; `before` is the watch right before it
-    /// in the chain in which it stands, none where it is the first.
+    /// Makes a slot watch another literal, at the head of that literal's chain; `before` is the watch
+    /// right before it in its present chain, none where it is the first.
     pub fn move_watch(&mut self, before: Option<(Ref, u8)>, at: Ref, slot: u8, literal: u32)
         requires watching { (watches : ℕ) × ((earlier : List (ℕ × ℕ)) × ((later : List (ℕ × ℕ)) × IsAfter self.old before (at, slot) watches earlier later)) }
         requires literal { HasLiteral self.old literal }

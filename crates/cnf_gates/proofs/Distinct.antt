@@ -1,4 +1,4 @@
--- Each literal once, as a loop finds them.
+-- The loop that keeps each literal once yields what the definition by filters does.
 use Rattle.std.proofs.Common.{◌≡◌, ℕ, List, [], ◌∷◌, ◌++◌, Bool, true, false, cond, not, eqb, ◌&&◌, ◌||◌, refl, sym, ap, ◌∙◌, ⊎_elim, append_assoc}
 use Rattle.std.proofs.lemmas.Bool.{cases_Bool, cond-true, cond-false, eqb-true}
 use Rattle.std.proofs.lemmas.List.{append-nil}
@@ -18,7 +18,7 @@ filter-all : (p : ℕ → Bool) (xs : List ℕ) → ((x : ℕ) → p x ≡ true)
 filter-all p [] h = refl
 filter-all p (x ∷ xs) h = cond-true (p x) (x ∷ filter p xs) (filter p xs) (h x) ∙ ap (λ ys. x ∷ ys) (filter-all p xs h)
 
--- a filter behind another is one
+-- two filters in turn are one filter
 filter-both : (p q r : ℕ → Bool) (xs : List ℕ) → ((x : ℕ) → r x ≡ (q x && p x)) → filter r xs ≡ filter p (filter q xs)
 filter-both p q r [] h = refl
 filter-both p q r (x ∷ xs) h =

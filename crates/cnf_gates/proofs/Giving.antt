@@ -1,4 +1,4 @@
--- What each operation gives: one record of facts for each.
+-- Each operation of the builder meets its guarantee (`Gives`).
 use Rattle.std.proofs.Common.{◌≡◌, ℕ, suc, ◌+◌, ◌<◌, ◌≤◌, List, [], ◌∷◌, ◌++◌, Option, Some, None, Bool, true, false, not, ◌&&◌, ◌||◌, cond, eqb, ltb, refl, sym, ap, ◌∙◌, arith, ⊎_elim}
 use Rattle.std.proofs.lemmas.Bool.{and_from, lt-ltb, eqb-true, cond-true, cond-false, cases_Bool}
 use Rattle.std.specs.Map.{lookup}
@@ -46,16 +46,16 @@ pub AllBelow-more : (v w : ℕ) (xs : List Bit) → v ≤ w → AllBelow v xs �
 AllBelow-more v w [] h k = tt
 AllBelow-more v w (x ∷ xs) h k = (BitBelow-more v w x h k.0, AllBelow-more v w xs h k.1)
 
--- a bit of what was built, and a word, once more was built
+-- a bit of a builder stays one after more was built
 pub later : (n : ℕ) (b c : Built) (x : Bit) → Grows n b c → BitBelow b.variables x → BitBelow c.variables x
 later n b c x g h = BitBelow-more b.variables c.variables x g.more h
 
 pub all_later : (n : ℕ) (b c : Built) (xs : List Bit) → Grows n b c → AllBelow b.variables xs → AllBelow c.variables xs
 all_later n b c xs g h = AllBelow-more b.variables c.variables xs g.more h
 
--- ---- ways to make a step
+-- ---- ways to compose steps
 
--- a step that makes nothing
+-- a step that makes no gate
 pub Gives-none : (n : ℕ) (b : Built) (z : Bit) (f : (ℕ → Bool) → Bool) → BitBelow b.variables z → ((m : ℕ → Bool) → bit_value m z ≡ f m) → Gives n b (λ c. (c, z)) f
 Gives-none n b z f h e = record { grows = Grows-none n b; below = h; value = λ m _. e m; again = λ c _. refl }
 
@@ -64,7 +64,7 @@ pub Gives-cond : (n : ℕ) (b : Built) (t : Bool) (r s : Built → Built × Bit)
 Gives-cond n b true r s f h k = h refl
 Gives-cond n b false r s f h k = k refl
 
--- the same value, said in another way
+-- the same guarantee for an equal function
 pub Gives-at : (n : ℕ) (b : Built) (step : Built → Built × Bit) (f g : (ℕ → Bool) → Bool) → ((m : ℕ → Bool) → f m ≡ g m) → Gives n b step f → Gives n b step g
 Gives-at n b step f g e h = record { grows = h.grows; below = h.below; value = λ m holds. h.value m holds ∙ e m; again = h.again }
 
@@ -80,7 +80,7 @@ Gives-with_bit n b h g step f e below s = record {
 
 -- ---- one gate
 
--- a gate that is found stays found behind others
+-- a gate that is found is still found after another is added
 lookup-push : (k q : Gate) (v w : ℕ) (es : List (Gate × ℕ)) → lookup (gate_eq k) es ≡ Some v → lookup (gate_eq k) (es ++ (q, w) ∷ []) ≡ Some v
 lookup-push k q v w [] h = cc
 lookup-push k q v w (e ∷ es) h =
@@ -102,7 +102,7 @@ lookup-new k w (e ∷ es) h =
     ∙ lookup-new k w es (sym (cond-false (gate_eq k e.0) (Some e.1) (lookup (gate_eq k) es) f) ∙ h))
     (cases_Bool (gate_eq k e.0))
 
--- what a step gives, said of its answer alone
+-- the guarantee of a step, stated for its result r
 record Made (n : ℕ) (b : Built) (r : Built × Bit) (step : Built → Built × Bit) (f : (ℕ → Bool) → Bool) : Type 0 where
   grows : Grows n b r.0
   below : BitBelow r.0.variables r.1
@@ -247,7 +247,7 @@ Ready-inputs n = record { order = omega arith; within = tt; sound = λ m _. tt }
 pub IsExact-inputs : (n : ℕ) → IsExact (record { variables = n; clauses = []; gates = [] })
 IsExact-inputs n = record { exact = λ m _. refl }
 
--- one more input, at whatever time
+-- an input may be made at any time
 pub input_grows : (b : Built) → Grows 1 b (input_of b).0
 input_grows b = record {
   ready = λ low h. record { order = InOrder-more low b.variables (suc b.variables) b.gates (omega arith) h.order; within = AreClausesOf-more b.variables (suc b.variables) b.clauses (omega arith) h.within; sound = h.sound };

@@ -1,4 +1,4 @@
--- Lemmas on the literals of clauses.
+-- The literals of clauses are within the number of variables, also as the code's vectors hold them.
 use Rattle.std.proofs.Common.{◌≡◌, ℕ, zero, suc, ◌+◌, ◌%◌, ◌/◌, ◌<◌, ◌≤◌, List, [], ◌∷◌, ◌++◌, Bool, true, false, cond, nat_eq, length, map, slice_index_or, ℤ, pos, negsuc, All, arith, drop, get_or, drop-cons, ap, sym, subst, ◌∙◌}
 use Rattle.std.proofs.lemmas.Int.{ints}
 use Rattle.cnf_gates.specs.Cnf.{IsLiteralOf, AreLiteralsOf, AreClausesOf}
@@ -50,7 +50,7 @@ AreClausesOf-push n cs c h k = AreClausesOf-append n cs (c ∷ []) h (k, tt)
 pub numbers_from : (ls : List ℕ) (i l : ℕ) → i < length ls → l ≡ get_or ls i l → map number_of (drop i ls) ≡ number_of l ∷ map number_of (drop (i + 1) ls)
 numbers_from ls i l h e = ap (map number_of) (drop-cons ls i l h) ∙ ap (λ x. number_of x ∷ map number_of (drop (suc i) ls)) (sym e) ∙ ap (λ k. number_of l ∷ map number_of (drop k ls)) (let one : suc i ≡ i + 1 = omega arith in one)
 
--- room for more variables
+-- a literal of n variables is one of more variables
 pub IsLiteralOf-more : (n k : ℕ) (z : ℤ) → n ≤ k → IsLiteralOf n z → IsLiteralOf k z
 IsLiteralOf-more n k z h l = (l.0, omega (arith, ints), omega (arith, ints))
 

@@ -1,4 +1,4 @@
--- Truth tables.
+-- Identities of truth values, proved by cases, for the clauses of gates.
 use Rattle.std.proofs.Common.{◌≡◌, Bool, true, false, not, ◌&&◌, ◌||◌, cond, refl}
 use mathlib.Core.Bool.{beq}
 use Rattle.cnf_gates.specs.Gates.{differ}

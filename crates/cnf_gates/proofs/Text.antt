@@ -1,4 +1,4 @@
--- Lemmas on the text of a formula.
+-- For the loop that writes a formula's text.
 use Rattle.std.proofs.Common.{◌≡◌, ℕ, zero, suc, ◌+◌, List, [], ◌∷◌, Some, slice_get, drop, ap, ◌∙◌, arith}
 
 -- what is left from a place on begins with what is there

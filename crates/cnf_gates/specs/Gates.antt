@@ -59,7 +59,7 @@ pub record Built : Type 0 where
 abbrev pub nothing_built : Built
 nothing_built = record { variables = 0; clauses = []; gates = [] }
 
--- the built thing with one gate more, and the gate's bit
+-- the builder with one more gate, and the gate's bit
 abbrev pub with_gate : Built → Gate → Built × Bit
 with_gate b gate = (
   record {
@@ -70,7 +70,7 @@ with_gate b gate = (
   Signed (2 * b.variables),
 )
 
--- the gate that is there, or a new one
+-- the gate that was found, or a new one
 abbrev pub found_or : Option ℕ → Built → Gate → Built × Bit
 found_or (Some v) b gate = (b, Signed (2 * v))
 found_or None b gate = with_gate b gate
@@ -96,12 +96,12 @@ abbrev pub not_of : Bit → Bit
 not_of (Constant c) = Constant (not c)
 not_of (Signed x) = Signed (negated x)
 
--- the bit, or its contrary where negated
+-- the bit, or its contrary where `negated`
 abbrev pub negated_if : Bool → Bit → Bit
 negated_if true x = not_of x
 negated_if false x = x
 
--- a change of the bit that a step made
+-- a step's result with its bit changed by f
 abbrev pub with_bit : (Bit → Bit) → Built × Bit → Built × Bit
 with_bit f r = (r.0, f r.1)
 
@@ -150,13 +150,13 @@ ite_of b (Signed c) t e = if bit_eq t e then (b, t) else choice_of b c t e
 abbrev pub input_of : Built → Built × Bit
 input_of b = (record b { variables = suc b.variables }, Signed (2 * b.variables))
 
--- what a step needs where all variables are used: it makes one more
+-- the step would make a variable more than a builder may have
 abbrev pub IsPast : Built → Built × Bit → Type 0
 IsPast b r = (b.variables ≡ 200000) × (r.0.variables ≡ 200001)
 
--- ---- clauses of one's own
+-- ---- clauses over bits
 
--- whether a literal is among them
+-- whether a literal is among others
 abbrev pub among : ℕ → List ℕ → Bool
 among l [] = false
 among l (x ∷ xs) = (x == l) || among l xs
@@ -181,7 +181,7 @@ has_pair (l ∷ ls) = among (negated l) ls || has_pair ls
 abbrev pub always_true : List Bit → Bool
 always_true bits = has_true bits || has_pair (literals bits)
 
--- each literal once, in the order of their first places
+-- each literal once, in the order of first occurrence
 abbrev pub distinct : List ℕ → List ℕ
 distinct [] = []
 distinct (l ∷ ls) = l ∷ filter (λ k. not (l == k)) (distinct ls)

@@ -1,4 +1,4 @@
--- What stays and what is known as a builder goes on.
+-- Invariants of builders, and what an operation guarantees: this is what the proofs about formulas rest on.
 use Rattle.std.specs.Prelude.{◌≡◌, ℕ, suc, ◌+◌, ◌<◌, ◌≤◌, Bool, true, ◌&&◌, nat_lt, List, [], ◌∷◌, Some}
 use Rattle.std.specs.Map.{lookup}
 use Rattle.clause_model.specs.Clauses.{variable_of}
@@ -15,7 +15,7 @@ abbrev pub BitBelow : ℕ → Bit → Type 0
 BitBelow v (Constant c) = Unit {0}
 BitBelow v (Signed l) = variable_of l < v
 
--- each of the bits is
+-- each of the bits is such
 abbrev pub AllBelow : ℕ → List Bit → Type 0
 AllBelow v [] = Unit {0}
 AllBelow v (x ∷ xs) = BitBelow v x × AllBelow v xs
@@ -26,19 +26,19 @@ gate_below v (And a b) = nat_lt (variable_of a) v && nat_lt (variable_of b) v
 gate_below v (Xor x y) = nat_lt x v && nat_lt y v
 gate_below v (Ite c t e) = nat_lt c v && nat_lt (variable_of t) v && nat_lt (variable_of e) v
 
--- the gates' variables, in order, lie from low on and before high; each gate takes variables before its own
+-- the gates' variables ascend, from low on and below high; each gate takes only variables below its own
 abbrev pub InOrder : ℕ → List (Gate × ℕ) → ℕ → Type 0
 InOrder low [] high = low ≤ high
 InOrder low (e ∷ es) high = (low ≤ e.1) × (gate_below e.1 e.0 ≡ true) × InOrder (suc e.1) es high
 
--- what every builder keeps that is given its own bits: the gates stand in order from some low on, the literals are of
+-- the invariant of a builder that is given only its own bits: the gates are in order from some low on, the literals are of
 -- its variables, and where the clauses are true the gates hold
 pub record Ready (low : ℕ) (b : Built) : Type 0 where
   pub order : InOrder low b.gates b.variables
   pub within : AreClausesOf b.variables b.clauses
   pub sound : (m : ℕ → Bool) → all_true m b.clauses ≡ true → GatesHold m b.gates
 
--- the clauses are no more than the gates': where the gates hold they are true
+-- the clauses say no more than the gates: where the gates hold they are true
 pub record IsExact (b : Built) : Type 0 where
   pub exact : (m : ℕ → Bool) → GatesHold m b.gates → all_true m b.clauses ≡ true
 
@@ -46,7 +46,7 @@ pub record IsExact (b : Built) : Type 0 where
 pub record Keeps (b c : Built) : Type 0 where
   pub found : (k : Gate) (v : ℕ) → lookup (gate_eq k) b.gates ≡ Some v → lookup (gate_eq k) c.gates ≡ Some v
 
--- c goes on from b by gates, of at most n new variables
+-- c is b with gates added, of at most n new variables
 pub record Grows (n : ℕ) (b c : Built) : Type 0 where
   pub ready : (low : ℕ) → Ready low b → Ready low c
   pub exact : IsExact b → IsExact c
@@ -55,8 +55,8 @@ pub record Grows (n : ℕ) (b c : Built) : Type 0 where
   pub kept : (m : ℕ → Bool) → GatesHold m c.gates → GatesHold m b.gates
   pub keeps : Keeps b c
 
--- what a step taken at b gives: it goes on from b; its bit is one of what was built, and has the value f m wherever the
--- gates hold; and taken again later it changes nothing and gives the same bit
+-- what a step from b guarantees: it adds to b at most n variables; its bit is one of the builder's, and has the value f m wherever the
+-- gates hold; and repeated later it changes nothing and gives the same bit
 pub record Gives (n : ℕ) (b : Built) (step : Built → Built × Bit) (f : (ℕ → Bool) → Bool) : Type 0 where
   pub grows : Grows n b (step b).0
   pub below : BitBelow (step b).0.variables (step b).1

@@ -1,4 +1,4 @@
-//! What a solver answers where a formula has a model: a truth value for each variable, by place.
+//! A model of a formula, as the solver answers it: a truth value for each variable, by place.
 ghost use Rattle.std.specs.Prelude.{◌≡◌};
 
 /// A truth value for each variable of a formula, from the first on.
@@ -32,7 +32,7 @@ impl Model {
         self.values.as_slice()
     }
 
-    /// The values, given back.
+    /// The values, by which the model is used up.
     pub fn into_values(self) -> Vec<bool>
         ensures { result.items ≡ self }
     {

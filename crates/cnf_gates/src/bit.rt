@@ -1,4 +1,4 @@
-//! What gates are built from: a constant or a literal of a variable, which a solver's formula has numbered already.
+//! What gates take and give: constants and literals, whose types say that their variable is one that a builder may have.
 ghost use Rattle.std.specs.Prelude.{◌≡◌, ◌<◌, ℕ};
 
 use clause_model::Literal;
@@ -41,7 +41,7 @@ impl Variable {
     }
 }
 
-/// A literal of one of the variables that a builder may have.
+/// A literal of one of the first 200,000 variables, those that a builder may have.
 ///
 /// Contracts see its code: 2v for the variable v, counted from 0, and 2v + 1 for its negation.
 /// Signals are ordered by variable, positive first.
@@ -114,7 +114,7 @@ impl Signal {
         }
     }
 
-    /// The number of DIMACS that names it in a clause.
+    /// The DIMACS number that names it in a clause.
     pub fn number(self) -> i32
         ensures number { result ≡ number_of self }
         ensures literal { IsLiteral result }

@@ -1,4 +1,4 @@
-//! Gates are asked for by key, so that two sides of one formula share what they have in common.
+//! The builder makes each gate once: gates are looked up by key, so that the two sides of a formula share what they have in common.
 ghost use Rattle.std.specs.Prelude.{◌≡◌, ◌<◌, ◌≤◌, ◌↔◌, map, IfOk, OnErr, Err, Ok};
 
 use crate::bit::{Bit, Gate, LIMIT, Signal, Variable};
@@ -13,7 +13,7 @@ use std::marker::Model;
 ///
 /// Variables are numbered from 1 as they are made, and clauses stand in the order in which they
 /// were added. A bit that is handed in is a constant or a literal of one of the builder's
-/// variables; what an operation means is said of such bits alone. An operation that answers an
+/// variables; the laws of an operation hold for such bits alone. An operation that answers an
 /// error leaves the builder as it was: `Limit` comes exactly where a new variable is needed and
 /// `LIMIT` of them exist.
 #[derive(Drop)]
@@ -52,7 +52,7 @@ impl Builder {
         }
     }
 
-    /// The bit of a gate, which is made where it is not there.
+    /// The output of a gate, which is made if there is none of this key yet.
     fn gate(&mut self, gate: Gate) -> Result<Bit, GateError>
         ensures ok { IfOk result (λ bit. (self.new, bit) ≡ gate_of self.old gate) }
         ensures limit { (result ≡ Err GateError.Limit) ↔ IsPast self.old (gate_of self.old gate) }
@@ -156,8 +156,8 @@ impl Builder {
         }
     }
 
-    /// `t` where `c` holds, and else `e`. Where that is a conjunction, a disjunction or a
-    /// difference, it is made as one.
+    /// `t` where `c` holds, and else `e`. Where this amounts to a conjunction, a disjunction or a
+    /// difference, that gate is made instead.
     pub fn ite(&mut self, c: Bit, t: Bit, e: Bit) -> Result<Bit, GateError>
         ensures ok { IfOk result (λ bit. (self.new, bit) ≡ ite_of self.old c t e) }
         ensures limit { (result ≡ Err GateError.Limit) ↔ IsPast self.old (ite_of self.old c t e) }

@@ -1,4 +1,4 @@
-//! The clauses of each kind of gate by the transformation of Tseitin, one row a kind.
+//! The clauses of each kind of gate by the Tseitin transformation, and clauses over bits without duplicates or tautologies.
 ghost use Rattle.std.specs.Prelude.{◌≡◌, IfOk, IfNone, IfSome, map, true, false};
 ghost use Rattle.cnf_gates.specs.Cnf.{AreLiterals, AreClauses};
 ghost use Rattle.clause_model.specs.Clauses.{number_of};
@@ -65,7 +65,7 @@ fn has_true(bits: &[Bit]) -> bool
     false
 }
 
-/// Whether a literal is among them.
+/// Whether a literal is among others.
 fn among(literal: &Signal, literals: &[Signal]) -> bool
     ensures { result ≡ among literal.now literals.now }
 {
@@ -77,7 +77,7 @@ fn among(literal: &Signal, literals: &[Signal]) -> bool
     false
 }
 
-/// Whether a literal stands before its contrary.
+/// Whether two of the literals are contrary.
 fn has_pair(literals: &[Signal]) -> bool
     ensures { result ≡ has_pair literals.now }
 {
@@ -89,7 +89,7 @@ fn has_pair(literals: &[Signal]) -> bool
     false
 }
 
-/// Each literal once, in the order of their first places.
+/// Each literal once, in the order of first occurrence.
 fn distinct(alloc: Global, literals: &[Signal]) -> Result<Vec<Signal>, AllocError>
     ensures { IfOk result (λ v. v.items ≡ distinct literals.now) }
 {
@@ -102,7 +102,7 @@ fn distinct(alloc: Global, literals: &[Signal]) -> Result<Vec<Signal>, AllocErro
     Ok(kept)
 }
 
-/// The numbers of the literals.
+/// The DIMACS numbers of the literals.
 fn numbers(alloc: Global, literals: &[Signal]) -> Result<Vec<i32>, AllocError>
     ensures numbers { IfOk result (λ v. v.items ≡ map number_of literals.now) }
     ensures literals { IfOk result (λ v. AreLiterals v.items) }

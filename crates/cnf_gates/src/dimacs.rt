@@ -1,4 +1,4 @@
-//! Formulas in the format that other solvers and checkers read.
+//! Formulas as DIMACS text, for checking a proof with other programs.
 ghost use Rattle.std.specs.Prelude.{◌≡◌, ◌++◌, IfOk, OnOk, string_bytes};
 ghost use Rattle.cnf_gates.specs.Cnf.{dimacs, header_line, clause_line};
 

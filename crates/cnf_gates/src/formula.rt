@@ -1,4 +1,4 @@
-//! Clauses in the order in which they were added, since a proof's hints name them by their number.
+//! Formulas keep their clauses in the order in which they were added, since a proof's hints name them by their number.
 ghost use Rattle.std.specs.Prelude.{◌≡◌, ◌≤◌, ◌-◌, ◌++◌, ◌∷◌, [], length, map, slice_get, Some, OnOk, OnErr, All};
 
 use crate::errors::Memory;

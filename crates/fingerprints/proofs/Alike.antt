@@ -17,7 +17,7 @@ use Rattle.window_exec.specs.State.{values_of}
 use Rattle.fingerprints.specs.Print.{mixed, one_if, nzcv_of, in_mask, words_of, with_words, print_from, print_after}
 use Rattle.fingerprints.specs.Laws.{IsState, AreUntold}
 
--- ---- states hold words and bits, and go on doing so
+-- ---- registers hold words and flags hold bits, also after a sequence
 
 either : (b : Bool) (p q m : ℕ) → p < m → q < m → (if b then p else q) < m
 either true p q m h k = h
@@ -35,7 +35,7 @@ state_held s h = record {
     word : (x : ℕ) → get_or s.r x 0 < 2 ^ 32
     word x = elim (cases_lt x (length s.r)) [ inl l ↦ h.1 x 0 l | inr l ↦ rw (past x l) (omega arith) ]
 
-    -- a flag, or what is behind the flags
+    -- a bound on a register's word is one on the item's value, also where the item is a flag
     within : (x m : ℕ) → 2 ≤ m → get_or s.r x 0 < m → values_of s x < m
     within x m two l =
         let bit : (i : ℕ) → bit_at s.nzcv i < m = λ i. omega (arith, bit_at-lt s.nzcv i, two) in
@@ -60,7 +60,7 @@ nibble_bits n z c v hn hz hc hv = (omega arith, omega arith, omega arith, omega 
 mask_bit : (mask x : ℕ) → in_mask mask x < 2
 mask_bit mask x = bool_small (has mask x)
 
--- a bit under a mask's bit
+-- a bit that a mask may clear
 bit_alike : (mask x a b : ℕ) → (has mask x ≡ true → a ≡ b) → min a (in_mask mask x) ≡ min b (in_mask mask x)
 bit_alike mask x a b h = elim (cases_Bool (has mask x)) [
   | inl t ↦ ap (λ n. min n (in_mask mask x)) (h t)

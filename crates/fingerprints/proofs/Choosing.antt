@@ -1,4 +1,4 @@
--- The sequences that the first of some states doesn't tell.
+-- The candidates are just the sequences that the first trial doesn't tell, also where there is no trial.
 use Rattle.std.proofs.Common.{◌≡◌, ℕ, ◌+◌, ◌<◌, ◌≤◌, ◌⊎◌, inl, inr, true, List, [], ◌∷◌, Contains, Some, length, max, get_or, slice_get, refl, sym, ◌∙◌, ap, subst, arith}
 use Rattle.std.specs.List.{Any}
 use Rattle.std.proofs.lemmas.Bool.{cases_Bool, cases_lt, false≢true}

@@ -24,7 +24,7 @@ lanes_hold l (s ∷ ss) i each =
 pub column_holds : (l : Lanes) (ss : List WState) → ((j : ℕ) (s : WState) → slice_get ss j ≡ Some s → values_at l j ≡ values_of s) → lanes_from l 0 (length ss) ≡ map values_of ss
 column_holds l ss each = lanes_hold l ss 0 (λ j s e. let none : 0 + j ≡ j = omega arith in ap (values_at l) none ∙ each j s e)
 
--- what becomes of each lane becomes of the column's states
+-- a function applied to each lane is applied to each state of the column
 pub lanes_after : (f : Values → Values) (l k : Lanes) → ((i : ℕ) → i < 8 → values_at k i ≡ f (values_at l i)) → (n i : ℕ) → i + n ≤ 8 → lanes_from k i n ≡ map f (lanes_from l i n)
 unfolding lanes_from
 lanes_after f l k each zero i h = refl

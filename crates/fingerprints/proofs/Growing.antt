@@ -55,7 +55,7 @@ below_front instrs m (suc d) q seq at =
 pub below_longest : (instrs : List Instr) (m n q : ℕ) (seq : List Instr) → m ≤ n → slice_get (sequences_below instrs m) q ≡ Some seq → slice_get (sequences_below instrs n) q ≡ Some seq
 below_longest instrs m n q seq h at = let e : m + (n - m) ≡ n = omega arith in subst (λ j. slice_get (sequences_below instrs j) q ≡ Some seq) e (below_front instrs m (n - m) q seq at)
 
--- a sequence as a value of its own
+-- a sequence that the code copies
 pub some_short : (o : Option (List Instr)) (xs : List Instr) → IsSome o ↔ (length xs ≤ 5) → IfSome o (λ s. s ≡ xs) → length xs ≤ 5 → o ≡ Some xs
 some_short None xs valid value short = absurd (let h = valid.1 short in cc)
 some_short (Some s) xs valid value short = ap (λ z. Some z) value
@@ -102,7 +102,7 @@ begun k pool instrs start none one some few is instrs_some instrs_few four r0 r1
 
 -- ---- longer ones ----
 
--- how many there are of the sequences of one instruction more
+-- the loop's state: the outcomes up to a length, and where the longest begin
 pub record IsGrown (k : ℕ) (instrs : List Instr) (start : WState) (longest first : ℕ) (columns : Columns) : Type 0 where
   pub before : first ≡ length (sequences_below instrs longest)
   pub holds : Holds k start (sequences_below instrs (longest + 1)) columns

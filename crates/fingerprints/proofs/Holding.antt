@@ -1,4 +1,4 @@
--- Columns that hold what sequences leave, one sequence after the other.
+-- Appending an outcome to the columns keeps the invariant that they hold the sequences' outcomes.
 use Rattle.std.proofs.Common.{◌≡◌, ℕ, zero, suc, ◌+◌, ◌-◌, ◌<◌, ◌≤◌, ◌==◌, inl, inr, Bool, true, false, List, [], ◌∷◌, ◌++◌, Some, cond, length, get_or, slice_get, slice_index, take, refl, sym, ap, ◌∙◌, subst, arith, nat_lt, length-append, append-nil, append_assoc, if◌then◌else◌}
 use Rattle.std.specs.List.{flat_map}
 use Rattle.std.proofs.Math.Path.{fun_ext}
@@ -20,7 +20,7 @@ use Rattle.fingerprints.specs.OutcomeColumns.{outcome_at, extended, IsAfter, cou
 use Rattle.fingerprints.specs.Print.{one_if}
 use Rattle.common_lemmas.proofs.Lists.{get_front}
 
--- ---- a word more in a column ----
+-- ---- one more word in a column ----
 
 length-one_if : (b : Bool) (x : ℕ) → length (one_if b x) ≡ (if b then 1 else 0)
 length-one_if true x = refl
@@ -30,27 +30,27 @@ counts : (b : Bool) (n : ℕ) → cond b n 0 + cond b 1 0 ≡ cond b (n + 1) 0
 counts true n = refl
 counts false n = refl
 
--- how long it is then
+-- the length of a column after a word was appended
 longer : (register k count word : ℕ) (old new : List ℕ) → length old ≡ count_for register k count → new ≡ old ++ one_if (nat_lt register k) word → length new ≡ count_for register k (count + 1)
 longer register k count word old new e f =
     ap length f ∙ length-append old (one_if (nat_lt register k) word) ∙ ap (λ n. n + length (one_if (nat_lt register k) word)) e
     ∙ ap (λ n. count_for register k count + n) (length-one_if (nat_lt register k) word) ∙ counts (nat_lt register k) count
 
--- the words before stay
+-- the earlier words stay
 before_in : (b : Bool) (count word i d : ℕ) (old new : List ℕ) → length old ≡ cond b count 0 → new ≡ old ++ one_if b word → i < count → get_or new i d ≡ get_or old i d
 before_in true count word i d old new e f low = ap (λ xs. get_or xs i d) f ∙ get_or_append_left old (word ∷ []) d i (omega arith)
 before_in false count word i d [] new e f low = ap (λ xs. get_or xs i d) f
 before_in false count word i d (x ∷ xs) new e f low = absurd (omega arith)
 
--- and the word is behind them, where it is wanted
+-- the new word comes after them, if `wanted`
 here_in : (b : Bool) (count word i d : ℕ) (old new : List ℕ) → length old ≡ cond b count 0 → new ≡ old ++ one_if b word → i ≡ count → get_or new i d ≡ cond b word d
 here_in true count word i d old new e f at = ap (λ xs. get_or xs i d) f ∙ ap (λ n. get_or (old ++ word ∷ []) n d) (at ∙ sym e) ∙ get_or-append_seam old word [] d
 here_in false count word i d [] new e f at = ap (λ xs. get_or xs i d) f
 here_in false count word i d (x ∷ xs) new e f at = absurd (omega arith)
 
--- ---- a state more ----
+-- ---- one more state ----
 
--- the words of a state, of which those from r(k) on are another's
+-- the words of a state that has the start state's registers from r(k) on
 words_here : (k : ℕ) (register : ℕ) (s start : WState) → KeepsFrom k start s → register < 4 → slice_index s.r register ≡ values_of s register → slice_index start.r register ≡ values_of start register
     → cond (nat_lt register k) (slice_index s.r register) (slice_index start.r register) ≡ slice_index s.r register
 words_here k register s start keeps low a b = elim (cases_lt register k) [
@@ -71,7 +71,7 @@ same_values s e =
     fun_ext (λ x. ap (λ n. if x == n_flag then bit_at s.nzcv 3 else if x == z_flag then bit_at s.nzcv 2 else if x == c_flag then bit_at s.nzcv 1 else if x == v_flag then bit_at s.nzcv 0 else n) (four_words s.r e x))
 
 module _ (k : ℕ) (start : WState) (seqs : List (List Instr)) (seq : List Instr) (old new : Columns) (s : WState) (h : Holds k start seqs old) (is : IsAfter k s old new) where
-  -- what was there stays
+  -- the earlier outcomes stay
   stays : (i : ℕ) → i < length seqs → outcome_at new start i ≡ outcome_at old start i
   stays i low =
       let f : get_or new.flags.items i 0 ≡ get_or old.flags.items i 0 = ap (λ xs. get_or xs i 0) is.flags ∙ get_or_append_left old.flags.items (s.nzcv ∷ []) 0 i (omega (arith, h.flags)) in
@@ -81,7 +81,7 @@ module _ (k : ℕ) (start : WState) (seqs : List (List Instr)) (seq : List Instr
       let d = before_in (nat_lt 3 k) (length seqs) (slice_index s.r 3) i (slice_index start.r 3) old.r3.items new.r3.items h.r3 is.r3 low in
       cc
 
-  -- and the state is behind it
+  -- the new state comes after them
   comes : (i : ℕ) → i ≡ length seqs → KeepsFrom k start s → length s.r ≡ 4 → values_of (outcome_at new start i) ≡ values_of s
   comes i e keeps four =
       let f : get_or new.flags.items i 0 ≡ s.nzcv = ap (λ xs. get_or xs i 0) is.flags ∙ ap (λ n. get_or (old.flags.items ++ s.nzcv ∷ []) n 0) (e ∙ sym h.flags) ∙ get_or-append_seam old.flags.items s.nzcv [] 0 in
@@ -113,7 +113,7 @@ module _ (k : ℕ) (start : WState) (seqs : List (List Instr)) (seq : List Instr
         ];
       }
 
--- ---- an instruction more behind a sequence ----
+-- ---- one more instruction appended to a sequence ----
 
 after_more : (seq : List Instr) (x : Instr) (v : Values) → after_all (seq ++ x ∷ []) v ≡ after x (after_all seq v)
 after_more [] x v = refl
@@ -136,13 +136,13 @@ instr_next k start seqs seq alphabet i x old new from s low item window below h 
 pub instrs_done : (k : ℕ) (start : WState) (seqs : List (List Instr)) (seq alphabet : List Instr) (i : ℕ) (c : Columns) → length alphabet ≤ i → Holds k start (seqs ++ extended (take i alphabet) seq) c → Holds k start (seqs ++ extended alphabet seq) c
 instrs_done k start seqs seq alphabet i c past h = subst (λ ls. Holds k start (seqs ++ extended ls seq) c) (take_all i alphabet past) h
 
--- ---- a sequence more, with each instruction behind it ----
+-- ---- one more sequence, with each instruction appended ----
 
 empty_column : (register k count i d : ℕ) (xs : List ℕ) → length xs ≡ count_for register k count → k ≤ register → get_or xs i d ≡ d
 empty_column register k count i d [] e past = refl
 empty_column register k count i d (x ∷ xs) e past = absurd (let none : length (x ∷ xs) ≡ 0 = e ∙ ap (λ b. cond b count 0) (le-ltb register k past) in omega arith)
 
--- the registers that have no column are those of the state given
+-- the registers without a column have the start state's words
 pub keeps_at : (k : ℕ) (start : WState) (seqs : List (List Instr)) (c : Columns) (i : ℕ) → Holds k start seqs c → KeepsFrom k start (outcome_at c start i)
 keeps_at k start seqs c i h zero past low = empty_column 0 k (length seqs) i _ c.r0.items h.r0 past
 keeps_at k start seqs c i h (suc zero) past low = empty_column 1 k (length seqs) i _ c.r1.items h.r1 past

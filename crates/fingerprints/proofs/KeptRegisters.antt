@@ -47,7 +47,7 @@ byte_written k byte.Sub d x n h = sum_written k d (three_sum sum.Sub x n) h
 one_written : (k d x : ℕ) → d < k → AreWritten k (keys ((d, x) ∷ []))
 one_written k d x h = (inl h, tt)
 
--- a row: an instruction writes those alone
+-- a row: an instruction writes only these
 outputs_written : (k : ℕ) (i : Instr) (w : Values) → is_in_window i ≡ true → AreBelow k (named i) → AreWritten k (keys (outputs i w))
 outputs_written k (instr.Mov d m) w t b = (inl b.0, tt)
 outputs_written k i w t b = first_of (search (result_written, shift_written, sum_written, two_written, byte_written, one_written), grind arith)

@@ -1,4 +1,4 @@
--- Numbers that are kept of a list, and which they are.
+-- Scans of columns: blocks that are skipped or searched, and filters, keep just the wanted numbers.
 use Rattle.std.proofs.Common.{◌≡◌, ℕ, zero, suc, ◌+◌, ◌<◌, ◌≤◌, ◌==◌, ◌&&◌, ◌||◌, not, inl, inr, Bool, true, false, List, [], ◌∷◌, ◌++◌, Contains, Some, cond, filter, length, slice_index, get_or, refl, sym, ◌∙◌, ap, subst, arith, eq-eqb, eqb-true}
 use Rattle.std.proofs.lemmas.Bool.{cases_Bool, lt-ltb, false≢true, not-true, not-false}
 use Rattle.std.proofs.lemmas.List.{get_or_default}
@@ -64,7 +64,7 @@ filter_has p xs q h c = found xs c.0 c.1 c.2
           | false ↦ r
         ]
 
--- what is kept was there
+-- an element of the rest is an element of the list
 behind : (q x : ℕ) (xs : List ℕ) → Contains xs q → Contains (x ∷ xs) q
 behind q x xs r = (suc r.0, omega (arith, r.1), r.2)
 
@@ -103,7 +103,7 @@ filtered_among P p limit h = record {
 
 -- ---- states that are alike ----
 
--- the words of a state that stands in columns
+-- the word of a register of a state in columns
 word_of : (c : Columns) (start : WState) (q register : ℕ) → register < 4 → values_of (outcome_at c start q) register ≡ get_or (column_of c register) q (values_of start register)
 word_of c start q zero low = refl
 word_of c start q (suc zero) low = refl
@@ -151,9 +151,9 @@ flags_among c start end mask limit flags numbers is n =
     subst (AreAmong (IsLike c start end mask) limit) (sym n) (filtered_among (IsLike c start end mask) (λ q. not (flags_differ mask (get_or flags q 0) end.nzcv)) limit (λ q small like.
     ap (λ xs. not (flags_differ mask (get_or xs q 0) end.nzcv)) is ∙ ap (λ b. not b) (flags_like c start end mask q like)))
 
--- ---- five looks ----
+-- ---- five scans: four registers and the flags ----
 
--- what a look says of a word
+-- what the test of a word says
 said : (wanted : Bool) (column : List ℕ) (other word q : ℕ) → keeps_word wanted column other word q ≡ true → (wanted && not (get_or column q other == word)) ≡ false
 said true column other word q h = ap (λ b. not b) h
 said false column other word q h = refl

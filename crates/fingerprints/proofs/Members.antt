@@ -1,4 +1,4 @@
--- The instructions of an alphabet: each may stand in a window, names registers below k alone, and is normal.
+-- The instructions of an alphabet: each may stand in a window, names only registers below k, and is normal.
 use Rattle.std.proofs.Common.{◌≡◌, ℕ, zero, suc, ◌<◌, ◌≤◌, ◌==◌, ◌⊎◌, inl, inr, Bool, true, false, not, List, [], ◌∷◌, Option, Some, None, slice_get, map, cond, filter, refl, sym, ◌∙◌, ap, subst, arith, nat_lt}
 use Rattle.std.specs.Option.{option_map}
 use Rattle.std.proofs.lemmas.Bool.{lt-ltb, not-true, eqb-true, eq-eqb, cases_Bool}
@@ -39,7 +39,7 @@ filter_at p (x ∷ xs) i o h =
       | false ↦ λ e k. let later = filter_at p xs i o k in (later.0, (suc later.1.0, later.1.1))
     ] refl h
 
--- what stands in a grid is made of elements
+-- an element of a grid is made of elements of its lists
 grid2_parts : {X Y A P : Type 0} (make : X → Y → A) (xs : List X) (ys : List Y) (i : ℕ) (a : A) → slice_get (grid2 make xs ys) i ≡ Some a
     → ((h j : ℕ) (x : X) (y : Y) → slice_get xs h ≡ Some x → slice_get ys j ≡ Some y → make x y ≡ a → P) → P
 unfolding grid2
@@ -57,7 +57,7 @@ grid3_parts make xs ys zs i a e next =
     flat_map_at (λ x. grid2 (make x) (ys x) zs) xs i a e (λ h x j front there.
     grid2_parts (make x) (ys x) zs j a there (λ m n y z at last is. next h m n x y z front at last is))
 
--- ---- instructions, mnemonic by mnemonic ----
+-- ---- instructions, kind by kind ----
 
 low_low : (k : ℕ) (d : Within 0 8) → nat_lt (wide d).number 8 ≡ true
 low_low k d = lt-ltb d.number 8 d.below

@@ -60,7 +60,7 @@ place_found print n (p ∷ ps) (suc i) e =
       | inr h ↦ rw h.0 (r.0, r.1 ∙ ap (λ x. Some x) q)
     ]
 
--- ---- the sequences of at most so many instructions come first
+-- ---- the sequences of at most `longest` instructions come first
 
 -- the sequences of more instructions
 longer : ℕ → List Instr → List (List Instr)
@@ -75,7 +75,7 @@ sequences_split longest alphabet h =
     ∙ ap (flat_map (words alphabet)) (numbers_split 0 (longest + 1) (5 - longest) ∙ ap (λ b. numbers_from 0 (longest + 1) ++ numbers_from b (5 - longest)) base)
     ∙ flat_map-append (words alphabet) (numbers_from 0 (longest + 1)) (numbers_from (longest + 1) (5 - longest))
 
--- each word of some lengths has one of them
+-- each word among those of some lengths has one of these lengths
 pub length_within : (alphabet : List Instr) (first count i : ℕ) (seq : List Instr) → slice_get (flat_map (words alphabet) (numbers_from first count)) i ≡ Some seq → (first ≤ length seq) × (length seq < first + count)
 length_within alphabet first count i seq e =
     flat_map_at (words alphabet) (numbers_from first count) i seq e (λ h n j at there.

@@ -1,4 +1,4 @@
--- Prints, state by state and column by column.
+-- The loops that mix prints, state by state and column by column.
 use Rattle.std.proofs.Common.{◌≡◌, ℕ, Bool, suc, ◌+◌, ◌-◌, ◌<◌, ◌≤◌, List, [], ◌∷◌, ◌++◌, fold, bit_and, slice_index, refl, sym, ap, ◌∙◌, arith}
 use Rattle.std.proofs.lemmas.List.Sums.{fold-append}
 use Rattle.thumb_instr.specs.Items.{has}

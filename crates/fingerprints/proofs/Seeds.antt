@@ -1,4 +1,4 @@
--- States one after the other.
+-- The loop that generates states yields the seed's.
 use Rattle.std.proofs.Common.{◌≡◌, ℕ, suc, ◌+◌, ◌-◌, ◌<◌, List, [], ◌∷◌, ◌++◌, refl, sym, ◌∙◌, ap, arith, map, append_assoc}
 use Rattle.rand_pcg.specs.Lcg.{Lcg}
 use Rattle.std.proofs.lemmas.List.{map-append}

@@ -1,4 +1,4 @@
--- Prints along the tree of beginnings.
+-- The order in which the tree of prefixes is walked is the order of the sequences' numbers.
 use Rattle.std.proofs.Common.{◌≡◌, ℕ, zero, suc, ◌+◌, ◌-◌, ◌<◌, ◌≤◌, List, [], ◌∷◌, ◌++◌, length, drop, take, slice_index_or, append-nil, append_assoc, map, refl, sym, ap, ◌∙◌, arith, subst}
 use Rattle.std.specs.List.{flat_map}
 use Rattle.std.proofs.lemmas.List.{map-append, drop_all, take-append-drop, take_rest}
@@ -19,13 +19,13 @@ use Rattle.fingerprints.specs.Columns.{lanes_from, states_of, states_in}
 use Rattle.fingerprints.specs.Sequences.{sequences_within, prints_of, prints_within}
 use Rattle.fingerprints.proofs.ColumnLemmas.{rest_is, unchanged, column_after}
 
--- ---- words with an instruction more in front are words with an instruction more behind
+-- ---- words with an instruction prepended are words with an instruction appended
 
--- each instruction in front of each word
+-- each word with each instruction prepended
 abbrev pub fronted : {A : Type 0} → List (List A) → List A → List (List A)
 fronted ws alphabet = flat_map (λ x. map (λ w. x ∷ w) ws) alphabet
 
--- each instruction behind a word
+-- a word with each instruction appended
 abbrev backed : {A : Type 0} → List A → List A → List (List A)
 backed alphabet w = map (λ x. w ++ x ∷ []) alphabet
 
@@ -33,7 +33,7 @@ flat_map-flat_map : {A B C : Type 0} (f : B → List C) (g : A → List B) (xs :
 flat_map-flat_map f g [] = refl
 flat_map-flat_map f g (x ∷ xs) = flat_map-append f (g x) (flat_map g xs) ∙ ap (λ ys. flat_map f (g x) ++ ys) (flat_map-flat_map f g xs)
 
--- an instruction in front stays there when instructions come behind
+-- prepending and appending commute
 front_stays : {A : Type 0} (alphabet : List A) (x : A) (ws : List (List A)) → flat_map (backed alphabet) (map (λ w. x ∷ w) ws) ≡ map (λ w. x ∷ w) (flat_map (backed alphabet) ws)
 front_stays alphabet x [] = refl
 front_stays alphabet x (w ∷ ws) =
@@ -49,7 +49,7 @@ singles : {A : Type 0} (xs : List A) → map (λ x. x ∷ []) xs ++ [] ≡ front
 singles [] = refl
 singles (x ∷ xs) = ap (λ ys. (x ∷ []) ∷ ys) (singles xs)
 
--- the words of one instruction more are each instruction in front of the words
+-- the words of the next length are the words with each instruction prepended
 pub words_fronted : {A : Type 0} (alphabet : List A) (n : ℕ) → words alphabet (suc n) ≡ fronted (words alphabet n) alphabet
 unfolding words
 words_fronted alphabet zero = singles alphabet
@@ -65,7 +65,7 @@ unfoldable pub prints_behind : ℕ → List Values → List Instr → ℕ → Li
 prints_behind mask states alphabet n [] = []
 prints_behind mask states alphabet n (x ∷ xs) = prints_of mask (map (after x) states) alphabet n ++ prints_behind mask states alphabet n xs
 
--- one instruction more in front is one step more of the states
+-- an instruction prepended is one step of the states first
 one_instr : (mask : ℕ) (states : List Values) (x : Instr) (ws : List (List Instr))
     → map (print_after mask states) (map (λ w. x ∷ w) ws) ≡ map (print_after mask (map (after x) states)) ws
 one_instr mask states x [] = refl
@@ -129,7 +129,7 @@ lengths_done mask states alphabet k end old e =
     let none : end - k ≡ 0 = omega arith in
     rw none (append-nil old)
 
--- ---- columns one after the other
+-- ---- loops over columns
 pub column_is : (columns : List Column) (i : ℕ) (column : Column) → i < length columns → column ≡ slice_index_or columns i column → drop i columns ≡ column ∷ drop (i + 1) columns
 column_is columns i column h item =
     let one : suc i ≡ i + 1 = omega arith in
@@ -180,7 +180,7 @@ first_length mask states alphabet longest old e =
     let whole : longest + 1 - 0 ≡ longest + 1 = omega arith in
     ap (λ ps. ps ++ prints_between mask states alphabet 0 (longest + 1 - 0)) e ∙ ap (prints_between mask states alphabet 0) whole ∙ between_is mask states alphabet longest
 
--- a column more of the states that are left
+-- one more column, of the next eight states
 pub column_arranged : (columns new : List Column) (column : Column) (rest eight more : List WState) (n : ℕ) → eight ≡ take n rest → more ≡ drop n rest
     → states_of column ≡ map values_of eight → new ≡ columns ++ column ∷ [] → states_in new ++ map values_of more ≡ states_in columns ++ map values_of rest
 column_arranged columns new column rest eight more n e f held p =
@@ -222,7 +222,7 @@ four_are rest x y z w h ea eb ec ed = absurd (omega arith)
 pub over_tail : (rest : List Instr) (x y z w : Instr) (tail : List Instr) → rest ≡ x ∷ y ∷ z ∷ w ∷ tail → AreOver 4 rest → AreOver 4 tail
 over_tail rest x y z w tail e over = let o : AreOver 4 (x ∷ y ∷ z ∷ w ∷ tail) = subst (AreOver 4) e over in o.2.2.2.2
 
--- one more instruction of those that are left
+-- one more of the remaining instructions
 pub left_printed : (mask : ℕ) (states : List Values) (alphabet rest : List Instr) (i : ℕ) (x : Instr) (old new whole : List ℕ) (print : ℕ) → i < length rest → x ≡ slice_index_or rest i x
     → print ≡ print_from mask 0 (map (after x) states) → new ≡ old ++ print ∷ []
     → old ++ prints_behind mask states alphabet 0 (drop i rest) ≡ whole → new ++ prints_behind mask states alphabet 0 (drop (i + 1) rest) ≡ whole

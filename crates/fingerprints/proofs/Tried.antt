@@ -1,4 +1,4 @@
--- Trials, one after the other.
+-- The loop over trials, from the last to the first.
 use Rattle.std.proofs.Common.{◌≡◌, ℕ, ◌+◌, ◌-◌, ◌<◌, ◌≤◌, ◌↔◌, inl, inr, ap, ◌∙◌, arith, List, length, get_or, sym, subst, Bool, IsTrue}
 use Rattle.std.specs.List.{Any}
 use Rattle.std.proofs.lemmas.Bool.{cases_lt}
@@ -11,11 +11,11 @@ use Rattle.window_exec.specs.State.{Differ}
 pub any_at : {X : Type 0} (P : X → Type 0) (xs : List X) (i : ℕ) (d : X) → i < length xs → P (get_or xs i d) → Any P xs
 any_at P xs i d low here = (i, get_or xs i d, low, get_or_default xs i (get_or xs i d) d low, here)
 
--- a test beside a state is one beside what it holds
+-- a test against a state is a test against its values
 pub beside : (a b v : Values) (mask : ℕ) (r : Bool) → b ≡ v → IsTrue r ↔ Differ a b mask → IsTrue r ↔ Differ a v mask
 beside a b v mask r e h = subst (λ w. IsTrue r ↔ Differ a w mask) e h
 
--- none of those from a place on, from the last to the first
+-- one more of the last trials doesn't tell
 pub one_more_passed : {X : Type 0} (P : X → Type 0) (xs : List X) (passed : ℕ) (d : X) → passed < length xs
     → ((k : ℕ) (x : X) → length xs ≤ k + passed → k < length xs → get_or xs k x ≡ x → P x → ⊥) → (P (get_or xs (length xs - 1 - passed) d) → ⊥)
     → (k : ℕ) (x : X) → length xs ≤ k + (passed + 1) → k < length xs → get_or xs k x ≡ x → P x → ⊥

@@ -1,4 +1,4 @@
--- The states of columns.
+-- The list of states that columns of lanes stand for.
 use Rattle.std.specs.Prelude.{ℕ, zero, suc, ◌+◌, List, [], ◌∷◌, ◌++◌}
 use Rattle.thumb_model.specs.Effect.{Values}
 use Rattle.fingerprints.specs.declared.lanes.Lanes.{Lanes}

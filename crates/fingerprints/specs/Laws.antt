@@ -1,4 +1,4 @@
--- States of four words, what no state tells apart, and the first state of a seed.
+-- Definitions for the laws: well-formed states, sequences that no state tells apart, and a known state of the generator.
 use Rattle.std.specs.Prelude.{◌≡◌, ℕ, ◌<◌, ◌^◌, List, [], ◌∷◌, All, length, slice_get, Some}
 use Rattle.thumb_instr.specs.declared.instr.Instr.{Instr}
 use Rattle.window_exec.specs.declared.state.WState.{WState}

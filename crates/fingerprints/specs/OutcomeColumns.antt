@@ -1,4 +1,4 @@
--- Columns of the states that sequences leave.
+-- Tables of the states that sequences leave, by columns.
 use Rattle.std.specs.Prelude.{ℕ, zero, suc, ◌≡◌, ◌<◌, ◌≤◌, ◌+◌, ◌++◌, ◌∷◌, [], List, true, Some, if◌then◌else◌, get_or, length, map, nat_lt, slice_get, slice_index}
 use Rattle.thumb_instr.specs.declared.instr.Instr.{Instr}
 use Rattle.thumb_model.specs.Effect.{after_all}
@@ -7,18 +7,18 @@ use Rattle.window_exec.specs.State.{values_of}
 use Rattle.fingerprints.specs.declared.outcome_columns.Columns.{Columns}
 use Rattle.fingerprints.specs.Print.{one_if}
 
--- the state at a place: a register that has no column is that of the state given
+-- the state at a place: a register without a column has the start state's word
 abbrev pub outcome_at : Columns → WState → ℕ → WState
 outcome_at c start i = record {
   r = get_or c.r0.items i (slice_index start.r 0) ∷ get_or c.r1.items i (slice_index start.r 1) ∷ get_or c.r2.items i (slice_index start.r 2) ∷ get_or c.r3.items i (slice_index start.r 3) ∷ [];
   nzcv = get_or c.flags.items i 0;
 }
 
--- each instruction behind a sequence
+-- a sequence with each instruction appended
 abbrev pub extended : List Instr → List Instr → List (List Instr)
 extended alphabet seq = map (λ x. seq ++ x ∷ []) alphabet
 
--- the columns with one state more behind the others
+-- the columns with one more state appended
 pub record IsAfter (k : ℕ) (s : WState) (old new : Columns) : Type 0 where
   pub r0 : new.r0.items ≡ old.r0.items ++ one_if (nat_lt 0 k) (slice_index s.r 0)
   pub r1 : new.r1.items ≡ old.r1.items ++ one_if (nat_lt 1 k) (slice_index s.r 1)
@@ -26,7 +26,7 @@ pub record IsAfter (k : ℕ) (s : WState) (old new : Columns) : Type 0 where
   pub r3 : new.r3.items ≡ old.r3.items ++ one_if (nat_lt 3 k) (slice_index s.r 3)
   pub flags : new.flags.items ≡ old.flags.items ++ s.nzcv ∷ []
 
--- room for so many states more
+-- room for this many more states
 pub record HaveRoom (k more : ℕ) (c : Columns) : Type 0 where
   pub r0 : nat_lt 0 k ≡ true → c.r0.len + more ≤ c.r0.cap
   pub r1 : nat_lt 1 k ≡ true → c.r1.len + more ≤ c.r1.cap
@@ -34,7 +34,7 @@ pub record HaveRoom (k more : ℕ) (c : Columns) : Type 0 where
   pub r3 : nat_lt 3 k ≡ true → c.r3.len + more ≤ c.r3.cap
   pub flags : c.flags.len + more ≤ c.flags.cap
 
--- a column for each register below k
+-- the length of a register's column: one word a state for each register below k, and none for the others
 abbrev pub count_for : ℕ → ℕ → ℕ → ℕ
 count_for register k count = if nat_lt register k then count else 0
 
@@ -58,6 +58,6 @@ pub record Holds (k : ℕ) (start : WState) (seqs : List (List Instr)) (c : Colu
   pub flags : length c.flags.items ≡ length seqs
   pub outcomes : (i : ℕ) (seq : List Instr) → slice_get seqs i ≡ Some seq → values_of (outcome_at c start i) ≡ after_all seq (values_of start)
 
--- the registers from r(k) on are those of another state
+-- the registers from r(k) on have the words of the start state
 abbrev pub KeepsFrom : ℕ → WState → WState → Type 0
 KeepsFrom k start s = (x : ℕ) → k ≤ x → x < 4 → values_of s x ≡ values_of start x

@@ -1,4 +1,4 @@
--- What a table of outcomes has, and which of its sequences agree with a state.
+-- What a table of outcomes covers, how it grows, and which of its sequences agree with a state.
 use Rattle.std.specs.Prelude.{ℕ, ◌≡◌, ◌<◌, ◌≤◌, ◌+◌, ◌-◌, ◌↔◌, true, List, Some, Contains, length, max, slice_get}
 use Rattle.std.specs.List.{flat_map}
 use Rattle.thumb_instr.specs.declared.instr.Instr.{Instr}
@@ -13,7 +13,7 @@ use Rattle.fingerprints.specs.OutcomeColumns.{Holds}
 unfoldable pub sequences_below : List Instr → ℕ → List (List Instr)
 sequences_below alphabet n = flat_map (words alphabet) (numbers_from 0 n)
 
--- the outcomes of a state under the sequences of at most `longest` instructions, which name the first registers alone
+-- the extent of a table: the outcomes of `start` under the sequences of at most `longest` instructions, which name only the first registers
 pub record Extent : Type 0 where
   pub registers : ℕ
   pub alphabet : List Instr
@@ -23,7 +23,7 @@ pub record Extent : Type 0 where
 abbrev pub sequences_in : Extent → List (List Instr)
 sequences_in e = sequences_below e.alphabet (e.longest + 1)
 
--- the same with longer sequences, where it has none so long
+-- the same with sequences up to `longest`, where it has none so long yet
 abbrev pub grown_to : ℕ → Extent → Extent
 grown_to longest e = record { registers = e.registers; alphabet = e.alphabet; start = e.start; longest = max e.longest longest }
 
@@ -31,13 +31,13 @@ grown_to longest e = record { registers = e.registers; alphabet = e.alphabet; st
 abbrev pub added : ℕ → Extent → ℕ
 added longest e = length (sequences_in (grown_to longest e)) - length (sequences_in e)
 
--- after the sequence of a number each item of the mask is as in a state
+-- after the sequence of a number each item of the mask is as in `end`
 pub record Agrees (e : Extent) (end : Values) (mask number : ℕ) : Type 0 where
   pub seq : List Instr
   pub at : slice_get (sequences_in e) number ≡ Some seq
   pub same : Differ (after_all seq (values_of e.start)) end mask → ⊥
 
--- the numbers, ascending, of the sequences below a limit that agree
+-- the numbers below a limit, in ascending order, of just the sequences that agree
 pub record AreAgreeing (e : Extent) (end : Values) (mask limit : ℕ) (numbers : List ℕ) : Type 0 where
   pub ascending : ascends_from 0 numbers ≡ true
   pub agreeing : (number : ℕ) → Contains numbers number ↔ (number < limit) × Agrees e end mask number

@@ -1,4 +1,4 @@
--- Prints: the words that a sequence leaves in each state, mixed one after the other.
+-- A print is a hash of the words that a sequence leaves in each state, mixed one after the other.
 use Rattle.std.specs.Prelude.{ℕ, ◌+◌, ◌*◌, ◌%◌, ◌^◌, List, [], ◌∷◌, ◌++◌, Bool, if◌then◌else◌, bit_and, bit_xor, fold, map}
 use Rattle.std.specs.Int.{w64, rotate_left, from_bool}
 use Rattle.thumb_instr.specs.declared.instr.Instr.{Instr}
@@ -18,7 +18,7 @@ nzcv_of v = v n_flag * 8 + v z_flag * 4 + v c_flag * 2 + v v_flag
 abbrev pub in_mask : ℕ → Values
 in_mask mask x = from_bool (has mask x)
 
--- the mask's registers in order, then the flags with those outside the mask 0
+-- the mask's registers in order, then the flags, in which those outside the mask are 0
 abbrev pub masked : ℕ → ℕ → ℕ → ℕ → ℕ → ℕ → List ℕ
 masked mask a b c d flags = one_if (has mask 0) a ++ (one_if (has mask 1) b ++ (one_if (has mask 2) c ++ (one_if (has mask 3) d ++ flags ∷ [])))
 

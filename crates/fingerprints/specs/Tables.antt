@@ -1,4 +1,4 @@
--- The tables that are kept.
+-- The invariant of the cache of tables.
 use Rattle.std.specs.Prelude.{ℕ, ◌≡◌, List, IfSome}
 use Rattle.window_exec.specs.declared.state.WState.{WState}
 use Rattle.seq_enum.specs.Alphabet.{alphabet}
@@ -11,7 +11,7 @@ pub record IsFor (k : ℕ) (pool : List ℕ) (start : WState) (e : Extent) : Typ
   pub alphabet : e.alphabet ≡ alphabet k pool
   pub state : e.start ≡ start
 
--- each is of its count of registers
+-- each table is for its number of registers
 pub record AreTables (pool : List ℕ) (start : WState) (t : Tables) : Type 0 where
   pub one : IfSome t.one (IsFor 1 pool start)
   pub two : IfSome t.two (IsFor 2 pool start)

@@ -1,4 +1,4 @@
--- Listed states, each with what a left side leaves of it.
+-- Trials: the listed states, each with the state that the left side leaves of it.
 use Rattle.std.specs.Prelude.{◌≡◌, List, All, map}
 use Rattle.thumb_instr.specs.declared.instr.Instr.{Instr}
 use Rattle.thumb_model.specs.Effect.{after_all}

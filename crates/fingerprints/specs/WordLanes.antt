@@ -1,4 +1,4 @@
--- What eight sums and eight shifts hold, lane by lane.
+-- Eight sums or shifts as values, lane by lane.
 use Rattle.std.specs.Prelude.{ℕ, Bool, List, ◌==◌, slice_index}
 use Rattle.std.specs.Int.{bit_at}
 use Rattle.word_bits.specs.declared.Sum.{Sum}

@@ -1,4 +1,4 @@
--- The words of lanes, one register after the other.
+-- The words of eight states by register, from which prints are mixed.
 use Rattle.std.specs.Prelude.{ℕ, ◌≡◌, slice_index}
 use Rattle.fingerprints.specs.declared.lanes.Lanes.{Lanes}
 use Rattle.fingerprints.specs.declared.print.Words.{Words}

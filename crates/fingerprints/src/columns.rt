@@ -1,4 +1,4 @@
-//! States in columns, up to eight side by side in each.
+//! Up to eight states side by side, run together through instructions.
 
 ghost use Rattle.std.specs.Prelude.{◌≡◌, ℕ, ◌≤◌, Some, slice_get, map, length, true};
 ghost use Rattle.thumb_instr.specs.Window.{is_in_window, named, AreBelow};
@@ -28,7 +28,7 @@ impl Column {
     ghost use Rattle.window_exec.specs.State.{values_of};
     ghost use Rattle.fingerprints.specs.Columns.{states_of};
 
-    /// The states given, from lane 0 on.
+    /// A column of the given states, from lane 0 on.
     pub(crate) fn of(states: &[WState]) -> Column
         requires { length states.now ≤ 8 }
         ensures { states_of result ≡ map values_of states.now }
@@ -65,7 +65,7 @@ impl Column {
     }
 }
 
-/// The states, and behind them states of zeros up to eight.
+/// The states, filled up to eight with states of zeros.
 fn eight_of(states: &[WState]) -> [WState; 8]
     requires { length states.now ≤ 8 }
     ensures { (i : ℕ) (s : WState) → slice_get states.now i ≡ Some s → slice_get result i ≡ Some s }

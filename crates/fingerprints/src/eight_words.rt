@@ -1,4 +1,4 @@
-//! A word of each of eight states, as the kind of word over which steps are written, so that eight states take a step together.
+//! A word of each of eight states, as an implementation of `Word`, so that `window_exec`'s one definition of a step runs eight states together.
 ghost use Rattle.std.specs.Prelude.{◌%◌, slice_index};
 ghost use Rattle.fingerprints.specs.WordLanes.{set_at, sum_at, moved_at};
 

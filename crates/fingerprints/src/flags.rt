@@ -1,4 +1,4 @@
-//! The flags of eight states as the bits of words, and back.
+//! Conversion between the flags of eight states as NZCV and the words from which `Lanes` computes them.
 
 ghost use Rattle.std.specs.Prelude.{◌≡◌, ℕ, ◌<◌, ◌+◌, ◌*◌, slice_index};
 ghost use Rattle.std.specs.Int.{bit_at, from_bool};
@@ -16,7 +16,7 @@ pub fn nzcv(n: u32x8, z: u32x8, c: u32x8, v: u32x8) -> u32x8
     added(high, added(left(right(c, 31), 1), right(v, 31)))
 }
 
-/// A bit of each lane, as bit 31.
+/// A bit of each lane, moved to bit 31.
 #[inline(always)]
 pub fn raised(nzcv: u32x8, bit: u32) -> u32x8
     requires { bit < 4 }
@@ -25,7 +25,7 @@ pub fn raised(nzcv: u32x8, bit: u32) -> u32x8
     left(nzcv, 31 - bit)
 }
 
-/// Zero in the lanes that have a bit.
+/// Zero in just the lanes in which a bit is set.
 #[inline(always)]
 pub fn cleared(nzcv: u32x8, bit: u32) -> u32x8
     requires { bit < 4 }

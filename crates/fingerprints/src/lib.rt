@@ -1,7 +1,7 @@
-//! The states by which sequences are told apart: those that a seed gives, eight side by side, and
-//! the prints that sequences leave in them; what each sequence of an alphabet leaves of one state,
-//! in columns, so that a look along a column finds the sequences that leave a word; and sequences
-//! run from listed states beside what a left side leaves of each.
+//! How sequences are told apart by running them: the states of a seed, run eight at a time; prints
+//! (hashes) of the states that a sequence ends in; tables of what each sequence of an alphabet makes of one state,
+//! in columns, so that a scan of a column finds the sequences that leave a word; and sequences
+//! run from all listed states and compared with what a left side leaves.
 #![tactic(auto)]
 
 mod arranging;

@@ -1,4 +1,4 @@
-//! Looks along columns: the first makes a short list of numbers, the others keep those at which their column agrees too.
+//! Scans of columns for the states that agree with a given one: the first scan makes a short list of numbers, the others filter it.
 ghost use Rattle.std.specs.Prelude.{◌≡◌, ℕ, ◌+◌, ◌<◌, ◌≤◌, ◌==◌, ◌&&◌, ◌||◌, not, true, false, IfOk, IfSome, OnOk, filter, get_or, length};
 ghost use Rattle.std.specs.Int.{bit_at};
 ghost use Rattle.thumb_instr.specs.Items.{has};
@@ -16,7 +16,7 @@ use window_exec::WState;
 /// How many words of a column are compared at once.
 const ROW: usize = 64;
 
-/// A quarter of a row, where one is found in it.
+/// How many are compared at once inside a row that has the word.
 const BLOCK: usize = 16;
 
 /// Whether a column may have a word at one of the sixteen places from one on.
@@ -39,7 +39,7 @@ fn is_in_row(column: &[u32], first: usize, word: u32) -> bool
     row.simd_eq(u32x64::splat(word)).to_bitmask() != 0
 }
 
-/// Puts the numbers from one on and below another at which a column has a word behind those before.
+/// Appends the numbers from `first` on and below `end` at which a column has a word.
 fn push_places(
     places: &mut Vec<u64>,
     column: &[u32],
@@ -60,7 +60,7 @@ fn push_places(
     Ok(())
 }
 
-/// Puts the numbers of sixteen places at which a column has a word behind those before.
+/// Appends those of the sixteen numbers from `first` on at which a column has a word.
 #[inline(always)]
 fn push_block(
     places: &mut Vec<u64>,
@@ -78,7 +78,7 @@ fn push_block(
     Ok(())
 }
 
-/// Puts the numbers of 64 places at which a column has a word behind those before. Mostly it has none there.
+/// Appends those of the 64 numbers from `first` on at which a column has a word. Mostly there is none.
 #[inline(always)]
 fn push_row(
     places: &mut Vec<u64>,
@@ -152,7 +152,7 @@ fn flag_places(
     Ok(places)
 }
 
-/// The first register of a mask that has a column and another word in the end than at the start: few sequences leave that word.
+/// The first register of a mask that has a column and whose word at the end differs from that at the start: few sequences leave that word.
 fn telling_register(k: u8, start: &WState, end: &WState, mask: Mask) -> Option<u8>
     requires { k ≤ 4 }
     ensures { IfSome result (λ register. (register < k) × (has mask.items.bits register ≡ true)) }
@@ -165,7 +165,7 @@ fn telling_register(k: u8, start: &WState, end: &WState, mask: Mask) -> Option<u
     None
 }
 
-/// The numbers below a limit of which one column says that they may agree with a state in the items of a mask.
+/// The numbers below a limit that agree with a state in one column: those that may agree in all items of a mask.
 fn first_look(
     alloc: Global,
     columns: &Columns,
@@ -189,7 +189,7 @@ fn first_look(
     }
 }
 
-/// Keeps the numbers at which a column has a word, where that is wanted.
+/// Keeps only the numbers at which a column has a word; all of them where that isn't `wanted`.
 fn keep_words(numbers: &mut Vec<u64>, wanted: bool, column: &[u32], other: u32, word: u32)
     ensures { numbers.new.items ≡ filter (keeps_word wanted column.now other word) numbers.old.items }
 {
@@ -206,7 +206,7 @@ fn keep_flags(numbers: &mut Vec<u64>, flags: &[u8], nzcv: u8, mask: Mask)
     });
 }
 
-/// The numbers below a limit, ascending, of the states that agree with another in each item of a mask.
+/// The numbers below a limit, in ascending order, of the states that agree with `end` in each item of a mask.
 pub(crate) fn alike(
     alloc: Global,
     columns: &Columns,

@@ -1,4 +1,4 @@
-//! Sequences by number, of instructions that are listed.
+//! The sequence of a number over a given list of instructions, as tables of outcomes number them.
 ghost use Rattle.std.specs.Prelude.{◌≡◌, ◌≤◌, ◌<◌, length, slice_get};
 ghost use Rattle.seq_enum.specs.Alphabet.{sequences_of};
 

@@ -1,4 +1,4 @@
-//! States in columns: each register that isn't always the same has one, and the flags.
+//! A table of states by columns: one for each register that the sequences may name, and one for the flags.
 ghost use Rattle.std.specs.Prelude.{◌≡◌, ℕ, ◌<◌, ◌≤◌, ◌+◌, ◌-◌, ◌*◌, ◌++◌, [], List, IfOk, true, length, get_or, Some};
 ghost use Rattle.std.specs.List.{flat_map};
 ghost use Rattle.thumb_instr.specs.declared.instr.Instr.{Instr};
@@ -14,7 +14,7 @@ use step_ledger::{Ledger, Steps};
 use thumb_instr::Instr;
 use window_exec::{WState, compute};
 
-/// States in columns. A register that has no column is that of one state in all of them.
+/// States by columns. A register without a column has the start state's word in all of them.
 #[derive(Drop)]
 pub(crate) struct Columns {
     pub r0: Vec<u32>,
@@ -35,7 +35,7 @@ pub(crate) fn word_at(column: &[u32], place: usize, other: u32) -> u32
     }
 }
 
-/// Puts a word behind a column where it is wanted. There is room for it.
+/// Appends a word to a column, if `wanted`. There must be room for it.
 #[inline(always)]
 fn push_word(column: &mut Vec<u32>, wanted: bool, word: u32)
     requires { wanted ≡ true → column.old.len < column.old.cap }
@@ -48,7 +48,7 @@ fn push_word(column: &mut Vec<u32>, wanted: bool, word: u32)
     }
 }
 
-/// An empty column, with room for so many words where they are wanted.
+/// An empty column, with room for `room` words, if `wanted`.
 fn column_with_room(alloc: Global, wanted: bool, room: usize) -> Result<Vec<u32>, AllocError>
     ensures items { IfOk result (λ v. v.items ≡ []) }
     ensures len { IfOk result (λ v. v.len ≡ 0) }
@@ -62,7 +62,7 @@ fn column_with_room(alloc: Global, wanted: bool, room: usize) -> Result<Vec<u32>
 }
 
 impl Columns {
-    /// No state, with room for so many of `k` registers.
+    /// Columns without states, with room for `room` states of `k` registers.
     pub(crate) fn with_room(alloc: Global, k: u8, room: usize) -> Result<Columns, AllocError>
         ensures r0 { IfOk result (λ c. c.r0.items ≡ []) }
         ensures r1 { IfOk result (λ c. c.r1.items ≡ []) }
@@ -80,7 +80,7 @@ impl Columns {
         })
     }
 
-    /// A copy, with room for as many states of `k` registers in all.
+    /// A copy, with room for `room` states of `k` registers in all.
     pub(crate) fn copied(&self, alloc: Global, k: u8, room: usize) -> Result<Columns, AllocError>
         requires full { AreFull k self.now }
         requires within { length self.now.flags.items ≤ room }
@@ -137,7 +137,7 @@ impl Columns {
         }
     }
 
-    /// Puts a state behind the others, with `k` registers. There is room for it.
+    /// Appends a state of `k` registers. There must be room for it.
     #[inline(always)]
     pub(crate) fn push(&mut self, k: u8, state: &WState)
         requires { HaveRoom k 1 self.old }
@@ -152,8 +152,8 @@ impl Columns {
         self.flags.push_reserved(state.nzcv);
     }
 
-    /// Puts what each instruction leaves of a state behind the other states, for which there is room. Where that is what a sequence leaves of a state
-    /// at which the columns begin, these are what the sequence leaves with each instruction behind it.
+    /// Appends the state after each instruction, run from `from`; there must be room. Where `from` is what a sequence leaves of the start
+    /// state, these are the outcomes of the sequence with each instruction appended.
     pub(crate) fn push_extended<L: Ledger>(
         &mut self,
         k: u8,
@@ -178,7 +178,7 @@ impl Columns {
         }
     }
 
-    /// Puts what each sequence from a place on leaves, with each instruction behind it, behind the other outcomes. There is room for them.
+    /// Appends the outcomes of each sequence from a place on with each instruction appended. There must be room for them.
     pub(crate) fn push_length<L: Ledger>(
         &mut self,
         k: u8,

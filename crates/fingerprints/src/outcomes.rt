@@ -1,5 +1,5 @@
-//! The outcomes of all sequences of an alphabet from one state, by number. The sequences of one instruction more are, for each of the longest
-//! ones in order, each instruction behind it, so that a table grows by one step a sequence.
+//! The outcomes of all sequences of an alphabet from one state, by number. The sequences of the next length are each of the longest
+//! ones, in order, with each instruction appended, so that a table grows by one step a sequence.
 ghost use Rattle.std.specs.Prelude.{◌≡◌, ◌<◌, ◌≤◌, ◌+◌, IfOk, IfErr, OnOk, length, slice_get};
 ghost use Rattle.window_exec.specs.State.{values_of};
 ghost use Rattle.seq_enum.specs.Alphabet.{alphabet, sequences_of};
@@ -16,7 +16,7 @@ use step_ledger::{Ledger, Steps};
 use thumb_instr::{Instr, Mask, Seq};
 use window_exec::WState;
 
-/// What each sequence of at most so many instructions, over the first registers and a pool, leaves of one state: a column of words for each of
+/// What each sequence of at most `longest` instructions, over the first `k` registers and a pool, makes of one state: a column of words for each of
 /// these registers and a column of flags, in order of the sequences' numbers. With k registers that is 4 k + 1 bytes a sequence.
 #[derive(Drop)]
 pub struct Outcomes {
@@ -59,7 +59,7 @@ impl Outcomes {
         })
     }
 
-    /// How many registers.
+    /// How many registers the sequences may name.
     pub(crate) fn registers(&self) -> u8
         ensures value { result ≡ self.now.registers }
         ensures some { 0 < result }
@@ -107,7 +107,7 @@ impl Outcomes {
         Ok(())
     }
 
-    /// How many sequences have at most so many instructions.
+    /// How many sequences have at most `longest` instructions.
     pub fn count(&self, longest: u8) -> u64
         requires { longest ≤ 4 }
         ensures { result ≡ length (sequences_below self.now.alphabet (longest + 1)) }
@@ -122,7 +122,7 @@ impl Outcomes {
         sequence_of(&self.alphabet, number)
     }
 
-    /// The numbers below a limit, ascending, of the sequences after which each item of a mask is as in a state.
+    /// The numbers below a limit, in ascending order, of the sequences after which each item of a mask is as in `end`.
     pub fn agreeing(
         &self,
         alloc: Global,

@@ -1,4 +1,4 @@
-//! Prints of what sequences leave in states: a number of 64 bits, by which most sequences are told apart without comparing states.
+//! A print is a 64-bit hash of the states that a sequence ends in, by which most sequences are told apart without comparing states.
 
 ghost use Rattle.std.specs.Prelude.{◌≡◌, ℕ, ◌<◌, ◌≤◌, fold, map, bit_and, slice_index};
 ghost use Rattle.thumb_model.specs.Effect.{AreOver};
@@ -21,7 +21,7 @@ fn mixed(print: u64, word: u32) -> u64
     (print.rotate_left(5) ^ u64::from(word)).wrapping_mul(0x9E37_79B9_7F4A_7C15)
 }
 
-/// The print so far, with one more word where it is wanted.
+/// The print so far, with one more word if `wanted`.
 #[inline(always)]
 fn mixed_if(print: u64, wanted: bool, word: u32) -> u64
     ensures { result ≡ fold mixed print (one_if wanted word) }

@@ -1,5 +1,5 @@
-//! The prints of all sequences over an alphabet, along the tree of their beginnings: the columns
-//! after a beginning are kept while the sequences that go on from it are printed, so that a
+//! The prints of all sequences over an alphabet, along the tree of their prefixes: the columns
+//! after a prefix are kept while the sequences that extend it are printed, so that a
 //! sequence takes one step of each column.
 
 ghost use Rattle.std.specs.Prelude.{◌≡◌, true, ◌≤◌, ◌+◌, ◌++◌, ◌∷◌, [], map, IfOk, OnOk};
@@ -34,7 +34,7 @@ pub(crate) fn prints_within(
     Ok(prints)
 }
 
-/// Puts the prints of all sequences of this length behind the others.
+/// Appends the prints of all sequences of this length.
 fn print_length(
     alloc: Global,
     alphabet: &[Instr],
@@ -60,7 +60,7 @@ fn print_length(
     Ok(())
 }
 
-/// Puts the print of each instruction alone behind the others.
+/// Appends the print of each instruction alone, four at a time, since their mixing is independent.
 fn print_instrs(
     alphabet: &[Instr],
     columns: &[Column],

@@ -1,4 +1,4 @@
-//! Shifts of eight words at once, each by an amount of its own, with the carries that the manual gives.
+//! Shifts of eight words at once, by one amount or each by its own, with the carries that the manual gives.
 
 ghost use Rattle.std.specs.Prelude.{◌≡◌, ℕ, false, ◌<◌, ◌≤◌, ◌==◌, if◌then◌else◌, slice_index};
 ghost use Rattle.word_bits.specs.Word.{shift_of};
@@ -74,7 +74,7 @@ pub fn shift(kind: Shift, x: u32x8, n: u32x8, c: u32x8) -> Moved
     }
 }
 
-/// The value and the carry in where the lane of `n` is zero, and else what a shift made.
+/// The operand and the carry in where the lane of `n` is zero, and else the value and carry of a shift.
 #[inline(always)]
 fn kept_at_zero(n: u32x8, x: u32x8, c: u32x8, value: u32x8, out: u32x8) -> Moved
     ensures { (i : ℕ) → i < 8 → moved_at result i ≡ (if slice_index n i == 0 then (slice_index x i, set_at c i) else (slice_index value i, set_at out i)) }

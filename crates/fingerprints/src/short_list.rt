@@ -1,4 +1,4 @@
-//! The sequences that the first of some states doesn't tell from a left side.
+//! The few sequences that the first state doesn't tell from a left side: only these need be run on all states.
 ghost use Rattle.std.specs.Prelude.{◌≡◌, ◌≤◌, ◌+◌, IfOk, OnOk};
 ghost use Rattle.seq_enum.specs.Alphabet.{numbers_from};
 ghost use Rattle.step_ledger.specs.Counts.{RisesBy};
@@ -22,9 +22,9 @@ fn all_below(alloc: Global, limit: u64) -> Result<Vec<u64>, AllocError>
     Ok(numbers)
 }
 
-/// The numbers, ascending, of the sequences of at most `longest` instructions that the first of the trials doesn't tell from the left side in
-/// the items of a mask, where the table is of the state at which it starts. The table grows as long, with a step for each sequence that it
-/// gets. Where there are no trials, all are such, and the table stays as it is.
+/// The numbers, in ascending order, of the sequences of at most `longest` instructions that the first trial doesn't tell from the left side in
+/// the items of a mask; the table must be for that trial's start state. The table is grown to that length, with a step for each sequence that
+/// is added. Where there are no trials, all numbers are given, and the table stays as it is.
 pub fn candidates<L: Ledger>(
     alloc: Global,
     outcomes: &mut Outcomes,

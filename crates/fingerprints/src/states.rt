@@ -1,4 +1,4 @@
-//! The first 64 states of a table come from its seed alone, so that a table's text can be checked again anywhere.
+//! The first 64 states of a table are generated from its seed alone, so that an auditor can generate them again.
 ghost use Rattle.std.specs.Prelude.{◌≡◌, ◌<◌, map, IfOk};
 ghost use Rattle.window_exec.specs.State.{seen};
 ghost use Rattle.fingerprints.specs.Seeded.{next_state, seeded_states};
@@ -9,7 +9,7 @@ use rand_pcg::Lcg64Xsh32;
 use std::alloc::{AllocError, Global};
 use window_exec::{States, WState};
 
-/// The next state that the generator gives: four words for r0 to r3, and one whose low four bits are the flags.
+/// The next state from the generator: four words for r0 to r3, and one whose low four bits are the flags NZCV.
 fn next_state(rng: &mut Lcg64Xsh32) -> WState
     ensures value { seen result ≡ (next_state rng.old).0 }
     ensures after { rng.new ≡ (next_state rng.old).1 }

@@ -1,4 +1,4 @@
-//! The same instructions as for one state, over eight: what each computes is said once, in `window_exec`.
+//! One instruction on eight states: what it computes is defined once, in `window_exec`, for any kind of word.
 ghost use Rattle.std.specs.Prelude.{◌≡◌, ℕ, ◌<◌, true};
 ghost use Rattle.thumb_instr.specs.Window.{is_in_window, named, AreBelow};
 ghost use Rattle.thumb_model.specs.Effect.{after};

@@ -1,4 +1,4 @@
-//! AddWithCarry of eight pairs of words at once, with the flags that it leaves.
+//! AddWithCarry of the manual for eight pairs of words at once, with carry and overflow.
 
 ghost use Rattle.std.specs.Prelude.{◌≡◌, ℕ, ◌<◌, slice_index};
 ghost use Rattle.word_bits.specs.Word.{sum_of};

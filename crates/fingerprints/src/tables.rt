@@ -1,4 +1,4 @@
-//! One table of outcomes for each count of registers, kept while windows or entries are gone through.
+//! A cache of one table of outcomes for each number of registers, shared by all windows of a listing or all entries of a table.
 ghost use Rattle.std.specs.Prelude.{ℕ, ◌<◌, ◌≤◌, List, IfOk};
 ghost use Rattle.window_exec.specs.declared.state.WState.{WState as State};
 ghost use Rattle.fingerprints.specs.Tables.{AreTables, IsFor};
@@ -8,7 +8,7 @@ use seq_enum::Pool;
 use std::alloc::{AllocError, Global};
 use window_exec::WState;
 
-/// The tables that are kept: at most one for each count of registers from 1 to 4.
+/// The cached tables: at most one for each number of registers from 1 to 4.
 #[derive(Drop)]
 pub struct Tables {
     pub(crate) one: Option<Outcomes>,
@@ -30,7 +30,7 @@ impl Tables {
         }
     }
 
-    /// Takes out the table of the first `k` registers. Where none is kept, it is a new one.
+    /// Takes out the table of the first `k` registers, or a new one where none is cached.
     pub fn take(
         &mut self,
         alloc: Global,
@@ -56,7 +56,7 @@ impl Tables {
         }
     }
 
-    /// Keeps a table.
+    /// Puts a table back into the cache.
     pub fn put(&mut self, table: Outcomes)
         ensures { (pool : List ℕ) (start : State) → AreTables pool start self.old → IsFor table.registers pool start table → AreTables pool start self.new }
     {

@@ -1,4 +1,4 @@
-//! Sequences run from the listed states, beside what the left side leaves of each, which is worked out once.
+//! Sequences are run from all listed states and compared with the left side, whose end states are computed once.
 ghost use Rattle.std.specs.Prelude.{◌≡◌, ◌<◌, ◌≤◌, ◌+◌, ◌*◌, ◌↔◌, Any, IfOk, OnOk, IsTrue, length, map};
 ghost use Rattle.thumb_model.specs.Effect.{after_all, AreOver};
 ghost use Rattle.window_exec.specs.State.{values_of, seen, Differ};
@@ -10,14 +10,14 @@ use step_ledger::{Ledger, Steps};
 use thumb_instr::{Instr, Mask};
 use window_exec::{WState, differ, step};
 
-/// A listed state, and the state that the left side leaves of it.
+/// A listed state, and the state in which the left side, started in it, ends.
 #[derive(Clone, Copy)]
 pub struct Trial {
     pub start: WState,
     pub end: WState,
 }
 
-/// The registers and flags after instructions that may stand in a window and name r0 to r3 alone, with a step for each.
+/// The state after instructions of a window that name only r0 to r3. Each instruction counts one step.
 pub fn run<L: Ledger>(instrs: &[Instr], mut state: WState, steps: &mut Steps<L>) -> WState
     requires { AreOver 4 instrs.now }
     ensures end { values_of result ≡ after_all instrs.now (values_of state) }
@@ -30,7 +30,7 @@ pub fn run<L: Ledger>(instrs: &[Instr], mut state: WState, steps: &mut Steps<L>)
     state
 }
 
-/// Each of the states, with what the left side leaves of it, and a step for each instruction that is run.
+/// Each state with the left side's end state. Each instruction that is run counts one step.
 pub fn trials_of<L: Ledger>(
     alloc: Global,
     left: &[Instr],
@@ -50,8 +50,8 @@ pub fn trials_of<L: Ledger>(
     Ok(trials)
 }
 
-/// Whether a sequence leaves of some state, in some item of the mask, another value than the left side does. The states are tried from the
-/// last to the first: those that were found for a sequence alike tell most often.
+/// Whether from some state a sequence leaves a value other than the left side's in some item of the mask. The states are tried from the
+/// last to the first: those that were found for similar sequences tell most often.
 pub fn is_told<L: Ledger>(
     trials: &[Trial],
     instrs: &[Instr],

@@ -1,4 +1,4 @@
--- An accepted line keeps what makes the live clauses true.
+-- A model of the live clauses is one after each accepted line.
 use Rattle.std.proofs.Common.{◌≡◌, ℕ, ℤ, List, [], ◌∷◌, refl, sym, ◌∙◌, inl, inr, arith, Option, subst, Bool, true, false, Result, Ok, Err, map}
 use Rattle.std.specs.Prelude.{OnOk, OnErr, unsigned_abs, nat_eq}
 use Rattle.std.proofs.lemmas.Bool.{false≢true, cases_eq}

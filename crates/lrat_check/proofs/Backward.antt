@@ -1,4 +1,4 @@
--- A proof gone by from the first empty clause back: what was kept is used, and names nothing that isn't marked.
+-- The invariant of trimming, back from the first empty clause: each kept line is used, and each line that it names is marked.
 use Rattle.std.proofs.Common.{◌≡◌, ℕ, ◌+◌, ◌-◌, ◌<◌, ◌≤◌, List, [], ◌∷◌, length, get_or, map, refl, sym, ◌∙◌, ap, inl, inr, arith, subst, Bool, true, false, true≢false}
 use Rattle.std.specs.Prelude.{All, AllPairs, Contains, unsigned_abs}
 use Rattle.std.proofs.lemmas.Bool.{cases_eq, cases_order}

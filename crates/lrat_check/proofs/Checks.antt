@@ -1,4 +1,4 @@
--- A checker that has accepted the lines so far knows what they say, and refuses what they don't accept.
+-- The loop over a proof's lines: the checker's state agrees with the definition's, and so does its answer on each line.
 use Rattle.std.proofs.Common.{◌≡◌, ℕ, ◌+◌, ◌≤◌, ◌⊎◌, List, [], ◌∷◌, ◌++◌, length, take, drop, sym, ◌∙◌, ap, subst, arith, refl, inl, inr, map, slice_get, Option, Some, None, true, false, nat_eq, append_assoc}
 use Rattle.std.specs.Prelude.{Any, Contains, IsTrue, ◌↔◌, unsigned_abs}
 use Rattle.std.proofs.Math.Path.{fun_ext}
@@ -34,7 +34,7 @@ same_known a b h e = let f : a.live ≡ b.live = fun_ext h in λ i. record { liv
 pub begun_known : (clauses : List (List ℕ)) (state : State) → Starts clauses state → known_of state ≡ started clauses
 begun_known clauses state s = same_known (known_of state) (started clauses) s.live s.last
 
--- deleting by each id in turn leaves what is under no id
+-- deleting each id in turn leaves the clauses under all other ids
 left_all : (live : ℕ → Option (List ℕ)) (ids : List ℕ) (later : ℕ → Option (List ℕ)) → Deletes live ids later → (q : ℕ) → later q ≡ without_all live ids q
 left_all live [] later d = d
 left_all live (id ∷ ids) later d = left_all (without live id) ids later d.1
@@ -91,7 +91,7 @@ line_fault fault known n lines i line whole e rest p = rest.leads (Some (fault n
 pub line_end : {F : Type 0} (fault : ℕ → F) (known : Known) (n : ℕ) (lines : List Content) (i : ℕ) (whole : Option F → Type 0) → length lines ≤ i → LinesRest fault known n (drop i lines) whole → whole None
 line_end fault known n lines i whole h rest = rest.leads None (subst (λ ys. LinesVerdict fault known n ys None) (sym (drop_all i lines h)) tt)
 
--- lines that pass are all accepted, and the other way round
+-- lines pass just where all are accepted
 pub passed_accepted : {F : Type 0} (fault : ℕ → F) (known : Known) (n : ℕ) (lines : List Content) → LinesVerdict fault known n lines None → AllAccepted known lines
 passed_accepted fault known n [] p = tt
 passed_accepted fault known n (line ∷ lines) p = (p.0, passed_accepted fault (after_line known line) (n + 1) lines p.1)
@@ -103,7 +103,7 @@ accepted_passed fault known n (line ∷ lines) p = (p.0, accepted_passed fault (
 pub stopped_refused : {F : Type 0} (fault : ℕ → F) (known : Known) (n : ℕ) (lines : List Content) (f : F) → LinesVerdict fault known n lines (Some f) → AllAccepted known lines → ⊥
 stopped_refused fault known n lines f p a = let e : None ≡ Some f = (lines_one fault known n lines).same None (Some f) (accepted_passed fault known n lines a) p in absurd (cc)
 
--- what is counted for one line leaves what is due for those after it
+-- the cost of one line, and the bound left for those after it
 pub cost_at : (old : State) (content : Content) → cost_of old content ≡ line_cost (known_of old) content
 cost_at old (addition id literals hints) = refl
 cost_at old (deletion id ids) = refl

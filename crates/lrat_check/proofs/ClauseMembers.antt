@@ -21,7 +21,7 @@ members_unset clause i l b e h = (λ p. apart l p refl, λ p. apart (negated l) 
         let t : get_or clause c.0 l ≡ get_or clause c.0 m = get_or_default clause c.0 l m (omega arith) in
         h c.0 i l k b (ap variable_of (t ∙ sym s ∙ c.2) ∙ same ∙ ap variable_of e)
 
--- a literal that is no member leaves the clause no part
+-- a clause with a literal that is no member isn't contained
 pub part_missing : (members clause : List ℕ) (i l : ℕ) → i < length clause → l ≡ get_or clause i l → (Contains members l → ⊥) → All (Contains members) clause → ⊥
 part_missing members clause i l b e n h = n (subst (Contains members) (sym e) (h i l b))
 

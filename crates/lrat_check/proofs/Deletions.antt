@@ -1,4 +1,4 @@
--- Deleting ids in turn, where each is live and none comes twice.
+-- The loops that test and delete ids: each must be live, and none may come twice.
 use Rattle.std.proofs.Common.{◌≡◌, ◌≢◌, ℕ, ◌+◌, ◌<◌, ◌⊎◌, List, [], ◌∷◌, ◌++◌, length, get_or, take, drop, refl, sym, ◌∙◌, ap, inl, inr, arith, Option, None, subst, true, false, nat_eq, true≢false}
 use Rattle.std.specs.Prelude.{Contains, IsSome}
 use Rattle.std.proofs.lemmas.Bool.{cases_eq}
@@ -97,7 +97,7 @@ HasSeen-next old new ids i id b e u h =
 pub id_at : (ids : List ℕ) (i id n : ℕ) → i < length ids → id ≡ get_or ids i id → n ≡ id → get_or ids i 0 ≡ n
 id_at ids i id n b is e = get_or_default ids i 0 id b ∙ sym is ∙ sym e
 
--- what a deletion leaves, an id more
+-- what deletion leaves after one more id
 pub IsAfter-next : (live now later : ℕ → Option (List ℕ)) (ids : List ℕ) (i id : ℕ) → i < length ids → get_or ids i 0 ≡ id → ((q : ℕ) → later q ≡ without now id q) → IsAfter live (take i ids) now → IsAfter live (take (i + 1) ids) later
 IsAfter-next live now later ids i id b e r h =
     let f : take (i + 1) ids ≡ take i ids ++ id ∷ [] = take_more ids i 0 b ∙ ap (λ (x : ℕ). take i ids ++ x ∷ []) e in

@@ -1,4 +1,4 @@
--- Verdicts have one answer each.
+-- Each verdict has at most one answer.
 use Rattle.std.proofs.Common.{ℕ, ◌≡◌, ◌+◌, ◌∷◌, inl, inr, List, [], Option, Some, None, sym, ◌∙◌, ap, refl, Result, Ok, Err, IfErr}
 use Rattle.lrat_check.specs.Text.{Content}
 use Rattle.lrat_check.specs.Proofs.{Tests, Then, Passes, InTurn, Answers, Known, started, after_line, Accepts, LinesVerdict, HasEmpty, ProofVerdict}
@@ -53,7 +53,7 @@ pub proof_one : {F : Type 0} (fault : ℕ → F) (unfinished : F) (clauses : Lis
 proof_one fault unfinished clauses lines =
     then_one (LinesVerdict fault (started clauses) 1 lines) (Tests (HasEmpty clauses lines) unfinished) (lines_one fault (started clauses) 1 lines) (tests_one (HasEmpty clauses lines) unfinished)
 
--- where a verdict has no fault, a call that answers it gives Ok, or memory was wanted
+-- where a verdict has no fault, a call that answers it returns Ok, or memory didn't suffice
 pub passing_answers : {A F : Type 0} (memory : F) (verdict : Option F → Type 0) (r : Result A F) → IsOne verdict → verdict None → Answers memory r verdict → IfErr r (λ e. e ≡ memory)
 passing_answers memory verdict (Ok a) one p q = tt
 passing_answers memory verdict (Err e) one p (inl q) = q

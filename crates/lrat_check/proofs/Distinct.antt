@@ -1,4 +1,4 @@
--- Literals of distinct variables, one more at a time.
+-- The loops that test whether literals have distinct variables.
 use Rattle.std.proofs.Common.{◌≡◌, ◌≢◌, ℕ, ◌+◌, ◌<◌, List, length, get_or, take, map, sym, ◌∙◌, ap, arith}
 use Rattle.std.specs.Prelude.{All, Contains}
 use Rattle.std.proofs.lemmas.List.{take_more, length-take, length-map, get_or-map, get_or-take}

@@ -1,4 +1,4 @@
--- The additions of lines whose ids go up, up to the first of the empty clause.
+-- The additions up to the first empty clause, where ids ascend.
 use Rattle.std.proofs.Common.{◌≡◌, ℕ, ℤ, suc, ◌+◌, ◌-◌, ◌<◌, ◌≤◌, List, [], ◌∷◌, length, get_or, sym, ◌∙◌, inl, inr, arith, subst}
 use Rattle.std.specs.Prelude.{AllPairs, Contains}
 use Rattle.std.proofs.lemmas.List.Elements.{Contains-get_or}
@@ -27,7 +27,7 @@ ending_adds (addition n [] hints ∷ lines) id ids i = elim (head_or_tail (addit
 ending_adds (addition n (l ∷ ls) hints ∷ lines) id ids i = elim (head_or_tail (addition n (l ∷ ls) hints) (up_to_empty lines) (deletion id ids) i) [ inl e ↦ cc | inr j ↦ ending_adds lines id ids j ]
 ending_adds (deletion n ns ∷ lines) id ids i = ending_adds lines id ids i
 
--- the ids go up
+-- the ids ascend
 pub ending_above : (last : ℕ) (lines : List Content) → Ascends last lines → (x : Content) → Contains (up_to_empty lines) x → last < id_of x
 ending_above last lines a (addition id literals hints) i = ascends_to last lines id literals hints a (ending_in lines (addition id literals hints) i)
 ending_above last lines a (deletion id ids) i = absurd (ending_adds lines id ids i)

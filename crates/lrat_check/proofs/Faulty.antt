@@ -1,4 +1,4 @@
--- A line is accepted or has one fault.
+-- A line isn't both accepted and faulty, and has at most one fault.
 use Rattle.std.proofs.Common.{◌≡◌, ℕ, ℤ, ◌+◌, List, [], ◌∷◌, map, sym, ◌∙◌, ap, inl, inr, arith, Option, None, true, false, true≢false}
 use Rattle.std.specs.Prelude.{All, Any, IsSome, is_some, unsigned_abs}
 use Rattle.std.proofs.lemmas.List.Elements.{All-contains}

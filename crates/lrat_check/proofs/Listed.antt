@@ -1,4 +1,4 @@
--- Clauses that stand in the lists of their literals.
+-- The search by literals' lists finds each contained clause, and looks at no more than all clauses.
 use Rattle.std.proofs.Common.{◌≡◌, ◌≢◌, ℕ, ◌+◌, ◌<◌, ◌≤◌, ◌⊎◌, inl, inr, List, [], ◌∷◌, ◌++◌, length, get_or, take, set, sym, ◌∙◌, ap, subst, arith, refl, suc, Bool, true, false}
 use Rattle.std.specs.Prelude.{All, AllPairs, Any, Contains, Vec, sum_by, IsTrue, ◌↔◌}
 use Rattle.std.specs.Global.{Global}
@@ -43,7 +43,7 @@ looked_within lists members i h =
     let part : sum_by (λ l. sum_by length (under lists l)) (take i members) ≤ sum_by (λ l. sum_by length (under lists l)) members = sum_by-take-le (λ l. sum_by length (under lists l)) members i in
     omega (arith, all, part)
 
--- a look through the lists of the literals, one after another
+-- the loop through the lists of the literals
 module _ (lists : List (List (List ℕ))) (members literals : List ℕ) (i l : ℕ) (b : i < length literals) (e : l ≡ get_or literals i l) where
   pub list_fails : literals ≡ members → (IsNew (under lists l) members → ⊥) → All (λ m. IsNew (under lists m) members) members → ⊥
   list_fails q n h = n (subst (λ (m : ℕ). IsNew (under lists m) members) (sym e) (subst (All (λ m. IsNew (under lists m) members)) (sym q) h i l b))
@@ -60,7 +60,7 @@ module _ (lists : List (List (List ℕ))) (members literals : List ℕ) (i l : �
 pub all_looked : (lists : List (List (List ℕ))) (members literals : List ℕ) (i : ℕ) → length literals ≤ i → literals ≡ members → All (λ m. IsNew (under lists m) members) (take i literals) → All (λ m. IsNew (under lists m) members) members
 all_looked lists members literals i b q h = subst (All (λ m. IsNew (under lists m) members)) (take_all i literals b ∙ q) h
 
--- a clause that is part of the members stands in the list of one of them
+-- a clause that is contained in the members is in the list of one of them
 pub new_all_lists : (kept : ClauseLists) (clauses : List (List ℕ)) (members : List ℕ) → Holds kept clauses → kept.has_empty ≡ false → All (λ l. IsNew (under kept.lists l) members) members → IsNew clauses members
 new_all_lists kept clauses members h e n i d b part =
     elim (h.found i d b) [
@@ -77,14 +77,14 @@ pub new_each_list : (kept : ClauseLists) (clauses : List (List ℕ)) (members : 
 new_each_list kept clauses members h n i d b =
     All-weaker (Contains clauses) (λ c. All (Contains members) c → ⊥) (λ c has. All-contains (λ x. All (Contains members) x → ⊥) clauses c n has) (under kept.lists (get_or members i d)) (h.only (get_or members i d))
 
--- what is told by the lists of the members, and by an empty clause
+-- the answer by the members' lists, where there is no empty clause
 pub told_by_lists : (kept : ClauseLists) (clauses : List (List ℕ)) (members : List ℕ) (r : Bool) → kept.has_empty ≡ false → IsTrue r ↔ All (λ l. IsNew (under kept.lists l) members) members → Holds kept clauses → IsTrue r ↔ IsNew clauses members
 told_by_lists kept clauses members r e a h = (λ t. new_all_lists kept clauses members h e (a.0 t), λ n. a.1 (new_each_list kept clauses members h n))
 
 pub told_by_empty : (kept : ClauseLists) (clauses : List (List ℕ)) (members : List ℕ) (r : Bool) → kept.has_empty ≡ true → r ≡ false → Holds kept clauses → IsTrue r ↔ IsNew clauses members
 told_by_empty kept clauses members r e f h = (λ t. absurd (true≢false (sym t ∙ f)), λ n. absurd (new_no_empty kept clauses members h n e))
 
--- an empty clause besides
+-- an empty clause is added
 pub holds_empty : (kept later : ClauseLists) (clauses : List (List ℕ)) (clause : List ℕ) → clause ≡ [] → later.lists ≡ kept.lists → later.has_empty ≡ true → Holds kept clauses → Holds later (clauses ++ clause ∷ [])
 holds_empty kept later clauses clause z e t h = rw z (record {
   empty = (λ _. Contains-push clauses [], λ _. t);
@@ -110,7 +110,7 @@ module _ (earlier later : List (List (List ℕ))) (l : ℕ) (clause : List ℕ) 
   stays_found c (inl z) = inl z
   stays_found c (inr a) = inr (a.0, a.1, a.2, a.3, still_under a.1 c a.4)
 
--- a clause besides in the list of one of its literals
+-- a clause is added to the list of one of its literals
 pub holds_more : (kept later : ClauseLists) (clauses : List (List ℕ)) (clause : List ℕ) (l : ℕ) → later.has_empty ≡ kept.has_empty → Keeps kept.lists later.lists l clause → Contains clause l → Holds kept clauses → Holds later (clauses ++ clause ∷ [])
 holds_more kept later clauses clause l e k has h = record {
   empty = (

@@ -1,4 +1,4 @@
--- What is looked at while hints are gone by, from a place on.
+-- The literals looked at while hints are followed, from a place on.
 use Rattle.std.proofs.Common.{◌≡◌, ℕ, ◌+◌, ◌<◌, ◌≤◌, ◌⊎◌, List, [], ◌∷◌, ◌++◌, length, get_or, drop, refl, inl, inr, Option, Some, None, arith}
 use Rattle.std.proofs.lemmas.List.{drop_more, drop_all}
 use Rattle.clause_model.specs.Clauses.{AllFalse, IsUnit, IsOpen}
@@ -6,13 +6,13 @@ use Rattle.step_ledger.specs.Counts.{RisesBy}
 use Rattle.step_ledger.proofs.Rises.{stays, goes_on}
 use Rattle.lrat_check.specs.Costs.{LooksAt}
 
--- so much was looked at before, and what the rest of the hints look at comes to it
+-- what was looked at so far, plus what the remaining hints look at, is the whole
 pub record Looked (live : ℕ → Option (List ℕ)) (from hints later rest : List ℕ) (before after : ℕ) : Type 0 where
   pub done : ℕ
   pub rises : RisesBy before after done
   pub goes : (m : ℕ) → LooksAt live later rest m → LooksAt live from hints (done + m)
 
--- so much is looked at in all
+-- how much is looked at in all
 abbrev pub HasLooked : (ℕ → Option (List ℕ)) → List ℕ → List ℕ → ℕ → ℕ → Type 0
 HasLooked live from hints before after = (n : ℕ) × LooksAt live from hints n × RisesBy before after n
 

@@ -10,7 +10,7 @@ use Rattle.std.specs.List.Sorted.{IsBinarySearchResult}
 use Rattle.lrat_check.specs.Text.{Content, deletion, id_of}
 use Rattle.lrat_check.specs.Shown.{IsBefore, MarksNamed}
 
--- ids that go up stand once
+-- ascending ids occur once
 places_apart : (ids : List ℕ) (i j : ℕ) → AllPairs (λ id later. id < later) ids → i < length ids → j < length ids → get_or ids i 0 ≡ get_or ids j 0 → i ≡ j
 places_apart ids i j p b c e = elim (cases_order i j) [
   | inl s ↦ s
@@ -65,7 +65,7 @@ up_or_same ids p i j a b = elim (cases_order i j) [
   | inr (inr l) ↦ absurd (omega arith)
 ]
 
--- what the search for an id tells
+-- the result of the search for an id
 module _ (ids : List ℕ) (q : ℕ) (r : Result ℕ ℕ) (p : AllPairs (λ id later. id < later) ids) (s : IsBinarySearchResult (λ y. nat_cmp y q) ids r) where
   told : MatchResult r (λ i. (i < length ids) × (get_or ids i 0 ≡ q)) (λ i. (i ≤ length ids) × ((k : ℕ) → k < i → get_or ids k 0 < q) × ((k : ℕ) → i ≤ k → k < length ids → q < get_or ids k 0))
   told = searched ids q r s (up_or_same ids p)
@@ -81,7 +81,7 @@ module _ (ids : List ℕ) (q : ℕ) (r : Result ℕ ℕ) (p : AllPairs (λ id la
         | inr l ↦ let x : q < get_or ids k 0 = m.2 k l b in omega arith
       ]
 
--- the marks at the begin
+-- the marks at the start
 pub last_marked : (n k : ℕ) → 0 < n → k < n → (get_or (set (replicate n false) (n - 1) true) k false ≡ true → k + 1 ≡ n) × (k + 1 ≡ n → get_or (set (replicate n false) (n - 1) true) k false ≡ true)
 last_marked n k p b = (
   λ t. elim (cases_eq k (n - 1)) [

@@ -1,4 +1,4 @@
--- Additions in the order of their ids, and what an id means among them.
+-- The look-up of trimming finds the clause that an id names.
 use Rattle.std.proofs.Common.{◌≡◌, ℕ, ℤ, suc, ◌+◌, ◌-◌, ◌<◌, ◌≤◌, List, [], ◌∷◌, ◌++◌, length, get_or, map, drop, refl, sym, ◌∙◌, ap, inl, inr, arith, Some, None, subst, nat_eq, append_assoc, Bool, true, false, Vec, vec_len}
 use Rattle.std.specs.Prelude.{◌==◌, All, AllPairs, Contains}
 use Rattle.std.specs.Borrow.{Bor}
@@ -116,7 +116,7 @@ module _ (clauses : List (List ℕ)) (additions : List (Bor Addition)) (ids : Li
           subst (λ (n : ℕ). meant clauses (adds_of additions) n ≡ Some (get_or all place [])) (sym id_is ∙ f) (meant_origin clauses (adds_of additions) id literals up (inr (hints, i)) ∙ ap (λ (x : List ℕ). Some x) (sym at))
       go (deletion id ns) is within = absurd (adds_only additions id ns (subst (Contains (adds_of additions)) is (Contains-get_or (adds_of additions) place (deletion 0 []) within)))
 
--- the additions up to the first of the empty clause, found one after another
+-- the loop that finds the additions up to the first empty clause
 module _ (lines : List Line) (i : ℕ) (x : Line) (b : i < length lines) (is : x ≡ get_or lines i x) (line : Content) (e : content_of x ≡ line) (found : List Content) (h : found ++ up_to_empty (drop i (contents_of lines)) ≡ up_to_empty (contents_of lines)) where
   line_at : get_or (contents_of lines) i line ≡ line
   line_at = get_or-map content_of lines i x line b ∙ ap content_of (sym is) ∙ e

@@ -23,7 +23,7 @@ module _ {X : Type 0} (x : X) (xs : List X) where
   pub rest_of_pairs : (R : X → X → Type 0) → AllPairs R (x ∷ xs) → AllPairs R xs
   rest_of_pairs R h = λ i j d l b. h (suc i) (suc j) d (omega arith) (omega arith)
 
--- lists in one order that have the same elements are the same
+-- strictly ordered lists with the same elements are equal
 pub same_elements : {X : Type 0} (n : X → ℕ) (xs ys : List X) → AllPairs (λ x y. n x < n y) xs → AllPairs (λ x y. n x < n y) ys → ((z : X) → Contains xs z → Contains ys z) → ((z : X) → Contains ys z → Contains xs z) → xs ≡ ys
 same_elements n [] [] o p f g = refl
 same_elements n [] (y ∷ ys) o p f g = absurd (none_in y (g y (head_in y ys)))

@@ -1,4 +1,4 @@
--- A model of the formula makes the clauses true with which a checker begins, and so all that it accepts.
+-- A model of the formula satisfies the checker's first clauses, and so all clauses that it accepts.
 use Rattle.std.proofs.Common.{◌≡◌, ℕ, ◌+◌, ◌-◌, ◌*◌, ◌⊎◌, ℤ, List, [], ◌∷◌, map, refl, sym, ◌∙◌, inl, inr, arith, Option, Some, None, subst, Bool, true, false, zero, suc, true≢false, Result, Ok, Err}
 use Rattle.std.specs.Prelude.{All, Any, IfSome, IfOk, not, nat_eq, slice_get, ◌||◌, ◌&&◌, pos, negsuc}
 use Rattle.std.proofs.lemmas.Bool.{cases_eq}

@@ -1,4 +1,4 @@
--- The clauses still to come are new exactly where all are.
+-- For the loop over a log's clauses: the remaining ones are new just where all are.
 use Rattle.std.proofs.Common.{◌≡◌, ℕ, ◌+◌, ◌≤◌, List, [], ◌∷◌, ◌++◌, length, sym, subst, arith, ap}
 use Rattle.std.specs.Prelude.{sum_by}
 use Rattle.clause_model.specs.Clauses.{IsNew}
@@ -24,7 +24,7 @@ new_fault before clauses more clause whole e rest n w = n (subst (EachIsNew befo
 pub new_end : (before clauses : List (List ℕ)) (whole : Type 0) → clauses ≡ [] → NewRest before clauses whole → whole
 new_end before clauses whole e rest = rest.back (subst (EachIsNew before) (sym e) tt)
 
--- what is counted for one clause leaves what is due for those after it
+-- the cost of one clause, and the bound left for those after it
 pub newness_next : (before later clauses more : List (List ℕ)) (clause : List ℕ) (now next bound : ℕ) → clauses ≡ clause ∷ more → later ≡ before ++ clause ∷ [] → now + newness_cost before clauses ≤ bound → next ≤ now + sum_by length before → next + newness_cost later more ≤ bound
 newness_next before later clauses more clause now next bound e q h k =
     let s : newness_cost before clauses ≡ sum_by length before + newness_cost (before ++ clause ∷ []) more = ap (newness_cost before) e in

@@ -26,7 +26,7 @@ module _ (z : ℤ) (f : FitsSigned w64 z) (bs : List ℕ) (e : signed_decimal z 
   pub numeral_parses : {E : Type 0} (r : Result ℤ E) → ParsesSigned w64 10 bs r → r ≡ Ok z
   numeral_parses {E} r h = parse-signed_decimal w64 z bs r f (mag_small z f) (sym e) h
 
--- two numbers with one numeral
+-- two numbers with the same numeral are equal
 pub same_number : (y z : ℤ) (bs : List ℕ) → FitsSigned w64 y → FitsSigned w64 z → signed_decimal y ≡ bs → signed_decimal z ≡ bs → y ≡ z
 same_number y z bs f g d e = signed_decimal_injective y z (mag_small y f) (mag_small z g) (d ∙ sym e)
 

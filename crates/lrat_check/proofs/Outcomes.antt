@@ -46,14 +46,14 @@ module _ {E : Type 0} (id : ℕ) where
   other_outcome (Ok (Some line)) words n h = h
   other_outcome (Err x) words n h = tt
 
--- a line is told by its words as by its text
+-- a line is determined by its words as by its text
 pub text_outcome : (o : Option Line) (words : List (List ℕ)) (bytes : List ℕ) → words ≡ slice_split (λ b. eqb b 32) bytes
     → MatchOption o ((content : Content) → IsLine content → words_of content ≡ words → ⊥) (λ line. IsLine (content_of line) × (words_of (content_of line) ≡ words))
     → MatchOption o ((content : Content) → IsLine content → text_of content ≡ bytes → ⊥) (λ line. IsLine (content_of line) × (text_of (content_of line) ≡ bytes))
 text_outcome None words bytes s h = λ content g e. h content g (sym (split-text content g) ∙ ap (slice_split (λ b. eqb b 32)) e ∙ sym s)
 text_outcome (Some line) words bytes s h = (h.0, ap (join_with_byte 32) (h.1 ∙ s) ∙ join_with_byte-slice_split 32 bytes)
 
--- lines with one text are one
+-- lines with the same text are equal
 pub text_of-injective : (a b : Content) → IsLine a → IsLine b → text_of a ≡ text_of b → a ≡ b
 text_of-injective a b g h e =
     let words : words_of a ≡ words_of b = sym (split-text a g) ∙ ap (slice_split (λ b. eqb b 32)) e ∙ split-text b h in

@@ -1,4 +1,4 @@
--- The used part of lines that refute: it refutes, each of its lines is needed, it is its own used part, and there is one.
+-- The used part of a refutation refutes, each of its lines is needed, it is its own used part, and it is unique.
 use Rattle.std.proofs.Common.{◌≡◌, ℕ, ℤ, ◌<◌, ◌≤◌, ◌⊎◌, List, [], ◌∷◌, ◌++◌, length, get_or, map, take, refl, sym, ◌∙◌, ap, inl, inr, arith, Option, Some, subst, Bool, true, false, nat_eq, append_assoc}
 use Rattle.std.specs.Prelude.{All, AllPairs, Any, Contains, IsTrue, ◌↔◌, unsigned_abs}
 use Rattle.std.proofs.lemmas.Bool.{cases_eq}
@@ -37,7 +37,7 @@ live_same state id literals = let z : nat_eq id id ≡ true = grind (arith, nat_
 live_other : (state : State) (id : ℕ) (literals : List ℕ) (q : ℕ) → (q ≡ id → ⊥) → live_at (with_line state id literals) q ≡ live_at state q
 live_other state id literals q d = let z : nat_eq q id ≡ false = grind (arith, nat_tests) in rw z refl
 
--- the formula's clauses and those of the lines so far are live
+-- just the formula's clauses and those of the lines so far are live
 record Holds (clauses : List (List ℕ)) (state : State) (before : List Content) : Type 0 where
   pub formula : (q : ℕ) (c : List ℕ) → numbered clauses q ≡ Some c → live_at state q ≡ Some c
   pub added : (q : ℕ) (c : List ℕ) (hints : List ℤ) → Contains before (addition q c hints) → live_at state q ≡ Some c
@@ -65,7 +65,7 @@ Holds-next clauses state before id literals hints later h =
     }
 
 module _ (clauses : List (List ℕ)) (lines result : List Content) (r : IsRefutation clauses lines) (p : IsUsedPart clauses lines result) where
-  -- what a hint of a line of the result names is the formula's, or a line of the result adds it
+  -- a clause that a hint in the result names is the formula's, or a line of the result adds it
   result_origin : (line : Content) (q : ℕ) (c : List ℕ) → Contains result line → Contains (names_of line) q → Origin clauses lines q c → (numbered clauses q ≡ Some c) ⊎ ((hints : List ℤ) × Contains result (addition q c hints))
   result_origin line q c i k (inl e) = inl e
   result_origin line q c i k (inr (hints, j)) =
@@ -73,7 +73,7 @@ module _ (clauses : List (List ℕ)) (lines result : List Content) (r : IsRefuta
       let s = shortened clauses lines r q c hints j in
       inr (take s.0 hints, p.every (addition q c (take s.0 hints)) s.1 (named line o.0 o.1 k))
 
-  -- the hints that the line keeps end where it stood, and name what they name there
+  -- the hints that a line keeps suffice in the result too, and name the same clauses
   module _ (id : ℕ) (literals : List ℕ) (hints all : List ℤ) (n : ℕ) (i : Contains result (addition id literals hints)) (w : Contains lines (addition id literals all)) (s : Suffice (meant clauses lines) (lits literals) (map unsigned_abs all) n) (e : hints ≡ take n all) where
     names_are : map unsigned_abs hints ≡ take n (map unsigned_abs all)
     names_are = ap (map unsigned_abs) e ∙ sym (take-map unsigned_abs n all)
@@ -172,7 +172,7 @@ module _ (clauses : List (List ℕ)) (lines result : List Content) (r : IsRefuta
   pub part_named : EachIsNamed result
   part_named = names_rest result (λ m i. i) (λ y m i j b. j) p.in_order
 
-  -- it is its own used part
+  -- the used part is its own used part
   module _ (again : IsRefutation clauses result) where
     still_suffice : (id : ℕ) (literals : List ℕ) (hints : List ℤ) → Contains result (addition id literals hints) → Suffice (meant clauses result) (lits literals) (map unsigned_abs hints) (length hints)
     still_suffice id literals hints i =
@@ -213,7 +213,7 @@ module _ (clauses : List (List ℕ)) (lines result : List Content) (r : IsRefuta
       in_order = p.in_order;
     }
 
--- there is one
+-- the used part is unique
 pub part_once : (clauses : List (List ℕ)) (lines a b : List Content) → IsUsedPart clauses lines a → IsUsedPart clauses lines b → a ≡ b
 part_once clauses lines a b p q = same_elements id_of a b p.in_order q.in_order
     (λ z i. let o = All-contains (λ line. IsShortened clauses lines line × IsUsed clauses lines (id_of line)) a z p.only i in q.every z o.0 o.1)

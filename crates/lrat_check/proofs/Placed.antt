@@ -1,4 +1,4 @@
--- What is live where a line stands, and where it comes from.
+-- Which clauses are live when a line is checked, and that each comes from the formula or an earlier line.
 use Rattle.std.proofs.Common.{◌≡◌, ℕ, ℤ, ◌-◌, ◌<◌, ◌≤◌, ◌⊎◌, List, [], ◌∷◌, length, map, refl, sym, ◌∙◌, inl, inr, arith, Option, Some, None, subst, true, false, nat_eq}
 use Rattle.std.specs.Prelude.{All, Contains, unsigned_abs, slice_get}
 use Rattle.std.proofs.lemmas.Bool.{cases_eq}
@@ -77,7 +77,7 @@ module _ (clauses : List (List ℕ)) (lines : List Content) where
         start = omega arith;
       }
 
--- the state where a line that adds stands
+-- the state in which a line that adds a clause is checked
 pub record Placed (clauses : List (List ℕ)) (lines : List Content) (id : ℕ) (literals : List ℕ) (hints : List ℤ) : Type 0 where
   pub state : State
   pub tracks : Tracks clauses lines state
@@ -94,7 +94,7 @@ placed clauses lines (line ∷ rest) old new w t (next, a, more) id literals hin
   | inr j ↦ placed clauses lines rest next new (λ m k. w m (tail_in line rest m k)) (Tracks-next clauses lines old next line (w line (head_in line rest)) a t) more id literals hints j
 ]
 
--- the ids go up
+-- the ids ascend
 abbrev pub Ascends : ℕ → List Content → Type 0
 Ascends last [] = Unit {0}
 Ascends last (addition id literals hints ∷ lines) = (last < id) × Ascends id lines
@@ -116,7 +116,7 @@ ascends_to last (deletion n ids ∷ lines) id literals hints a i = elim (head_or
   | inr j ↦ ascends_to last lines id literals hints a j
 ]
 
--- what an id means
+-- the clause that an id names
 meant_added : (clauses : List (List ℕ)) (last : ℕ) (lines : List Content) (q : ℕ) (c : List ℕ) (hints : List ℤ) → Ascends last lines → Contains lines (addition q c hints) → meant clauses lines q ≡ Some c
 meant_added clauses last [] q c hints a i = absurd (none_in (addition q c hints) i)
 meant_added clauses last (addition n l h ∷ lines) q c hints a i = elim (head_or_tail (addition n l h) lines (addition q c hints) i) [

@@ -1,4 +1,4 @@
--- Words that are read one after another.
+-- The loop that reads words up to the `0`.
 use Rattle.std.proofs.Common.{◌≡◌, ℕ, ◌+◌, ◌-◌, ◌<◌, ◌≤◌, List, [], ◌∷◌, ◌++◌, length, get_or, take, drop, map, sym, ◌∙◌, ap, subst, arith, append_assoc, refl, true, not, Option, Some, None}
 use Rattle.std.specs.Prelude.{All, is_some}
 use Rattle.std.specs.List.{slice_split, count_by, position_or_len}
@@ -23,7 +23,7 @@ split_at_blank bytes n e b =
 pub split_no_blank : (bytes : List ℕ) (n : ℕ) → n ≡ position_or_len (λ b. eqb b 32) bytes → length bytes ≤ n → slice_split (λ b. eqb b 32) bytes ≡ bytes ∷ []
 split_no_blank bytes n e b = slice_split_none (λ c. eqb c 32) bytes (λ k d l. not-true (eqb (get_or bytes k d) 32) (prefix_len_passes (λ c. not (eqb c 32)) bytes k d (omega (arith, e, b, l))))
 
--- what is left has a word, where something is left
+-- the rest, if any, has a word
 some_left : (bytes : List ℕ) → slice_split (λ b. eqb b 32) bytes ≡ [] → ⊥
 some_left bytes e =
     let n : length (slice_split (λ b. eqb b 32) bytes) ≡ count_by (λ b. eqb b 32) bytes + 1 = length-slice_split (λ b. eqb b 32) bytes in
@@ -56,7 +56,7 @@ module _ {X : Type 0} (P : X → Type 0) (f : X → List ℕ) where
       let tail : before ++ w ∷ after ≡ map f zs ++ end_word ∷ more = cc in
       stops w before after more zs n u (All-tail (λ v. v ≡ end_word → ⊥) b before h) (All-tail P z zs k) tail
 
-  -- at a word that says nothing the list doesn't come to its end
+  -- at a word that isn't valid the list doesn't reach its end
   pub read_stops : (words left after : List (List ℕ)) (xs : List X) (w : List ℕ) → IsRead words xs left → left ≡ w ∷ after → (w ≡ end_word → ⊥) → ((x : X) → P x → f x ≡ w → ⊥) → (zs : List X) (more : List (List ℕ)) → All P zs → words ≡ map f zs ++ end_word ∷ more → ⊥
   read_stops words left after xs w h e n u zs more k q = stops w (map f xs) after more zs n u h.not_end k (ap (λ (ws : List (List ℕ)). map f xs ++ ws) (sym e) ∙ sym h.words' ∙ q)
 
@@ -65,6 +65,6 @@ module _ {X : Type 0} (P : X → Type 0) (f : X → List ℕ) where
       let same : map f xs ≡ map f zs ++ end_word ∷ more = sym (append-nil (map f xs)) ∙ ap (λ (ws : List (List ℕ)). map f xs ++ ws) (sym e) ∙ sym h.words' ∙ q in
       All-middle (λ v. v ≡ end_word → ⊥) (map f zs) end_word more (subst (All (λ v. v ≡ end_word → ⊥)) same h.not_end) refl
 
-  -- after the `0` of a list something is left
+  -- reading goes on after the `0` of a list
   pub read_on : (words left : List (List ℕ)) (xs zs : List X) → All (λ v. v ≡ end_word → ⊥) (map f xs) → words ≡ map f xs ++ end_word ∷ left → (left ≡ [] → ⊥) → All (λ v. v ≡ end_word → ⊥) (map f zs) → words ≡ map f zs ++ end_word ∷ [] → ⊥
   read_on words left xs zs h e n k q = n (split_unique end_word (map f xs) (map f zs) left [] h k (sym e ∙ q)).1

@@ -1,4 +1,4 @@
--- A verdict whose faults are told by other names.
+-- A verdict whose faults are renamed.
 use Rattle.std.proofs.Common.{ℕ, ◌+◌, ◌∷◌, inl, inr, List, [], Option, Some, None, ap}
 use Rattle.std.specs.Option.{option_map}
 use Rattle.lrat_check.specs.Text.{Content}

@@ -71,7 +71,7 @@ pub used_by : (clauses : List (List ℕ)) (lines : List Content) (q : ℕ) → I
 used_by clauses lines q (empty f) = inl f
 used_by clauses lines q (named line sh u c) = inr (line, sh, u, c)
 
--- the first empty clause among lines that refute
+-- the first empty clause in a refutation
 skipped : (line : Content) (lines : List Content) (id : ℕ) → ((q : ℕ) (hints : List ℤ) → line ≡ addition q [] hints → ⊥) → AddsFirstEmpty lines id → AddsFirstEmpty (line ∷ lines) id
 skipped line lines id n f = record {
   adds = (f.adds.0, tail_in line lines (addition id [] f.adds.0) f.adds.1);

@@ -1,4 +1,4 @@
--- An addition that was looked at, as one of the lines, and what the looks come to.
+-- The loop of trimming: one addition is looked at, shortened and kept, within the bound on steps.
 use Rattle.std.proofs.Common.{◌≡◌, ℕ, ℤ, ◌+◌, ◌-◌, ◌<◌, ◌≤◌, List, [], ◌∷◌, ◌++◌, length, get_or, map, take, reverse, replicate, set, refl, sym, ◌∙◌, ap, inl, inr, arith, Option, subst, Bool, true, false, true≢false, Vec, vec_len}
 use Rattle.std.specs.Prelude.{All, AllPairs, Contains, IsTrue, ◌↔◌, unsigned_abs}
 use Rattle.std.specs.Borrow.{Bor}
@@ -29,7 +29,7 @@ use Rattle.lrat_check.proofs.Marking.{ids_in_order, last_marked}
 use Rattle.lrat_check.proofs.Spending.{spent_within}
 use Rattle.lrat_check.proofs.Backward.{Going, Going-begun, next_only, next_order, ends}
 
--- the last line kept is the first of the lines when they are turned round
+-- the line kept last is the first of the reversed lines
 pub reverse_push : {X : Type 0} (xs : List X) (x : X) → reverse (xs ++ x ∷ []) ≡ x ∷ reverse xs
 reverse_push xs x = reverse-append xs (x ∷ [])
 
@@ -41,7 +41,7 @@ contents_turned (x ∷ xs) =
     ∙ ap (λ (ys : List Content). ys ++ content_of x ∷ []) (contents_turned xs)
     ∙ sym (reverse-append (content_of x ∷ []) (contents_of xs))
 
--- the additions of lines that refute have ids that go up, above those of the formula
+-- the additions of a refutation have ascending ids above those of the formula
 module _ (clauses : List (List ℕ)) (lines : List Content) (r : IsRefutation clauses lines) (additions : List (Bor Addition)) (e : adds_of additions ≡ up_to_empty lines) where
   same_ids : map (λ (a : Bor Addition). id_of (add_of a)) additions ≡ map id_of (up_to_empty lines)
   same_ids = ids_are additions ∙ ap (map id_of) e

@@ -25,7 +25,7 @@ take_lengths live zero hints = omega arith
 take_lengths live (suc n) [] = omega arith
 take_lengths live (suc n) (h ∷ hints) = let b : hint_lengths live (take n hints) ≤ hint_lengths live hints = take_lengths live n hints in omega arith
 
--- an addition of some of the lines, with its hints up to the one whose clause became false
+-- an addition of the lines, with its hints up to the one whose clause became false
 abbrev IsFrom : List (List ℕ) → List Content → List Content → Content → Type 0
 IsFrom clauses lines some (addition id literals hints) =
     (all : List ℤ) × (n : ℕ) × Contains some (addition id literals all) × Suffice (meant clauses lines) (lits literals) (map unsigned_abs all) n × (hints ≡ take n all)

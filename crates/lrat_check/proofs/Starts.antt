@@ -1,4 +1,4 @@
--- A checker begun with the clauses of a formula, one after another.
+-- The loop that makes a formula's clauses live when a checker begins.
 use Rattle.std.proofs.Common.{◌≡◌, ◌≢◌, ℕ, ◌+◌, ◌<◌, ◌≤◌, ◌⊎◌, List, [], ◌∷◌, ◌++◌, length, get_or, take, ◌-◌, length-append, refl, sym, ◌∙◌, inl, inr, arith, Option, Some, None, subst, Bool, false, true≢false}
 use Rattle.std.specs.Prelude.{Any, IsTrue, ◌↔◌, slice_get, nat_eq}
 use Rattle.std.proofs.lemmas.Bool.{cases_eq, cases_lt, eqb-true}

@@ -1,4 +1,4 @@
--- The first hints that refute, gone by one after another.
+-- The fewest first hints that suffice, as the loop over hints finds them.
 use Rattle.std.proofs.Common.{◌≡◌, ℕ, zero, suc, ◌+◌, ◌<◌, ◌≤◌, ◌⊎◌, List, [], ◌∷◌, ◌++◌, length, get_or, take, drop, refl, sym, ◌∙◌, ap, inl, inr, arith, Option, Some, None, subst}
 use Rattle.std.specs.Prelude.{Contains}
 use Rattle.std.proofs.lemmas.List.{length-take, drop_more}
@@ -94,7 +94,7 @@ module _ (live : ℕ → Option (List ℕ)) (a hints : List ℕ) where
   pub Suffice-once : (m n : ℕ) → Suffice live a hints m → Suffice live a hints n → m ≡ n
   Suffice-once m n s t = let x : m ≤ n = s.fewest n t.enough in let y : n ≤ m = t.fewest m s.enough in omega arith
 
--- what is looked at is what those hints name
+-- the literals looked at are those of the clauses that these hints name
 pub looked_lengths : (live : ℕ → Option (List ℕ)) (a hints : List ℕ) (n m : ℕ) → IsConsistent a → EndsAt live a hints n → LooksAt live a hints m → m ≡ hint_lengths live (take n hints)
 looked_lengths live a [] n m h r l = absurd r
 looked_lengths live a (q ∷ hints) n m h (c, e, s) (inl d) = let o : None ≡ Some c = sym d.0 ∙ e in cc
@@ -114,7 +114,7 @@ looked_lengths live a (q ∷ hints) n m h (c, e, s) (inr (d, g, t)) = go (λ b i
         let y : length d ≡ length c = ap length same in
         rw (k, e) (omega arith)
 
--- what the hints so far name has one length where they name the same
+-- where hints name the same clauses, the lengths are the same
 pub lengths_like : (live later : ℕ → Option (List ℕ)) (a hints : List ℕ) (n : ℕ) → ((q : ℕ) (clause : List ℕ) → live q ≡ Some clause → later q ≡ Some clause) → EndsAt live a hints n → hint_lengths live (take n hints) ≡ hint_lengths later (take n hints)
 lengths_like live later a [] n s r = absurd r
 lengths_like live later a (h ∷ hints) n s (c, e, inl (f, k)) = rw (k, e, s h c e) refl
@@ -135,7 +135,7 @@ module _ (live : ℕ → Option (List ℕ)) (from hints later : List ℕ) (i : �
       let s : i + suc m ≡ (i + 1) + m = omega arith in
       subst (EndsAt live from hints) s (h (suc m) (rw (drop_more hints i 0 b) (clause, e, inr (u, m, n, r, refl))))
 
--- what is looked at and what the rest of the hints name comes to no more than what the first hints name that end
+-- the literals looked at, with those that the remaining hints need, are no more than those of the fewest sufficient hints
 abbrev pub Spends : (ℕ → Option (List ℕ)) → List ℕ → List ℕ → List ℕ → List ℕ → ℕ → ℕ → Type 0
 Spends live from hints later rest before now = (n : ℕ) → EndsAt live from hints n → (k : ℕ) × EndsAt live later rest k × (now + hint_lengths live (take k rest) ≤ before + hint_lengths live (take n hints))
 

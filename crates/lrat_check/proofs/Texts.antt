@@ -1,4 +1,4 @@
--- Words with one blank between two, and what they are read as.
+-- Different lines have different texts, and how long a text is.
 use Rattle.std.proofs.Common.{◌≡◌, ℕ, ℤ, pos, negsuc, ◌+◌, ◌<◌, ◌≤◌, List, [], ◌∷◌, ◌++◌, get_or, map, take, length, length-append, refl, sym, ◌∙◌, ap, subst, arith, zero, suc, true, false, true≢false, w64, append_assoc, decimal}
 use Rattle.std.specs.Prelude.{All, FitsSigned}
 use Rattle.std.specs.Fmt.{signed_decimal}
@@ -87,7 +87,7 @@ end_is_zero = decimal_digit 0 (omega arith)
 pub literal_not_end : (l : ℕ) → l < 400000 → literal_text l ≡ end_word → ⊥
 literal_not_end l b e = number_of_differs l (same_number (number_of l) (pos 0) end_word (literal_fits l b) (omega arith) e end_is_zero)
 
--- where texts tell the parts, lists of texts tell the lists
+-- a text function that is injective is injective on lists
 pub map-injective : {X : Type 0} (P : X → Type 0) (f : X → List ℕ) → ((x y : X) → P x → P y → f x ≡ f y → x ≡ y) → (xs ys : List X) → All P xs → All P ys → map f xs ≡ map f ys → xs ≡ ys
 map-injective P f inj [] [] h k e = refl
 map-injective P f inj [] (y ∷ ys) h k e = cc
@@ -135,7 +135,7 @@ words_no_blank content h =
 pub split-text : (content : Content) → IsLine content → slice_split (λ b. eqb b 32) (text_of content) ≡ words_of content
 split-text content h = split-join (decimal (id_of content)) (middle_of content ++ end_word ∷ []) (words_no_blank content h)
 
--- where a word first stands is told by the words before it
+-- the words before the first occurrence of a word determine the split
 pub split_unique : (e : List ℕ) (xs ys us vs : List (List ℕ)) → All (λ w. w ≡ e → ⊥) xs → All (λ w. w ≡ e → ⊥) ys → xs ++ e ∷ us ≡ ys ++ e ∷ vs → (xs ≡ ys) × (us ≡ vs)
 split_unique e [] [] us vs h k q = (refl, cc)
 split_unique e [] (y ∷ ys) us vs h k q = let same : y ≡ e = cc in absurd (All-head (λ w. w ≡ e → ⊥) y ys k same)

@@ -1,9 +1,9 @@
--- A loop over a list has the answer of a verdict on the elements in turn, where what is left has it.
+-- For loops that test the elements of a list in turn: the verdict on the remaining elements is that on the whole.
 use Rattle.std.proofs.Common.{ℕ, ◌≡◌, ◌+◌, ◌∷◌, ◌⊎◌, inl, inr, List, Option, Some, None, slice_get, drop, sym, subst, [], zero, suc, arith}
 use Rattle.lrat_check.specs.Proofs.{Then, InTurn}
 use Rattle.cnf_gates.proofs.Text.{drop_from}
 
--- the answer of the elements still to come is the whole's
+-- an answer on the elements still to come is the whole's
 pub record Rest {X F : Type 0} (test : ℕ → X → Option F → Type 0) (m : ℕ) (xs : List X) (whole : Option F → Type 0) : Type 0 where
   pub leads : (o : Option F) → InTurn test m xs o → whole o
 
@@ -24,7 +24,7 @@ pub turn_failed : {X F : Type 0} (test : ℕ → X → Option F → Type 0) (m :
 turn_failed test m xs i x whole f g e rest (inl p) = inl p
 turn_failed test m xs i x whole f g e rest (inr p) = inr (turn_fault test m xs i x whole f e rest p)
 
--- where all pass, each does
+-- where all elements pass, each one does
 pub turn_each : {X F : Type 0} (test : ℕ → X → Option F → Type 0) (m : ℕ) (xs : List X) (i : ℕ) (x : X) → InTurn test m xs None → slice_get xs i ≡ Some x → test (m + i) x None
 turn_each test m [] i x p e = absurd (cc)
 turn_each test m (y ∷ xs) zero x p e =

@@ -40,7 +40,7 @@ clause_at-insert old new id v u = (
       clause_at-get new q ∙ ap (option_map (λ (c : Vec ℕ Global). c.items)) (u.2 q z) ∙ sym (clause_at-get old q),
 )
 
--- an entry less
+-- an entry removed
 pub clause_at-remove : (old new : LiveMap) (id q : ℕ) → UpdatesBy nat_eq (nat_eq id) old new None → clause_at new q ≡ without (clause_at old) id q
 clause_at-remove old new id q u =
     clause_at-get new q ∙ (rw (u.0 q) (elim (cases_eq q id) [

@@ -1,4 +1,4 @@
--- What a checker that holds the lines so far knows.
+-- What of a checker's state the verdicts on proofs depend on.
 use Rattle.lrat_check.specs.Checking.{State, live_at}
 use Rattle.lrat_check.specs.Proofs.{Known}
 

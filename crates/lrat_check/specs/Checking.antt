@@ -1,4 +1,4 @@
--- What a checker knows, and when it accepts a line.
+-- A checker's state, and when it accepts a line: the definition of a valid proof step.
 use Rattle.std.specs.Prelude.{ℕ, ℤ, ◌≡◌, ◌<◌, ◌⊎◌, ◌↔◌, Bool, false, List, [], All, Any, Option, IsTrue, map, unsigned_abs, length}
 use Rattle.clause_model.specs.Clauses.{ReverseUnitPropagation, SatisfiesLive, numbered}
 use Rattle.lrat_check.specs.Numbers.{is_negative}
@@ -46,7 +46,7 @@ pub record HoldsAt (v : ℕ → Bool) (state : State) : Type 0 where
   pub live : SatisfiesLive v (live_at state)
   pub standing : state.refuted ≡ false
 
--- the states that a checker comes to from the clauses with which it begins
+-- the states that are reachable by accepted lines from the clauses of a formula
 pub data Reached (clauses : List (List ℕ)) : State → Type 0 where
   begun : {state : State} → Starts clauses state → Reached clauses state
   accepted : {new : State} (old : State) (content : Content) → Reached clauses old → Accepts old content new → Reached clauses new

@@ -1,11 +1,11 @@
--- The additions by which a proof comes to the empty clause.
+-- The additions of a proof up to the first empty clause, as trimming holds them.
 use Rattle.std.specs.Prelude.{ℕ, List, [], ◌∷◌, Vec, map}
 use Rattle.std.specs.Borrow.{Bor}
 use Rattle.std.specs.Global.{Global}
 use Rattle.lrat_check.specs.declared.line.Addition.{Addition}
 use Rattle.lrat_check.specs.Text.{Content, addition, deletion}
 
--- what additions say
+-- an addition that the code borrows, as content
 abbrev pub add_of : Bor Addition → Content
 add_of a = addition a.now.id a.now.literals.items a.now.hints.items
 
@@ -16,7 +16,7 @@ adds_of additions = map add_of additions
 abbrev pub clause_of : Bor Addition → List ℕ
 clause_of a = a.now.literals.items
 
--- what slices of literals hold
+-- the values of borrowed slices
 abbrev pub slices_in : List (Bor (List ℕ)) → List (List ℕ)
 slices_in slices = map (λ (s : Bor (List ℕ)). s.now) slices
 

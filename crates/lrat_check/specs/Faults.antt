@@ -1,4 +1,4 @@
--- The first fault of a line.
+-- For which fault a line is refused: the first that it has, in a fixed order.
 use Rattle.std.specs.Prelude.{ℕ, ◌≡◌, ◌<◌, ◌≤◌, ◌⊎◌, true, false, All, Any, map, unsigned_abs}
 use Rattle.clause_model.specs.Clauses.{negated, Stop, dead, unfit, no_conflict, StopsAs}
 use Rattle.lrat_check.specs.declared.fault.LineFault.{LineFault}
@@ -12,7 +12,7 @@ fault_of (dead n) = Dead n
 fault_of (unfit n) = Unfit n
 fault_of no_conflict = NoConflict
 
--- The causes in their order; each but the first stands where those before it don't.
+-- The causes in their order; each but the first applies only where those before it don't.
 abbrev pub IsFaultOf : State → Content → LineFault → Type 0
 IsFaultOf old (addition id literals hints) fault =
     ((id ≤ old.last) × (fault ≡ Order))

@@ -1,8 +1,8 @@
--- Clauses in lists, each the list of a literal that its clauses have.
+-- Clauses grouped by one of their literals, in which the clauses contained in another one are looked for.
 use Rattle.std.specs.Prelude.{ℕ, ◌≡◌, ◌≢◌, ◌+◌, ◌≤◌, ◌++◌, ◌∷◌, ◌↔◌, ◌⊎◌, Bool, List, [], All, Any, Contains, IsTrue, Vec, length, map, slice_index_or, sum_by}
 use Rattle.std.specs.Global.{Global}
 
--- the lists by the codes of their literals, and whether there is an empty clause, which stands in none
+-- the lists by the codes of their literals, and whether there is an empty clause, which is in none
 pub record ClauseLists : Type 0 where
   pub lists : List (List (List ℕ))
   pub has_empty : Bool
@@ -15,14 +15,14 @@ listed lists = map (λ (list : Vec (List ℕ) Global). list.items) lists
 abbrev pub under : List (List (List ℕ)) → ℕ → List (List ℕ)
 under lists l = slice_index_or lists l []
 
--- each of the clauses that isn't empty stands in the list of one of its literals, and no other stands in a list
+-- each clause that isn't empty is in the list of one of its literals, and the lists have no other clause
 pub record Holds (kept : ClauseLists) (clauses : List (List ℕ)) : Type 0 where
   pub empty : IsTrue kept.has_empty ↔ Contains clauses []
   pub found : All (λ clause. (clause ≡ []) ⊎ Any (λ l. Contains (under kept.lists l) clause) clause) clauses
   pub only : (l : ℕ) → All (Contains clauses) (under kept.lists l)
   pub lengths : sum_by (sum_by length) kept.lists ≤ sum_by length clauses
 
--- the list of the literal has the clause besides, and the others are as they were
+-- the clause was added to the list of the literal, and the other lists are as before
 pub record Keeps (earlier later : List (List (List ℕ))) (l : ℕ) (clause : List ℕ) : Type 0 where
   pub here : under later l ≡ under earlier l ++ clause ∷ []
   pub others : (m : ℕ) → m ≢ l → under later m ≡ under earlier m

@@ -1,4 +1,4 @@
--- The live clauses, each with its id, in no order that means anything.
+-- The live clauses, each with its id, in an order without meaning: the view of the checker's hash map.
 use Rattle.std.specs.Prelude.{ℕ, ◌≡◌, ◌≢◌, List, Option, Some, Vec, nat_eq, map}
 use Rattle.std.specs.Global.{Global}
 use Rattle.std.specs.HashMap.{HashMap}
@@ -20,6 +20,6 @@ listed live = map (λ (e : ℕ × Vec ℕ Global). (e.0, e.1.items)) live.entrie
 abbrev pub clause_at : LiveMap → ℕ → Option (List ℕ)
 clause_at live = found_in (listed live)
 
--- later has the clause under the id, and otherwise what earlier has
+-- `later` has the clause under the id, and otherwise what `earlier` has
 abbrev pub Adds : (ℕ → Option (List ℕ)) → (ℕ → Option (List ℕ)) → ℕ → List ℕ → Type 0
 Adds earlier later id clause = (later id ≡ Some clause) × ((q : ℕ) → q ≢ id → later q ≡ earlier q)

@@ -1,3 +1,4 @@
+-- The numbers in the lines of a proof, ids, hints and literals, with their ranges.
 use Rattle.std.specs.Prelude.{ℕ, ℤ, pos, negsuc, ◌≢◌, ◌<◌, ◌^◌, Bool, true, false, List, All, unsigned_abs}
 
 abbrev pub is_negative : ℤ → Bool
@@ -8,7 +9,7 @@ is_negative (negsuc n) = true
 abbrev pub IsId : ℕ → Type 0
 IsId n = (0 < n) × (n < 2 ^ 32)
 
--- an id, or an id with a minus
+-- an id or its negative
 abbrev pub IsHint : ℤ → Type 0
 IsHint z = (z ≢ pos 0) × (unsigned_abs z < 2 ^ 32)
 

@@ -1,4 +1,4 @@
--- How many literals are looked at, at most, while proofs and logs are checked.
+-- Upper bounds on the literals looked at while proofs and logs are checked.
 use Rattle.std.specs.Prelude.{ℕ, ◌+◌, ◌++◌, List, [], ◌∷◌, length, map, sum_by, unsigned_abs}
 use Rattle.clause_model.specs.Clauses.{hint_lengths}
 use Rattle.lrat_check.specs.Text.{Content, addition, deletion}
@@ -13,7 +13,7 @@ abbrev pub lines_cost : Known → List Content → ℕ
 lines_cost known [] = 0
 lines_cost known (line ∷ lines) = line_cost known line + lines_cost (after_line known line) lines
 
--- the lengths of all clauses before each of the clauses
+-- for each of the clauses, the lengths of all clauses before it
 abbrev pub newness_cost : List (List ℕ) → List (List ℕ) → ℕ
 newness_cost before [] = 0
 newness_cost before (clause ∷ clauses) = sum_by length before + newness_cost (before ++ clause ∷ []) clauses

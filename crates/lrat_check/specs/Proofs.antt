@@ -1,4 +1,4 @@
--- Whole proofs and logs, and the verdicts on them.
+-- Whole proofs and logs, the verdicts on them, and the words by which all verdicts are put together.
 use Rattle.std.specs.Prelude.{ℕ, ◌≡◌, ◌⊎◌, ◌+◌, List, [], ◌∷◌, Option, Some, None, Result, Ok, Err, ℤ, ◌<◌, All, cond, false, nat_eq, length, map, unsigned_abs, ◌++◌, Any, ◌≢◌}
 use Rattle.std.specs.List.{flat_map}
 use Rattle.clause_model.specs.Clauses.{ReverseUnitPropagation, numbered, IsNew}
@@ -12,7 +12,7 @@ abbrev pub Tests : {F : Type 0} → Type 0 → F → Option F → Type 0
 Tests P e None = P
 Tests P e (Some f) = (f ≡ e) × (P → ⊥)
 
--- the first's fault, or where it has none the second's answer
+-- the first's fault, or where it has none, the second's answer
 abbrev pub Then : {F : Type 0} → (Option F → Type 0) → (Option F → Type 0) → Option F → Type 0
 Then first second None = first None × second None
 Then first second (Some f) = first (Some f) ⊎ (first None × second (Some f))
@@ -27,7 +27,7 @@ abbrev pub InTurn : {X F : Type 0} → (ℕ → X → Option F → Type 0) → �
 InTurn test n [] o = Passes o
 InTurn test n (x ∷ xs) o = Then (test n x) (InTurn test (n + 1) xs) o
 
--- what a call gives is the verdict's answer, or that memory was wanted
+-- a call's result is the verdict's answer, or the fault that memory didn't suffice
 abbrev pub Answers : {A F : Type 0} → F → Result A F → (Option F → Type 0) → Type 0
 Answers memory (Ok a) verdict = verdict None
 Answers memory (Err e) verdict = (e ≡ memory) ⊎ verdict (Some e)
@@ -52,18 +52,18 @@ abbrev pub without_all : (ℕ → Option (List ℕ)) → List ℕ → ℕ → Op
 without_all live [] = live
 without_all live (id ∷ ids) = without_all (without live id) ids
 
--- an added clause becomes live under its id, and deleted ones are live no more
+-- an added clause becomes live under its id, and deleted ones are no longer live
 abbrev pub after_line : Known → Content → Known
 after_line known (addition id literals hints) = record { live = with_clause known.live id literals; last = id }
 after_line known (deletion id ids) = record { live = without_all known.live ids; last = known.last }
 
--- the clause's id is above all before, no hint has a minus, and the clause follows by its hints
+-- the clause's id is above all before, no hint is negative, and the clause follows by its hints
 pub record AcceptsAddition (known : Known) (id : ℕ) (literals : List ℕ) (hints : List ℤ) : Type 0 where
   pub later : known.last < id
   pub no_minus : All (λ h. is_negative h ≡ false) hints
   pub follows : ReverseUnitPropagation known.live literals (map unsigned_abs hints)
 
--- an added clause is accepted as above, and deleted ones where each is live in its turn
+-- an addition is accepted as above, and a deletion where each of its ids is live in its turn
 abbrev pub Accepts : Known → Content → Type 0
 Accepts known (addition id literals hints) = AcceptsAddition known id literals hints
 Accepts known (deletion id ids) = Deletes known.live ids (without_all known.live ids)

@@ -1,4 +1,4 @@
--- What is read of a proof line's text, as the code holds it.
+-- What the reader of a proof's line holds: the words that are left, and a line made of them.
 use Rattle.std.specs.Prelude.{ℕ, ◌≡◌, ◌==◌, ◌++◌, ◌∷◌, List, [], Option, Some, None, map}
 use Rattle.std.specs.List.{slice_split}
 use Rattle.std.specs.Borrow.{Bor}
@@ -9,7 +9,7 @@ use Rattle.lrat_check.specs.Text.{content_of, middle_of, id_of, end_word, HasGoo
 abbrev pub all_now : List (Bor (List ℕ)) → List (List ℕ)
 all_now words = map (λ (w : Bor (List ℕ)). w.now) words
 
--- the words of what is left of a line, where something is
+-- the words of the rest of a line, if there is a rest
 abbrev pub words_left : Option (Bor (List ℕ)) → List (List ℕ)
 words_left None = []
 words_left (Some bytes) = slice_split (λ b. b == 32) bytes.now

@@ -1,4 +1,4 @@
-//! The checker itself. It keeps each live clause under its id and believes no line: a line is added only where its hints make its clause follow.
+//! The checker itself. It keeps each live clause under its id and trusts no line: a clause is added only where it follows by its hints.
 ghost use Rattle.std.specs.Prelude.{◌≡◌, ℕ, ◌+◌, ◌≤◌, ◌⊎◌, map, unsigned_abs, OnOk, OnErr, IfErr, IfOk, Bool, true, false, [], All, Any};
 ghost use Rattle.clause_model.specs.Clauses.{code_of, codes_of, negated, hint_lengths};
 ghost use Rattle.lrat_check.specs.Live.{clause_at, listed, Adds};
@@ -56,7 +56,7 @@ impl Checker {
     }
 
     /// Adds or deletes clauses as the line says, where each added clause follows from the live ones
-    /// by its hints, and each deleted one is live. After a fault the checker is as before. Each look at
+    /// by its hints, and each deleted one is live. A line with a fault changes nothing. Each look at
     /// a literal of a hint's clause is a step.
     pub fn add<L: Ledger>(&mut self, line: &Line, steps: &mut Steps<L>) -> Result<(), LineFault>
         ensures ok { OnOk result (Accepts self.old (content_of line.now) self.new) }
@@ -108,7 +108,7 @@ impl Checker {
 }
 
 impl Checker {
-    /// Adds a clause, and tells how many hints show it.
+    /// Adds a clause, and returns how many of its hints were needed.
     pub(crate) fn add_clause<L: Ledger>(
         &mut self,
         line: &Addition,

@@ -1,4 +1,4 @@
-//! Clauses as the checker holds them, and whether one is part of another, which is all that unit propagation and new clauses ask.
+//! Clauses as the test of new clauses keeps them, laid out so that whether one is contained in another is found quickly.
 ghost use Rattle.std.specs.Prelude.{◌≡◌, ℕ, ◌+◌, ◌≤◌, ◌↔◌, List, All, Contains, IsTrue, IfOk, length, sum_by};
 ghost use Rattle.step_ledger.specs.Counts.{RisesByAtLeast};
 ghost use Rattle.clause_model.specs.Clauses.{IsNew};
@@ -8,8 +8,8 @@ use std::alloc::{AllocError, Global};
 use std::marker::Model;
 use step_ledger::{Ledger, Steps};
 
-/// A clause. Its first literal stands beside the others, so that most clauses are seen to be no
-/// part of another without a look at the rest.
+/// A clause. Its first literal is stored apart from the others, so that most clauses are found not to be
+/// contained in another without a look at the rest.
 #[derive(Drop)]
 pub(crate) struct Clause {
     first: Option<Literal>,
@@ -58,7 +58,7 @@ impl Clause {
     }
 }
 
-/// Whether each of the clauses has a literal that is no member.
+/// Whether each of the clauses has a literal that is no member, so that none is contained.
 pub(crate) fn is_none_part<L: Ledger>(
     clauses: &[Clause],
     members: &Assignment,

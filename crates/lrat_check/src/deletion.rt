@@ -1,4 +1,4 @@
-//! Deletions only save memory. An id that isn't live is refused before anything is deleted, so that a refused line changes nothing.
+//! Deletions, which only save memory. All ids are tested before anything is deleted, so that a refused line changes nothing.
 ghost use Rattle.std.specs.Prelude.{ℕ, IfOk, MatchOption, Option, List};
 ghost use Rattle.lrat_check.specs.Live.{clause_at};
 ghost use Rattle.lrat_check.specs.Text.{Deletes, DeadAt, IsAfter};
@@ -8,7 +8,7 @@ use clause_model::Literal;
 use std::alloc::{AllocError, Global};
 use std::collections::{HashMap, HashSet};
 
-/// The place of the first id that isn't live in its turn, counted from 1.
+/// The place, counted from 1, of the first id that isn't live or stood before in the list.
 pub fn find_dead(
     alloc: Global,
     live: &HashMap<u64, Vec<Literal>>,

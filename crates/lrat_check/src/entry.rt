@@ -1,4 +1,4 @@
-//! The three kinds of numbers in a line are read and written by one trait, since their texts differ in limits and signs alone.
+//! The numbers of a line, ids, hints and literals, are read and written by one trait, since their texts differ only in limits and signs.
 ghost use Rattle.std.specs.Prelude.{◌≡◌, ◌<◌, ◌≤◌, ◌+◌, ◌^◌, ℕ, ℤ, List, ◌++◌, map, length, decimal, All, MatchOption, OnOk, IsTrue, ◌↔◌, FitsSigned};
 ghost use Rattle.std.specs.Int.{w64};
 ghost use Rattle.std.specs.Fmt.{signed_decimal};
@@ -18,7 +18,7 @@ pub trait ProofNumber: Copy {
 
     ghost can_write: { Self → Type 0 };
 
-    /// What the word says, if it is one that can stand in a line.
+    /// The value of the word, if it is one that may be in a line.
     fn read(word: &[u8]) -> Option<Self>
         ensures { MatchOption result ((x : Self) → can_stand x → text x ≡ word.now → ⊥) (λ x. can_stand x × (text x ≡ word.now)) };
 
@@ -133,7 +133,7 @@ impl ProofNumber for Hint {
     }
 }
 
-/// The literal that a number names, if it is by one of the variables that there may be.
+/// The literal that a number names, if its variable is one of the first 200,000.
 fn literal(number: i64) -> Option<Literal>
     ensures { MatchOption result ((l : ℕ) → l < 400000 → number_of l ≡ number → ⊥) (λ l. (l < 400000) × (number_of l ≡ number)) }
 {
@@ -170,7 +170,7 @@ impl ProofNumber for Literal {
     }
 }
 
-/// Writes the words, and a blank after each.
+/// Writes the words, each followed by a blank.
 pub fn write_all<E: ProofNumber>(entries: &[E], out: &mut Vec<u8>) -> Result<(), AllocError>
     requires { All E.can_write entries.now }
     ensures { OnOk result (out.new.items ≡ out.old.items ++ spaced (map E.text entries.now)) }
@@ -182,7 +182,7 @@ pub fn write_all<E: ProofNumber>(entries: &[E], out: &mut Vec<u8>) -> Result<(),
     Ok(())
 }
 
-/// How many bytes the words have with a blank after each, and those before them; None where that isn't below 2^64.
+/// `before`, plus the number of bytes of the words with a blank after each; None where that isn't below 2^64.
 #[tactic(auto, using(crate::proofs::Texts::some_words))]
 pub fn length_of_all<E: ProofNumber>(before: u64, entries: &[E]) -> Option<u64>
     requires { All E.can_write entries.now }

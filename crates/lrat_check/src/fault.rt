@@ -1,4 +1,4 @@
-//! Why a line is refused, by what was the first to fail.
+//! Why a line is refused: the first of its tests that fails.
 ghost use Rattle.std.specs.Prelude.{◌≡◌};
 
 use std::alloc::{AllocError, AllocFailed};
@@ -8,11 +8,11 @@ use std::alloc::{AllocError, AllocFailed};
 pub enum LineFault {
     /// The id of an added clause isn't greater than every id before.
     Order,
-    /// A hint has a minus.
+    /// A hint is negative, as RAT steps have it; these aren't supported.
     Rat,
     /// No live clause has the id at this place among the hints, or among the ids to delete.
     Dead(usize),
-    /// The clause that the hint at this place names isn't all false but for one unset literal.
+    /// The clause that the hint at this place names is neither false nor unit.
     Hint(usize),
     /// No hint's clause became false.
     NoConflict,

@@ -1,5 +1,5 @@
-//! A log of a search that spent its budget has to add clauses that are each new. Kept are all clauses, deleted ones too, since a log could else add one
-//! clause for ever.
+//! A log of a search that spent its budget must add only new clauses. All clauses are kept, deleted ones too, since a log could else add one
+//! clause again and again.
 ghost use Rattle.std.specs.Prelude.{◌≡◌, ℕ, ◌+◌, ◌≤◌, ◌++◌, ◌∷◌, ◌↔◌, List, [], IsTrue, IfOk, OnOk, length, sum_by};
 ghost use Rattle.step_ledger.specs.Counts.{RisesByAtLeast};
 ghost use Rattle.clause_model.specs.Clauses.{codes_of, HasDistinctVariables, IsNew};
@@ -47,7 +47,7 @@ impl KeptClauses {
         })
     }
 
-    /// Adds a clause that contains none of those so far; one that does isn't added.
+    /// Adds a clause if it contains none of those so far; the answer is whether it was added.
     pub fn add_new<L: Ledger>(
         &mut self,
         clause: &[Literal],
@@ -69,7 +69,7 @@ impl KeptClauses {
     }
 }
 
-/// Whether the clause contains none of those kept, begun with no member.
+/// Whether the clause contains none of those kept. `members` is empty at the start, and has the clause's literals at the end.
 fn is_new<L: Ledger>(
     lists: &Lists,
     clause: &[Literal],
@@ -86,7 +86,7 @@ fn is_new<L: Ledger>(
     Ok(lists.is_new(members, steps))
 }
 
-/// Makes the literals of the clause the members.
+/// Makes the literals of the clause the members, of which there were none.
 fn take_members(clause: &[Literal], members: &mut Assignment) -> Result<(), AllocError>
     requires empty { members.old ≡ [] }
     requires distinct { HasDistinctVariables clause.now }

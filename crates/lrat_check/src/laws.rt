@@ -11,7 +11,7 @@ ghost use Rattle.lrat_check.specs.declared.fault.LineFault.{LineFault};
 ghost use Rattle.lrat_check.specs.Proofs.{ProofVerdict};
 ghost use Rattle.lrat_check.specs.declared.proof_fault.ProofFault.{ProofFault};
 
-/// A formula from whose clauses a checker comes to be refuted has no model.
+/// A formula from whose clauses accepted lines lead to an empty clause has no model.
 pub fn refuted_formulas_have_no_model()
     ensures { (clauses : List (List ℤ)) (state : State) → Reached (codes_of clauses) state → state.refuted ≡ true → (v : ℕ → Bool) → all_true v clauses ≡ true → ⊥ }
 {}
@@ -22,7 +22,7 @@ pub fn lines_have_one_outcome()
     ensures refused { (old : State) (content : Content) (f g : LineFault) → HasGoodParts content → IsFaultOf old content f → IsFaultOf old content g → f ≡ g }
 {}
 
-/// Lines that say different things have different texts: what was written is read back.
+/// Different lines have different texts, so what was written is read back.
 pub fn texts_tell_lines_apart()
     ensures { (a b : Content) → IsLine a → IsLine b → text_of a ≡ text_of b → a ≡ b }
 {}
@@ -32,7 +32,7 @@ pub fn lines_have_one_trimming()
     ensures { (clauses : List (List ℕ)) (lines a b : List Content) → IsTrimmed clauses lines a → IsTrimmed clauses lines b → a ≡ b }
 {}
 
-/// Of lines that refute, the trimmed ones refute too, a hint of a later one names each but the last, and trimmed again they stay as they are.
+/// A trimmed refutation refutes too; each of its lines but the last is named by a later hint; and trimming it again changes nothing.
 pub fn trimmed_lines_are_needed()
     ensures refute { (clauses : List (List ℕ)) (lines trimmed : List Content) → IsRefutation clauses lines → IsTrimmed clauses lines trimmed → IsRefutation clauses trimmed }
     ensures named { (clauses : List (List ℕ)) (lines trimmed : List Content) → IsRefutation clauses lines → IsTrimmed clauses lines trimmed → EachIsNamed trimmed }

@@ -1,5 +1,5 @@
 //! Proofs in the text format LRAT, and a checker that accepts only clauses that follow; whole proofs
-//! that formulas have no model, and logs of searches that spent their budgets.
+//! that a formula has no model, and logs of searches that spent their budget.
 #![tactic(auto)]
 
 mod checker;

@@ -1,4 +1,4 @@
-//! Ids, hints and literals are types of their own, so that none can stand in another's place.
+//! A proof's lines as data. Ids, hints and literals are distinct types, so that none can be used in another's place.
 ghost use Rattle.std.specs.Prelude.{◌≡◌, ℕ, ℤ, pos, ◌<◌, unsigned_abs, MatchOption};
 ghost use Rattle.lrat_check.specs.Numbers.{is_negative, IsId, IsHint, AllWithin};
 ghost use Rattle.clause_model.specs.Clauses.{HasDistinctVariables};
@@ -34,7 +34,7 @@ impl Id {
         Id { number }
     }
 
-    /// The id that a number is, unless it is below 1 or has more than 32 bits.
+    /// The id with this number, unless it is below 1 or has more than 32 bits.
     pub fn from_number(number: i64) -> Option<Self>
         ensures { MatchOption result ((n : ℕ) → IsId n → pos n ≡ number → ⊥) (λ id. IsId id × (pos id ≡ number)) }
     {
@@ -53,7 +53,7 @@ impl Id {
     }
 }
 
-/// The id of a clause that is to be used next, or that with a minus, which no checked proof has.
+/// The id of the clause to be used next, or its negative, which the checker refuses.
 #[derive(Clone, Copy, Debug, PartialEq, Eq)]
 pub struct Hint {
     number: i64,
@@ -79,7 +79,7 @@ impl Hint {
         }
     }
 
-    /// The hint that a number is, unless it is 0 or has more than 32 bits.
+    /// The hint with this number, unless it is 0 or its absolute value has more than 32 bits.
     pub fn from_number(number: i64) -> Option<Self>
         ensures { MatchOption result ((z : ℤ) → IsHint z → z ≡ number → ⊥) (λ h. IsHint h × (h ≡ number)) }
     {
@@ -122,14 +122,14 @@ pub struct Addition {
     ghost distinct: { HasDistinctVariables literals.items },
 }
 
-/// A line that deletes clauses. Its own id has no meaning.
+/// A line that deletes clauses. Its own id is read and written, but has no meaning.
 #[derive(Drop)]
 pub struct Deletion {
     pub id: Id,
     pub ids: Vec<Id>,
 }
 
-/// A line of a proof. No variable stands twice in it.
+/// A line of a proof. An added clause has no variable twice.
 #[derive(Drop)]
 pub enum Line {
     Addition(Addition),

@@ -1,4 +1,4 @@
-//! Clauses in lists by their literals, so that those which another contains are looked for among few.
+//! Clauses in lists by one of their literals, so that only a few are tested for being contained in another.
 ghost use Rattle.std.specs.Prelude.{◌≡◌, ℕ, ◌+◌, ◌^◌, ◌<◌, ◌≤◌, ◌++◌, ◌∷◌, ◌↔◌, List, [], All, Contains, IsTrue, OnOk, MatchOption, length, sum_by};
 ghost use Rattle.step_ledger.specs.Counts.{RisesByAtLeast};
 ghost use Rattle.clause_model.specs.Clauses.{IsNew};
@@ -10,8 +10,8 @@ use std::alloc::{AllocError, Global};
 use std::marker::Model;
 use step_ledger::{Ledger, Steps};
 
-/// Clauses, each in the list of one of its literals. What contains a clause has that literal, so
-/// that a look through the lists of its own literals finds it.
+/// Clauses, each in the list of one of its literals. A clause that contains it has that literal too, so
+/// a search through the lists of the larger clause's literals finds it.
 #[derive(Drop)]
 pub(crate) struct Lists {
     alloc: Global,
@@ -111,7 +111,7 @@ fn grow(alloc: Global, lists: &mut Vec<Vec<Clause>>, at: usize) -> Result<(), Al
     Ok(())
 }
 
-/// Whether no list of a member has a clause all of whose literals are members.
+/// Whether in the lists of all members no clause has only members as literals.
 fn is_new_among<L: Ledger>(
     lists: &[Vec<Clause>],
     members: &Assignment,

@@ -1,5 +1,5 @@
-//! An open name isn't proved to differ, so its log is the evidence that the search was really made: as many lines as the budget allows, each of which
-//! follows.
+//! Nothing is proved of a sequence that is named open, so its log is the evidence that the search was made: as many clauses as the budget allows, each new,
+//! each of which follows.
 ghost use Rattle.std.specs.Prelude.{◌≡◌, ◌+◌, ◌≤◌, ◌∷◌, ◌↔◌, [], IsTrue, IfOk, IfSome, MatchOption, Option};
 ghost use Rattle.step_ledger.specs.Counts.{RisesByAtLeast};
 ghost use Rattle.clause_model.specs.Clauses.{codes_of, HasDistinctVariables};

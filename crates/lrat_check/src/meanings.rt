@@ -1,5 +1,5 @@
-//! The clauses that the ids in a proof mean: those of the formula, and those that its additions add. What is deleted keeps its meaning, so no
-//! addition's clause is copied or moved, and each is found at its place.
+//! The clause that each id in a proof names, in the formula or among the additions. Deletions are ignored, so no
+//! addition's clause is copied or moved: trimming looks them up here.
 ghost use Rattle.std.specs.Prelude.{◌≡◌, ℕ, ◌<◌, All, AllPairs, IfOk, IfSome, IsTrue, MatchOption, Some, None, ◌↔◌, length, map, slice_index_or};
 ghost use Rattle.clause_model.specs.Clauses.{codes_of, numbered};
 ghost use Rattle.lrat_check.specs.Text.{id_of, HasEmpty};
@@ -26,7 +26,7 @@ pub(crate) struct Meanings<'a> {
 }
 
 impl<'a> Meanings<'a> {
-    /// The additions have ids above the number of the formula's clauses, and they go up.
+    /// The additions' ids must ascend and be above the number of the formula's clauses.
     pub(crate) fn new(
         alloc: Global,
         given: Vec<Vec<Literal>>,
@@ -58,7 +58,7 @@ fn ids_of(alloc: Global, additions: &[&Addition]) -> Result<Vec<u64>, AllocError
         .collect(alloc)
 }
 
-/// The clauses of additions, side by side, where they are found in fewer steps than by the additions.
+/// The clauses of additions in one vector, which saves an indirection at each look-up.
 fn clauses_of<'a>(
     alloc: Global,
     additions: &[&'a Addition],
@@ -111,7 +111,7 @@ fn given_at(given: &[Vec<Literal>], number: u64) -> Option<&[Literal]>
     }
 }
 
-/// The place of an id among those that go up. Ids that follow one another without a gap need no search, nor does one below all.
+/// The place of an id among ascending ones. Consecutive ids need no search, nor does an id below all.
 pub(crate) fn place_of(ids: &[u64], id: u64) -> Option<usize>
     ensures within { IfSome result (λ place. place < length ids.now) }
     ensures place { AllPairs (λ id later. id < later) ids.now → MatchOption result ((k : ℕ) → k < length ids.now → slice_index_or ids.now k 0 ≡ id → ⊥) (λ place. (place < length ids.now) × (slice_index_or ids.now place 0 ≡ id)) }

@@ -1,4 +1,4 @@
-//! A whole proof: its lines in turn, and that they come to the empty clause.
+//! A whole proof is accepted where its lines are accepted in turn and one clause is empty.
 ghost use Rattle.std.specs.Prelude.{◌≡◌, ℕ, ◌+◌, ◌≤◌, ◌↔◌, ◌⊎◌, IsTrue, IfOk, OnOk, Bool, true};
 ghost use Rattle.cnf_gates.specs.Meaning.{all_true};
 ghost use Rattle.clause_model.specs.Clauses.{codes_of};
@@ -36,7 +36,7 @@ pub fn check_proof<L: Ledger>(
     }
 }
 
-/// A checker that has accepted the lines in turn, or the first that it doesn't accept.
+/// A checker that has accepted the lines in turn, or the first line that it doesn't accept.
 pub(crate) fn check_lines<L: Ledger>(
     alloc: Global,
     formula: &Formula,
@@ -57,7 +57,7 @@ pub(crate) fn check_lines<L: Ledger>(
     Ok(checker)
 }
 
-/// The fault of a proof whose line of this number has the one given.
+/// A line's fault, reported as a fault of the proof with the line's number.
 fn fault_at(number: u64, fault: LineFault) -> ProofFault
     ensures { ((fault ≡ LineFault.Memory) × (result ≡ ProofFault.Memory)) ⊎ ((fault ≡ LineFault.Memory → ⊥) × (result ≡ ProofFault.Line number)) }
 {

@@ -1,4 +1,4 @@
-//! The one rule of proof, reverse unit propagation by hints: no search, so a line takes as long as the clauses that it names.
+//! The one rule of proof, reverse unit propagation by hints. There is no search, so the time for a line is linear in the clauses that it names.
 ghost use Rattle.std.specs.Prelude.{◌≡◌, ℕ, ◌+◌, ◌≤◌, ◌⊎◌, List, Option, Some, None, map, take, unsigned_abs, MatchOption, OnOk, IfErr, IfOk, [], length};
 ghost use Rattle.clause_model.specs.Clauses.{negated, HasDistinctVariables, Refutes, ReverseUnitPropagation, Stop, StopsAs, hint_lengths};
 ghost use Rattle.clause_model.specs.Standings.{StandsAs};
@@ -52,7 +52,7 @@ fn counted_standing_of<L: Ledger>(
     standing
 }
 
-/// Goes by the hints in order until a clause is false, and tells how many it went by.
+/// Follows the hints in order until a clause is false, and returns how many it used.
 fn refute<C: Clauses, L: Ledger>(
     live: &C,
     hints: &[Hint],
@@ -94,7 +94,7 @@ fn assume_false(literals: &[Literal], assignment: &mut Assignment) -> Result<(),
     Ok(())
 }
 
-/// Whether the clause follows by its hints, begun with no literal true, and by how many of them.
+/// Whether the clause follows by its hints, and how many of them were used. The assignment must be empty at first, and isn't cleared at the end.
 pub fn check<C: Clauses, L: Ledger>(
     live: &C,
     literals: &[Literal],

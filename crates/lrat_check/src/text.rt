@@ -1,4 +1,4 @@
-//! Lines as the common text form has them, read word by word where they lie, so that a long line needs no list of its words.
+//! Reading and writing a proof's line in the LRAT text format. Words are read in place, so that a long line needs no list of its words.
 ghost use Rattle.std.specs.Prelude.{◌≡◌, ◌≢◌, ℕ, ℤ, List, [], ◌∷◌, ◌++◌, ◌==◌, ◌≤◌, ◌+◌, ◌^◌, map, length, decimal, All, Any, MatchOption, OnOk, IfOk, IsTrue, ◌↔◌, true, false};
 ghost use Rattle.std.specs.Fmt.{signed_decimal};
 ghost use Rattle.std.specs.List.{slice_split};
@@ -15,7 +15,7 @@ use cnf_gates::Memory;
 use std::alloc::{AllocError, Global};
 use std::collections::HashSet;
 
-/// The line whose text the bytes are, without the newline. None where they are no line's.
+/// The line whose text, without the newline, the bytes are. None where they aren't a line.
 pub fn read_line(alloc: Global, bytes: &[u8]) -> Result<Option<Line>, Memory>
     ensures { IfOk result (λ r. MatchOption r ((content : Content) → IsLine content → text_of content ≡ bytes.now → ⊥) (λ line. IsLine (content_of line) × (text_of (content_of line) ≡ bytes.now))) }
 {
@@ -62,7 +62,7 @@ fn expected_bytes(line: &Line) -> usize {
     numbers.saturating_mul(6).saturating_add(16)
 }
 
-/// Writes all words but the last, and a blank after each.
+/// Writes all words but the last, each followed by a blank.
 fn write_front(line: &Line, out: &mut Vec<u8>) -> Result<(), AllocError>
     ensures { OnOk result (out.new.items ≡ out.old.items ++ spaced (decimal (id_of (content_of line.now)) ∷ middle_of (content_of line.now))) }
 {
@@ -97,7 +97,7 @@ fn is_deletion(word: &[u8]) -> bool
     word == b"d".as_slice()
 }
 
-/// The line whose words the bytes have between blanks.
+/// The line whose words, separated by single blanks, the bytes are.
 fn line_of(alloc: Global, bytes: &[u8]) -> Result<Option<Line>, AllocError>
     ensures { IfOk result (λ r. MatchOption r ((content : Content) → IsLine content → words_of content ≡ slice_split (λ b. b == 32) bytes.now → ⊥) (λ line. IsLine (content_of line) × (words_of (content_of line) ≡ slice_split (λ b. b == 32) bytes.now))) }
 {
@@ -118,7 +118,7 @@ fn line_with(alloc: Global, id: Id, rest: Option<&[u8]>) -> Result<Option<Line>,
     }
 }
 
-/// What stands after the first word, where that is `d`.
+/// The words after the first, where the first is `d`.
 fn ids_in(rest: Option<&[u8]>) -> Option<Option<&[u8]>>
     ensures { MatchOption result ((ids : List (List ℕ)) → words_left rest.entry ≡ deletion_word ∷ ids → ⊥) (λ ids. words_left rest.entry ≡ deletion_word ∷ words_left ids) }
 {
@@ -169,10 +169,10 @@ fn addition_of(
     }
 }
 
-/// How many literals are compared with one another sooner than kept in a set.
+/// Up to how many literals comparing all pairs is faster than keeping a set.
 const FEW: usize = 16;
 
-/// Whether no variable stands twice in it.
+/// Whether no variable occurs twice.
 fn has_distinct_variables(alloc: Global, literals: &[Literal]) -> Result<bool, AllocError>
     ensures { IfOk result (λ r. IsTrue r ↔ HasDistinctVariables literals.now) }
 {
@@ -183,7 +183,7 @@ fn has_distinct_variables(alloc: Global, literals: &[Literal]) -> Result<bool, A
     }
 }
 
-/// Whether no variable stands twice, by comparing each with those before it.
+/// Whether no variable occurs twice, by comparing each with those before it.
 fn differ_in_pairs(literals: &[Literal]) -> bool
     ensures { IsTrue result ↔ HasDistinctVariables literals.now }
 {
@@ -195,7 +195,7 @@ fn differ_in_pairs(literals: &[Literal]) -> bool
     true
 }
 
-/// Whether a literal is by the variable.
+/// Whether one of the literals is of the variable.
 fn has_variable(literals: &[Literal], variable: u32) -> bool
     ensures none { result ≡ false → All (λ l. variable_of l ≢ variable) literals.now }
     ensures some { result ≡ true → Any (λ l. variable_of l ≡ variable) literals.now }
@@ -205,7 +205,7 @@ fn has_variable(literals: &[Literal], variable: u32) -> bool
         .any(|literal| literal.variable() == variable)
 }
 
-/// Whether no variable stands twice, by a set of those before.
+/// Whether no variable occurs twice, by a set of those before.
 fn differ_in_set(alloc: Global, literals: &[Literal]) -> Result<bool, AllocError>
     ensures { IfOk result (λ r. IsTrue r ↔ HasDistinctVariables literals.now) }
 {

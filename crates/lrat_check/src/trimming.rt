@@ -1,5 +1,5 @@
-//! A proof without the lines and hints that it doesn't need. It is gone by from the first empty clause back, and only the lines that this clause stands
-//! on are looked at: the proof was accepted already, so nothing else is checked once more.
+//! A proof without the lines and hints that it doesn't need. Trimming goes back from the first empty clause, and only the lines that this clause depends
+//! on are checked once more: the proof was accepted already.
 ghost use Rattle.std.specs.Prelude.{◌≡◌, ℕ, ◌+◌, ◌<◌, ◌≤◌, List, [], AllPairs, IfOk, length};
 ghost use Rattle.clause_model.specs.Clauses.{codes_of, hint_lengths};
 ghost use Rattle.step_ledger.specs.Counts.{RisesByAtLeast, RisesBy};
@@ -20,7 +20,7 @@ use std::alloc::{AllocError, Global};
 use step_ledger::{Ledger, Steps};
 
 /// The lines that a proof needs, each with the hints that it needs: the first addition of the empty
-/// clause, and the additions that it stands on. The formula alone needs none where it has an empty clause.
+/// clause, and the additions that it depends on. No line is needed where the formula has an empty clause. The lines must be a refutation.
 pub fn trim<L: Ledger>(
     alloc: Global,
     formula: &Formula,
@@ -62,7 +62,7 @@ fn additions_of<'a>(alloc: Global, lines: &'a [Line]) -> Result<Vec<&'a Addition
     Ok(additions)
 }
 
-/// The additions that a chain of hints leads to from the last one, each with the hints that show it.
+/// The additions that a chain of hints leads to from the last one, each with the hints that suffice for it.
 fn keep_used<L: Ledger>(
     alloc: Global,
     meanings: &Meanings,
@@ -90,7 +90,7 @@ fn keep_used<L: Ledger>(
     Ok(kept)
 }
 
-/// Looks at the hints of an addition up to the one whose clause becomes false.
+/// Follows the hints of an addition up to the one whose clause becomes false.
 fn look_at<'a, L: Ledger>(
     meanings: &Meanings<'a>,
     place: usize,
@@ -119,7 +119,7 @@ fn look_at<'a, L: Ledger>(
     }
 }
 
-/// Marks the additions that the hints of one name.
+/// Marks the additions that the needed hints of one name.
 fn mark_named(shown: &Shown, ids: &[u64], marks: &mut [bool])
     requires { length marks.old ≡ length ids.now }
     ensures { AllPairs (λ id later. id < later) ids.now → MarksNamed ids.now (names_of (cut_of shown.now)) marks.old marks.new }
@@ -132,7 +132,7 @@ fn mark_named(shown: &Shown, ids: &[u64], marks: &mut [bool])
     }
 }
 
-/// The addition with the hints that show it.
+/// The addition with only the hints that it needs.
 fn shortened(alloc: Global, shown: &Shown) -> Result<Line, AllocError>
     ensures { IfOk result (λ line. content_of line ≡ cut_of shown.now) }
 {

@@ -1,4 +1,4 @@
-//! The words of a line, read one after another, so that no list of them is held.
+//! The words of a proof's line, split off one by one, so that no list of them is made.
 ghost use Rattle.std.specs.Prelude.{◌≡◌, ◌==◌, ℕ, List, [], ◌∷◌, ◌++◌, map, All, MatchOption, IfOk, IsTrue, ◌↔◌};
 ghost use Rattle.std.specs.List.{position_or_len, slice_split};
 ghost use Rattle.lrat_check.specs.Text.{end_word};
@@ -21,7 +21,7 @@ fn word_len(bytes: &[u8]) -> usize
     bytes.iter().take_while(|b| **b != b' ').count()
 }
 
-/// The first word, and what stands behind the blank after it, where there is one.
+/// The first word, and what follows the blank after it, if there is a blank.
 pub(crate) fn split_word(bytes: &[u8]) -> (&[u8], Option<&[u8]>)
     ensures { slice_split (λ b. b == 32) bytes.entry.now ≡ result.0.now ∷ words_left result.1 }
 {
@@ -33,7 +33,7 @@ pub(crate) fn split_word(bytes: &[u8]) -> (&[u8], Option<&[u8]>)
     }
 }
 
-/// The next of the words that are left, and what is left then.
+/// The next word of the rest, and what is left after it.
 pub(crate) fn next_word(rest: Option<&[u8]>) -> Option<(&[u8], Option<&[u8]>)>
     ensures { MatchOption result (words_left rest.entry ≡ []) (λ p. words_left rest.entry ≡ p.0.now ∷ words_left p.1) }
 {
@@ -56,7 +56,7 @@ fn count(mut rest: Option<&[u8]>) -> usize {
     count
 }
 
-/// What the words before the first `0` say, in as much memory as they need, and what is left after it.
+/// The numbers that the words before the first `0` name, in a vector of just their count, and what is left after the `0`.
 pub(crate) fn read_list<E: ProofNumber + Drop>(
     alloc: Global,
     mut rest: Option<&[u8]>,
@@ -77,7 +77,7 @@ pub(crate) fn read_list<E: ProofNumber + Drop>(
     Ok(None)
 }
 
-/// What the words before the first `0` say, where no word is left after it.
+/// The numbers that the words before the first `0` name, where no word is left after it.
 pub(crate) fn read_last<E: ProofNumber + Drop>(
     alloc: Global,
     rest: Option<&[u8]>,

@@ -233,7 +233,7 @@ place_not_others k d = place_dropped (λ n. not (n == d)) d (ap not (eq-eqb d d 
 pub place_past_others : (k d x : ℕ) → k ≤ x → place_of x (firsts_but k d) ≡ None
 place_past_others k d x h = place_filter_none (λ n. not (n == d)) x (firsts k) (place_past_registers k x h)
 
--- where a number stands among the first k
+-- the place of a number among the first k
 IsPlace-first : (k x : ℕ) → IsPlace (place_of x (firsts k)) (firsts k) x
 IsPlace-first k x = IsPlace-ascending 0 (firsts k) x (ascends_numbers 0 k)
 
@@ -245,7 +245,7 @@ IsPlace-first-past k x h = rw (← place_past_registers k x h) (IsPlace-first k 
 
 pub ruleset places_of_firsts = (IsPlace-first-in, IsPlace-first-past)
 
--- and without one
+-- and among the first k without one
 IsPlace-other : (k d x : ℕ) → IsPlace (place_of x (firsts_but k d)) (firsts_but k d) x
 IsPlace-other k d x = IsPlace-ascending 0 (firsts_but k d) x (ascends_others k d)
 

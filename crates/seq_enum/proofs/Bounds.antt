@@ -31,7 +31,7 @@ pool_few xs fits some few = rw (lt-ltb 0 (length xs) some, le-leb (length xs) 16
 
 pub ruleset pools = (pool_empty, pool_many, pool_few)
 
--- what a pool is known to be
+-- what holds of every pool
 pub record Bounds (xs : List ℕ) : Type 0 where
   pub some : 0 < length xs
   pub few : length xs ≤ 16

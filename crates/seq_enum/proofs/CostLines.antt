@@ -1,4 +1,4 @@
--- A line of costs tells what it says.
+-- The reader of a line of costs finds just the content that the line has.
 use Rattle.std.proofs.Common.{◌≡◌, ◌∙◌, ℕ, zero, suc, ◌+◌, ◌<◌, ◌≤◌, ◌==◌, ◌&&◌, not, Bool, true, false, List, [], ◌∷◌, ◌++◌, length, get_or, take, drop, map, refl, sym, ap, arith, inl, inr, Option, Some, None, true≢false, ltb-false, eqb-true, subst, length-append, length-drop, drop-cons, add-one, ◌-◌}
 use Rattle.std.specs.Prelude.{decimal, nat_lt, MatchOption}
 use Rattle.std.specs.List.{list_all, position, position_or_len}
@@ -133,7 +133,7 @@ parts_tell (x ∷ xs) (y ∷ ys) us vs a b e =
 same_said : (s t : Said) → s.mnemonic ≡ t.mnemonic → s.cost ≡ t.cost → s ≡ t
 same_said s t e f = λ i. record { mnemonic = e i; cost = f i }
 
--- what a line with a blank says
+-- the content of a line with a blank
 pub parts_say : (s : Said) (name numeral : List ℕ) → IsSaid s → tested name ≡ true → line_of s ≡ name ++ 32 ∷ numeral → (get_or mnemonics s.mnemonic [] ≡ name) × (decimal s.cost ≡ numeral)
 parts_say s name numeral is free e = parts_tell (get_or mnemonics s.mnemonic []) name (decimal s.cost) numeral (name_parts s.mnemonic is.known).1 free e
 
@@ -142,7 +142,7 @@ lines_tell s t a b e =
     let parts = parts_say s (get_or mnemonics t.mnemonic []) (decimal t.cost) a (name_parts t.mnemonic b.known).1 e in
     same_said s t (mnemonics_tell s.mnemonic t.mnemonic a.known b.known parts.0) (decimal_injective s.cost t.cost (omega (arith, a.most)) (omega (arith, b.most)) parts.1)
 
--- a line without a blank says nothing
+-- a line without a blank has no content
 pub blankless : (s : Said) (line : List ℕ) → position (λ byte. byte == 32) line ≡ None → line_of s ≡ line → ⊥
 blankless s line none e =
     let name = get_or mnemonics s.mnemonic [] in
@@ -151,14 +151,14 @@ blankless s line none e =
     let byte : get_or line (length name) 0 ≡ 32 = ap (λ bs. get_or bs (length name) 0) (sym e) ∙ get_or_at name 32 (decimal s.cost) 0 (length name) refl in
     true≢false (sym (ap (λ b. b == 32) byte) ∙ position_none (λ b. b == 32) line (length name) 0 none low)
 
--- what stands before the first blank has none
+-- the part before the first blank has no blank
 pub front_tested : (line : List ℕ) (i : ℕ) → ((k : ℕ) → k < i → (get_or line k 0 == 32) ≡ false) → tested (take i line) ≡ true
 unfolding tested
 front_tested line zero before = refl
 front_tested [] (suc i) before = refl
 front_tested (b ∷ line) (suc i) before = and_from (not (b == 32)) (tested (take i line)) (ap not (before 0 (omega arith))) (front_tested line i (λ k low. before (suc k) (omega arith)))
 
--- a line is what stands before its first blank, the blank, and what stands behind it
+-- a line is the part before its first blank, the blank, and the part after it
 pub record IsParted (line name numeral : List ℕ) : Type 0 where
   pub free : tested name ≡ true
   pub whole : line ≡ name ++ 32 ∷ numeral

@@ -1,4 +1,4 @@
--- What has been read of a text of costs, and what comes of it.
+-- The loop that reads a text of costs: what is known after some lines, and which verdict follows.
 use Rattle.std.proofs.Common.{◌≡◌, ◌∙◌, ℕ, ◌+◌, ◌<◌, ◌≤◌, ◌==◌, true, false, List, [], ◌∷◌, ◌++◌, length, map, filter, get_or, refl, sym, ap, subst, arith, Option, Some, None, append_assoc, append-nil, length-append, inl, inr, true≢false, slice_set, slice_get, eqb-true, length-set, ◌⊎◌, replicate}
 use Rattle.std.specs.Prelude.{codes, IfSome}
 use Rattle.std.specs.Option.{unwrap_or}
@@ -59,7 +59,7 @@ begins_empty = record { bytes = text_of []; text = some_text [] none_said; rest 
 
 -- ---- what follows
 
--- lines that begin with those of others say what these say, and more
+-- a text whose lines begin with those of another has the other's contents, and more
 record Split (xs said : List Said) (lines : List (List ℕ)) : Type 0 where
   rest : List Said
   whole : xs ≡ said ++ rest
@@ -80,7 +80,7 @@ split (x ∷ xs) (s ∷ said) lines a b e =
 same_rest : {X : Type 0} (x y : X) (xs ys : List X) → x ∷ xs ≡ y ∷ ys → xs ≡ ys
 same_rest x y xs ys e = cc
 
--- a text goes on with this line
+-- some text of costs goes on with this line after those before
 record Goes (said : List Said) (line : List ℕ) : Type 0 where
   next : Said
   rest : List Said
@@ -116,7 +116,7 @@ goes said line all b = from (split b.text.text.said said (line ∷ b.rest) b.tex
 
 -- ---- costs that are kept
 
--- what is kept of each mnemonic is the cost that is said first
+-- what is kept for each mnemonic is its first cost
 pub AreKept : List Said → List (Option ℕ) → Type 0
 AreKept said kept = (m : ℕ) → m < 28 → get_or kept m None ≡ slice_get (costs_said said m) 0
 
@@ -176,7 +176,7 @@ module _ (said : List Said) (next : Said) where
 
 -- ---- the loop
 
--- the line that begins a text and further ones were read, and lines are left
+-- the heading and further lines were read, and some lines are left
 pub record Progress (bytes : List ℕ) (left : List Placed) (kept : List (Option ℕ)) : Type 0 where
   pub said : List Said
   pub are : AreSaid said

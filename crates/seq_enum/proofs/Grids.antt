@@ -53,7 +53,7 @@ grid3_at make xs ys zs m each i pos =
     (λ j x e. length-grid2 (make x) (ys x) zs ∙ ap (λ v. v * length zs) (each j x e)) i
     ∙ ap (λ f. option_and_then f (slice_get xs (i / n))) (fun_ext (λ x. grid2_at (make x) (ys x) zs (i % n) some))
 
--- what is said of each element of a grid is a grid
+-- a grid that is mapped is a grid
 pub map-grid2 : {X Y A X' Y' B : Type 0} (f : A → B) (g : X → X') (h : Y → Y') (make : X → Y → A) (made : X' → Y' → B)
     → ((x : X) (y : Y) → f (make x y) ≡ made (g x) (h y)) → (xs : List X) (ys : List Y) → map f (grid2 make xs ys) ≡ grid2 made (map g xs) (map h ys)
 unfolding grid2
@@ -74,7 +74,7 @@ map-grid3 f g h l make made same (x ∷ xs) ys ms zs e =
     map-append f (grid2 (make x) (ys x) zs) (grid3 make xs ys zs)
     ∙ rw (map-grid3 f g h l make made same xs ys ms zs e, map-grid2 f h l (make x) (made (g x)) (same x) (ys x) zs, e x) refl
 
--- one third part alone
+-- a grid of triples with a single third part is one of pairs
 pub grid3-single : {X Y Z A : Type 0} (make : X → Y → Z → A) (xs : List X) (ys : List Y) (z : Z) → grid3 make xs (λ x. ys) (z ∷ []) ≡ grid2 (λ x y. make x y z) xs ys
 unfolding grid2 grid3
 grid3-single make xs ys z = ap (λ f. flat_map f xs) (fun_ext (λ x. flat_map_single (λ y. make x y z) ys))
@@ -94,7 +94,7 @@ IsPlace-grid2 {X} {Y} {A} make apart xs ys x y p q in_xs in_ys =
     only : (j : ℕ) (z : X) → slice_get (map (make z) ys) j ≡ Some (make x y) → z ≡ x
     only j z e = from z (slice_get ys j) (sym (slice_get-map (make z) ys j) ∙ e)
 
--- what stands in a grid is made of a pair
+-- an element of a grid is made of a pair
 pub grid2_from : {X Y A P : Type 0} (make : X → Y → A) (xs : List X) (ys : List Y) (i : ℕ) (a : A) → slice_get (grid2 make xs ys) i ≡ Some a
     → ((x : X) (y : Y) → make x y ≡ a → P) → P
 unfolding grid2

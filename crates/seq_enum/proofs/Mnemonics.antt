@@ -1,4 +1,4 @@
--- Each mnemonic's instructions by their registers and numbers: how many, which stands where, where one stands.
+-- The instructions of each kind by their operands: their number, the one at a place, and the place of one.
 use Rattle.std.proofs.Common.{◌≡◌, ℕ, zero, suc, ◌+◌, ◌-◌, ◌*◌, ◌<◌, ◌≤◌, List, [], ◌∷◌, length, map, take, refl, sym, ◌∙◌, ap, arith, subst, Option, Some, None, slice_get, length-append}
 use Rattle.std.specs.Prelude.{MatchOption, IsSome, All, slice_index_or}
 use Rattle.std.specs.Option.{option_map, option_and_then}
@@ -28,7 +28,7 @@ use Rattle.seq_enum.proofs.Fields.{numbers, within_numbers, within_length, regis
 use Rattle.seq_enum.proofs.Grids.{length-grid3, grid3_some, grid3_from, grid3_at, map-grid2, map-grid3, grid3-single, IsPlace-grid3}
 use Rattle.seq_enum.proofs.CostLines.{length-from}
 
--- ---- the instructions of a mnemonic are those of its parts
+-- ---- the instructions of a kind are those made of its parts
 
 three : {a b c d e f : ℕ} (t : Kind) (make : Within a b → Within c d → Within e f → Instr) → ((x : Within a b) (y : Within c d) (z : Within e f) → parts_of (make x y z) ≡ of t x.number y.number z.number)
     → (xs : List (Within a b)) (ys : Within a b → List (Within c d)) (zs : List (Within e f)) (ns : List ℕ) (ms : ℕ → List ℕ) (ls : List ℕ)
@@ -68,7 +68,7 @@ are_parts k pool t few listed = rows_of t listed
     rows_of (kind.Reverse r) h = pair _ _ (λ x y. refl)
     rows_of t h = absurd cc
 
--- any may stand behind any first operand but in a sum with a number, and there as many behind each
+-- but in a sum with a number, the second operand's values don't depend on the first; there, their number doesn't
 pub seconds_are : (k : ℕ) (pool : List ℕ) (t : Kind) (d : ℕ) → ((s : SumOperation) → t ≡ kind.ThreeNumber s → ⊥) → seconds k pool t d ≡ values k pool (roles t).second
 seconds_are k pool (kind.ThreeNumber s) d other = absurd (other s refl)
 seconds_are k pool t d other = refl
@@ -80,7 +80,7 @@ each_second k pool (kind.ThreeNumber s) j d e =
     length-others k d low ∙ sym (length-others k 0 (omega (arith, low)))
 each_second k pool t j d e = refl
 
--- ---- how many, and which stands where
+-- ---- how many instructions a kind has, and the one at a place
 
 abbrev pub count : ℕ → List ℕ → Kind → ℕ
 count k pool t = length (values k pool (roles t).first) * (second_count k pool t * length (values k pool (roles t).third))
@@ -103,7 +103,7 @@ parts_at k pool t i few listed h =
     sym (slice_get-map parts_of (members k pool t) i) ∙ ap (λ ps. slice_get ps i) (are_parts k pool t few listed)
     ∙ grid3_at (of t) _ (seconds k pool t) _ (second_count k pool t) (each_second k pool t) i (some_members k pool t i few listed h)
 
--- an instruction that is told by its parts
+-- an instruction that is determined by its parts
 pub none_made : (o : Option Instr) → option_map parts_of o ≡ None → None ≡ o
 none_made None e = refl
 none_made (Some i) e = absurd cc
@@ -112,7 +112,7 @@ pub made_back : (o r : Option Instr) (p : Parts) → option_map parts_of o ≡ S
 made_back None r p e h = absurd cc
 made_back (Some i) r p e h = gives_back r i p (sym (same_Some _ _ e)) h
 
--- ---- where one stands
+-- ---- the place of an instruction
 
 pub IsPlace-parts : (k : ℕ) (pool : List ℕ) (t : Kind) (a b c : ℕ) (p q r : Option ℕ)
     → IsPlace p (values k pool (roles t).first) a → IsPlace q (seconds k pool t a) b → IsPlace r (values k pool (roles t).third) c
@@ -121,7 +121,7 @@ IsPlace-parts k pool t a b c p q r f g h =
     IsPlace-grid3 (of t) (λ x x' y y' z z' e. (ap (λ (m : Parts). m.first) e, ap (λ (m : Parts). m.second) e, ap (λ (m : Parts). m.third) e))
     _ (seconds k pool t) _ (second_count k pool t) (each_second k pool t) a b c p q r f g h
 
--- each mnemonic has one place in the table
+-- each kind has one place among the rows
 rank_stands : (t : Kind) → option_and_then (slice_get rows) (rank t) ≡ option_map (λ i. t) (rank t)
 unfolding rows
 rank_stands (kind.Three sum.Add) = refl
@@ -154,7 +154,7 @@ IsPlace-rank t i e = record {
   found = λ j f. sym e ∙ rank_at j t f;
 }
 
--- what isn't in the table has no instructions
+-- a kind that isn't among the rows has no instructions
 abbrev when_listed : Option ℕ → List Instr → List Instr
 when_listed None is = []
 when_listed (Some i) is = is
@@ -167,7 +167,7 @@ no_members k pool t = refl
 abbrev pub kind_of : Instr → Kind
 kind_of x = (parts_of x).kind
 
--- what stands among a mnemonic's instructions has that mnemonic
+-- each of a kind's instructions is of that kind
 members_of : (k : ℕ) (pool : List ℕ) (t : Kind) (i : ℕ) (x : Instr) → k ≤ 8 → slice_get (members k pool t) i ≡ Some x → kind_of x ≡ t
 members_of k pool t i x few e = by_rank (rank t) refl
   where
@@ -179,7 +179,7 @@ members_of k pool t i x few e = by_rank (rank t) refl
         (sym (ap (λ ps. slice_get ps i) (are_parts k pool t few (rw h refl))) ∙ slice_get-map parts_of (members k pool t) i ∙ ap (option_map parts_of) e)
         (λ a b c is. sym (ap (λ (m : Parts). m.kind) is))
 
--- an instruction's place in the alphabet: after the mnemonics before its own
+-- an instruction's place in the alphabet: behind the kinds before its own
 pub IsPlace-alphabet : (k : ℕ) (pool : List ℕ) (x : Instr) (a : ℕ) (p : Option ℕ) → k ≤ 8 → rank (kind_of x) ≡ Some a → IsPlace p (parts_in k pool (kind_of x)) (parts_of x)
     → IsPlace (option_map (λ b. length (flat_map (members k pool) (take a rows)) + b) p) (alphabet k pool) x
 unfolding alphabet

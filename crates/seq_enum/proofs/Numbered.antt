@@ -86,7 +86,7 @@ moved : {A : Type 0} (xs ys : List A) (q : Option ℕ)
 moved xs ys None = refl
 moved xs ys (Some b) = ap Some (omega (arith, length-append xs ys))
 
--- two digits tell the place in lists of n elements each
+-- two digits determine the place in lists of n elements each
 pub IsPlace-flat_map : {X A : Type 0} (f : X → List A) (n : ℕ) (xs : List X)
     → ((j : ℕ) (x : X) → slice_get xs j ≡ Some x → length (f x) ≡ n)
     → (x : X) (y : A) → ((j : ℕ) (z : X) → slice_get (f z) j ≡ Some y → z ≡ x)
@@ -142,7 +142,7 @@ IsPlace-unmap {X} {A} f xs x only p in_map = record {
     stands_at None e = absurd cc
     stands_at (Some z) e = ap Some (only z (same_Some _ _ e))
 
--- what stands in lists one after the other stands in one of them
+-- an element of concatenated lists is in one of them
 pub flat_map_at : {X A P : Type 0} (f : X → List A) (xs : List X) (i : ℕ) (a : A) → slice_get (flat_map f xs) i ≡ Some a
     → ((h : ℕ) (x : X) (j : ℕ) → slice_get xs h ≡ Some x → slice_get (f x) j ≡ Some a → P) → P
 flat_map_at f [] i a e next = absurd cc

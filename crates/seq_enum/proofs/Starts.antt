@@ -1,4 +1,4 @@
--- What lies before each mnemonic of a list.
+-- The loop that adds up how many instructions come before each kind.
 use Rattle.std.proofs.Common.{◌≡◌, ℕ, zero, suc, ◌+◌, ◌-◌, ◌<◌, ◌≤◌, List, [], ◌∷◌, ◌++◌, ◌⊎◌, inl, inr, length, take, slice_get, Some, sym, ap, ◌∙◌, arith, length-append, get_or, add-one}
 use Rattle.std.proofs.Math.Seq.{take-suc}
 use Rattle.std.proofs.lemmas.List.Concat.{flat_map-append}
@@ -12,7 +12,7 @@ use Rattle.seq_enum.proofs.Numbered.{get_back}
 use Rattle.common_lemmas.proofs.Lists.{get_front, take_whole}
 use Rattle.seq_enum.proofs.Mnemonics.{length-rows}
 
--- a front has no more than all
+-- a prefix has no more than the whole
 pub front_fewer : {X A : Type 0} (f : X → List A) (n : ℕ) (xs : List X) → length (flat_map f (take n xs)) ≤ length (flat_map f xs)
 front_fewer f zero xs = omega arith
 front_fewer f (suc n) [] = omega arith
@@ -42,7 +42,7 @@ starts_more k pool rows row starts s = record {
         ∙ ap (slice_get (last ∷ [])) (let z : i - length starts ≡ 0 = omega (arith, s.as_many, e) in z)
         ∙ ap (λ (rs : List Kind). Some (length (flat_map (members k pool) rs))) (sym (ap (λ n. take n (rows ++ row ∷ [])) e ∙ take-append-le (length rows) rows (row ∷ []) (omega arith) ∙ take_whole rows))
 
--- what lies before the next mnemonic, and behind it
+-- one more kind: its start, and what comes before the next
 pub starts_next : (k : ℕ) (pool : List ℕ) (rows : List Kind) (row : Kind) (i : ℕ) (starts next : List ℕ) (total count : ℕ) → i < length rows → AreStarts k pool (take i rows) starts
     → total ≡ length (flat_map (members k pool) (take i rows)) → next ≡ starts ++ total ∷ [] → count ≡ length (members k pool (get_or rows i row))
     → AreStarts k pool (take (i + 1) rows) next × (total + count ≡ length (flat_map (members k pool) (take (i + 1) rows)))

@@ -14,7 +14,7 @@ use Rattle.seq_enum.specs.Walks.{Stands, shorter}
 use Rattle.seq_enum.proofs.Numbered.{get-flat_map-digits, get-flat_map}
 use Rattle.seq_enum.proofs.Words.{power_fits, length-words, word_length, word_here, word_later, word_start}
 
--- behind the shorter ones stand those of n instructions
+-- behind the shorter sequences come those of n instructions
 past_shorter : (alphabet : List Instr) (n p : ℕ) → n ≤ 5 → slice_get (sequences_of alphabet) (shorter alphabet n + p) ≡ slice_get (flat_map (words alphabet) (drop n (numbers_from 0 6))) p
 unfolding sum_below
 past_shorter alphabet zero p h = sym (word_start alphabet (0 + p)) ∙ ap (λ q. slice_get (flat_map (words alphabet) (drop 0 (numbers_from 0 6))) q) (omega arith)
@@ -29,7 +29,7 @@ past_shorter alphabet (suc n) p h =
     ∙ ap (λ q. slice_get (flat_map (words alphabet) (drop (n + 1) (numbers_from 0 6))) q) left
     ∙ ap (λ m. slice_get (flat_map (words alphabet) (drop m (numbers_from 0 6))) p) next
 
--- what stands has its number
+-- a walk's sequence has the walk's number
 pub stands_at : (alphabet seq : List Instr) (number last : ℕ) → Stands alphabet seq number last → slice_get (sequences_of alphabet) number ≡ Some seq
 stands_at alphabet seq number last s =
     let n = length seq in
@@ -38,12 +38,12 @@ stands_at alphabet seq number last s =
     let is : number ≡ shorter alphabet n + p = omega (arith, s.behind) in
     ap (slice_get (sequences_of alphabet)) is ∙ past_shorter alphabet n p s.short ∙ word_here alphabet n p (omega (arith, s.short)) low ∙ s.word
 
--- the empty sequence stands at number 0
+-- the empty sequence has number 0
 pub stands_start : (alphabet : List Instr) → 0 < length alphabet → length alphabet ≤ 1952 → Stands alphabet [] 0 0
 unfolding words sum_below
 stands_start alphabet some few = record { some = some; few = few; short = omega arith; behind = omega arith; word = refl; digit = mod-eq_of_lt some }
 
--- what stands at a place among the sequences of n instructions
+-- the sequence at a place among those of n instructions
 pub stands_found : (alphabet seq : List Instr) (number n left : ℕ) → 0 < length alphabet → length alphabet ≤ 1952 → n ≤ 5 → shorter alphabet n + left ≡ number
     → slice_get (words alphabet n) left ≡ Some seq → Stands alphabet seq number (left % length alphabet)
 stands_found alphabet seq number n left some few short is word =
@@ -59,7 +59,7 @@ stands_found alphabet seq number n left some few short is word =
       digit = subst (λ (m : ℕ). (number - shorter alphabet m) % length alphabet ≡ left % length alphabet) same (ap (λ p. p % length alphabet) rest);
     }
 
--- the next instruction in the place of the last
+-- the sequence with the last instruction replaced by the next one
 next_word : (alphabet : List Instr) (m p : ℕ) (seq : List Instr) (y : Instr) → 0 < length alphabet → slice_get (words alphabet (suc m)) p ≡ Some seq
     → p % length alphabet + 1 < length alphabet → slice_get alphabet (p % length alphabet + 1) ≡ Some y
     → slice_get (words alphabet (suc m)) (p + 1) ≡ Some (take m seq ++ y ∷ [])

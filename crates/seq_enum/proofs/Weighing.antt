@@ -1,4 +1,4 @@
--- What sequences cost, those of one instruction more behind the others.
+-- The loop that computes all costs, length by length.
 use Rattle.std.proofs.Common.{◌≡◌, ◌∙◌, ℕ, zero, suc, ◌+◌, ◌-◌, ◌*◌, ◌^◌, ◌<◌, ◌≤◌, List, [], ◌∷◌, ◌++◌, length, map, take, drop, get_or, slice_get, Some, refl, sym, ap, subst, arith, add-one, append_assoc, append-nil, length-append, length-drop, get_or-drop}
 use Rattle.std.specs.List.{flat_map, sum_by, All}
 use Rattle.std.proofs.Math.Seq.{take-suc}

@@ -30,7 +30,7 @@ power_fits size n h k =
     let two : 1952 ^ n ≤ 1952 ^ 5 = pow-le-pow_right pos k in
     omega arith
 
--- the last instruction's digit weighs least
+-- the last instruction is the least significant digit
 pub word_more : (instrs : List Instr) (m left : ℕ) (w : List Instr) (x : Instr) → 0 < length instrs
     → slice_get (words instrs m) (left / length instrs) ≡ Some w → slice_get instrs (left % length instrs) ≡ Some x
     → slice_get (words instrs (suc m)) left ≡ Some (w ++ x ∷ [])

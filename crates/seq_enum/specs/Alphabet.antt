@@ -1,4 +1,4 @@
--- The numbers that sequences may use, and the instructions of an alphabet in order.
+-- Pools of numbers, the instructions of an alphabet in order, and its sequences by number: a table's numbers of sequences rest on this order.
 use Rattle.std.specs.Prelude.{◌≡◌, ℕ, zero, suc, Bool, true, false, nat_lt, nat_le, ◌&&◌, List, [], ◌∷◌, map, slice_get, Option, Some, length, ◌==◌, not, ◌++◌, filter, Contains, All}
 use Rattle.std.specs.List.{flat_map, list_all}
 use Rattle.std.proofs.Common.{leb-true, ltb-true, refl, ◌<◌, subst, lit≤}
@@ -17,7 +17,7 @@ use Rattle.thumb_instr.specs.declared.operation.Reversal.TheVariants as reversal
 use Rattle.std.proofs.Math.Nat.{lt_of_lt_of_le}
 use Rattle.std.proofs.Math.Dec.{le→leb}
 
--- Lists of numbers, of what fields hold and of what is made of them, and places in them.
+-- Lists of numbers, of operands and of instructions made of these, and places in lists.
 
 -- `count` numbers from `first` on
 unfoldable pub numbers_from : ℕ → ℕ → List ℕ
@@ -29,24 +29,24 @@ unfoldable pub ascends_from : ℕ → List ℕ → Bool
 ascends_from low [] = true
 ascends_from low (x ∷ xs) = nat_le low x && ascends_from (suc x) xs
 
--- a number alone, where a field from `least` to below `limit` holds it
+-- the list of this one number, if it is from `least` to below `limit`, else the empty list
 abbrev pub if_within : (least limit n : ℕ) (high low : Bool) → nat_le least n ≡ high → nat_lt n limit ≡ low → List (Within least limit)
 if_within least limit n true true h k = record { number = n; least = leb-true least n h; below = ltb-true n limit k } ∷ []
 if_within least limit n true false h k = []
 if_within least limit n false low h k = []
 
--- those numbers of a list that a field from `least` to below `limit` holds
+-- those numbers of a list that are from `least` to below `limit`
 unfoldable pub those_within : (least limit : ℕ) → List ℕ → List (Within least limit)
 those_within least limit numbers = flat_map (λ n. if_within least limit n (nat_le least n) (nat_lt n limit) refl refl) numbers
 
--- what is made of each pair or triple, the first part varying slowest; the second part of a triple may depend on the first
+-- `make` of each pair or triple, the first part varying slowest; the second part of a triple may depend on the first
 unfoldable pub grid2 : {X Y A : Type 0} → (X → Y → A) → List X → List Y → List A
 grid2 make xs ys = flat_map (λ x. map (make x) ys) xs
 
 unfoldable pub grid3 : {X Y Z A : Type 0} → (X → Y → Z → A) → List X → (X → List Y) → List Z → List A
 grid3 make xs ys zs = flat_map (λ x. grid2 (make x) (ys x) zs) xs
 
--- `place` tells where `x` stands in a list: at that one place, or nowhere
+-- `place` is the only place of `x` in a list, or None where it isn't in it
 pub record IsPlace {A : Type 0} (place : Option ℕ) (xs : List A) (x : A) : Type 0 where
   pub stands : (i : ℕ) → place ≡ Some i → slice_get xs i ≡ Some x
   pub found : (i : ℕ) → slice_get xs i ≡ Some x → place ≡ Some i
@@ -63,7 +63,7 @@ is_pool numbers = nat_lt 0 (length numbers) && nat_le (length numbers) 16 && lis
 
 -- The alphabet of the registers below r(k) and the numbers of a pool, and its sequences by number.
 
--- the mnemonics in order
+-- the kinds of instructions in order
 unfoldable pub rows : List Kind
 rows = kind.Three sum.Add ∷ kind.Three sum.Sub
     ∷ kind.ThreeNumber sum.Add ∷ kind.ThreeNumber sum.Sub
@@ -79,7 +79,7 @@ rows = kind.Three sum.Add ∷ kind.Three sum.Sub
 abbrev pub registers : ℕ → List (Within 0 8)
 registers k = those_within 0 8 (numbers_from 0 k)
 
--- the same without one
+-- the same without register d
 abbrev pub others : ℕ → Within 0 8 → List (Within 0 8)
 others k d = filter (λ n. not (n.number == d.number)) (registers k)
 
@@ -90,7 +90,7 @@ wide r = record { number = r.number; least = r.least; below = lt_of_lt_of_le r.b
 abbrev pub added : Within 0 8 → Within 0 8 → NotBothSp
 added d m = record { target = wide d; source = wide m; one_other = λ e. absurd (le→leb 14 8 (subst (λ n. n < 8) e d.below)) }
 
--- the instructions of a mnemonic: operands from left to right, the first varying slowest, numbers ascending
+-- the instructions of a kind: operands from left to right, the first varying slowest, numbers ascending
 unfoldable pub members : ℕ → List ℕ → Kind → List Instr
 members k pool (kind.Three s) = grid3 (instr.Three s) (registers k) (λ d. registers k) (registers k)
 members k pool (kind.ThreeNumber s) = grid3 (instr.ThreeNumber s) (registers k) (others k) (those_within 0 8 pool)
@@ -113,7 +113,7 @@ alphabet k pool = flat_map (members k pool) rows
 abbrev pub IsOver : ℕ → List ℕ → List Instr → Type 0
 IsOver k pool seq = All (Contains (alphabet k pool)) seq
 
--- the sequences of so many items in order, the first item weighing most: behind each shorter one, each item
+-- the sequences of n items in order, the first item being the most significant: each shorter one with each item appended
 unfoldable pub words : {A : Type 0} → List A → ℕ → List (List A)
 words items zero = [] ∷ []
 words items (suc n) = flat_map (λ w. map (λ x. w ++ x ∷ []) items) (words items n)

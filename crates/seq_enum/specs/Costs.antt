@@ -86,7 +86,7 @@ mnemonics = codes "adds" ∷ codes "subs" ∷ codes "movs" ∷ codes "cmp" ∷ c
     ∷ codes "adcs" ∷ codes "sbcs" ∷ codes "rors" ∷ codes "tst" ∷ codes "rsbs" ∷ codes "cmn" ∷ codes "orrs" ∷ codes "muls" ∷ codes "bics" ∷ codes "mvns"
     ∷ codes "mov" ∷ codes "add" ∷ codes "sxth" ∷ codes "sxtb" ∷ codes "uxth" ∷ codes "uxtb" ∷ codes "rev" ∷ codes "rev16" ∷ codes "revsh" ∷ []
 
--- what a line may say: a mnemonic, by its place among the 28, and its cost
+-- what a line may contain: a mnemonic, by its place among the 28, and its cost
 pub record IsSaid (s : Said) : Type 0 where
   pub known : s.mnemonic < 28
   pub some : 1 ≤ s.cost
@@ -96,11 +96,11 @@ pub record IsSaid (s : Said) : Type 0 where
 abbrev pub line_of : Said → List ℕ
 line_of s = get_or mnemonics s.mnemonic [] ++ 32 ∷ decimal s.cost
 
--- the costs that lines say for a mnemonic
+-- the costs that the lines have for a mnemonic
 abbrev pub costs_said : List Said → ℕ → List ℕ
 costs_said said m = map (λ (s : Said). s.cost) (filter (λ (s : Said). s.mnemonic == m) said)
 
--- what lines may say together: each mnemonic stands in at most one
+-- what the lines of a text may be: each valid, and each mnemonic in at most one
 pub record AreSaid (said : List Said) : Type 0 where
   pub each : All IsSaid said
   pub once : (m : ℕ) → length (costs_said said m) ≤ 1
@@ -112,7 +112,7 @@ text_lines said = codes "costs 1" ∷ map line_of said
 abbrev pub text_of : List Said → List ℕ
 text_of said = flat_map (λ line. line ++ 10 ∷ []) (text_lines said)
 
--- the cost of each mnemonic in order: 1 where no line says it
+-- the cost of each mnemonic in order: 1 where no line has it
 abbrev pub costs_of : List Said → List ℕ
 costs_of said = map (λ m. get_or (costs_said said m) 0 1) (numbers_from 0 28)
 
@@ -128,6 +128,6 @@ pub record IsSomeCosts (bytes : List ℕ) : Type 0 where
   pub costs : List ℕ
   pub text : IsCostText bytes costs
 
--- no text of costs begins with the first n lines, and some does with those before
+-- no text of costs begins with the first n lines, but some text of costs begins with the first n - 1
 abbrev pub IsRefusedCosts : List ℕ → ℕ → Type 0
 IsRefusedCosts bytes n = IsRefused IsSomeCosts bytes n

@@ -1,4 +1,4 @@
--- Places of numbers, of pairs and triples, of mnemonics, and of the instructions of each by their registers and numbers.
+-- Places as the code computes them by digits: of numbers, of pairs and triples, of kinds, and of a kind's instructions by their operands.
 use Rattle.std.specs.Prelude.{ℕ, zero, suc, not, List, [], ◌∷◌, length, filter, slice_get, Option, Some, None, ◌+◌, ◌*◌, ◌/◌, ◌%◌, ◌==◌, if◌then◌else◌}
 use Rattle.std.specs.Option.{option_map, option_and_then}
 use Rattle.thumb_instr.specs.declared.operation.SumOperation.{SumOperation}
@@ -22,7 +22,7 @@ use Rattle.thumb_instr.specs.Roles.{roles}
 use Rattle.thumb_instr.specs.Parts.{of}
 use Rattle.seq_enum.specs.Alphabet.{numbers_from, grid3, inside}
 
--- where a number first stands in a list
+-- the first place of a number in a list
 unfoldable pub place_of : ℕ → List ℕ → Option ℕ
 place_of x [] = None
 place_of x (y ∷ ys) = if y == x then Some 0 else option_map (λ i. i + 1) (place_of x ys)
@@ -82,7 +82,7 @@ reversal_rank reversal.Rev = 0
 reversal_rank reversal.Rev16 = 1
 reversal_rank reversal.Revsh = 2
 
--- the place of each mnemonic in the table
+-- the place of each kind among the rows
 abbrev pub rank : Kind → Option ℕ
 rank (kind.Three s) = Some (sum_rank s)
 rank (kind.ThreeNumber s) = Some (2 + sum_rank s)
@@ -97,7 +97,7 @@ rank (kind.Extend e) = Some (30 + extension_rank e)
 rank (kind.Reverse r) = Some (34 + reversal_rank r)
 rank k = None
 
--- what stands as an operand: a register below r(k), or a number of the pool, or 0 where there is none
+-- the values of an operand: the registers below r(k), or the pool's numbers in its range, or 0 alone where there is no operand
 abbrev pub values : ℕ → List ℕ → Role → List ℕ
 values k pool (Register u c) = numbers_from 0 k
 values k pool (Number least end) = filter (inside least end) pool
@@ -107,7 +107,7 @@ values k pool r = numbers_from 0 1
 abbrev pub without : ℕ → List ℕ → List ℕ
 without d numbers = filter (λ n. not (n == d)) numbers
 
--- what stands as the second operand behind a first, in a sum with a number another register; and how many they are
+-- the values of the second operand for a given first: in a sum with a number each other register; and how many there are
 abbrev pub seconds : ℕ → List ℕ → Kind → ℕ → List ℕ
 seconds k pool (kind.ThreeNumber s) d = without d (numbers_from 0 k)
 seconds k pool t d = values k pool (roles t).second
@@ -115,7 +115,7 @@ seconds k pool t d = values k pool (roles t).second
 abbrev pub second_count : ℕ → List ℕ → Kind → ℕ
 second_count k pool t = length (seconds k pool t 0)
 
--- the instructions of a mnemonic by their parts
+-- the instructions of a kind by their parts
 abbrev pub parts_in : ℕ → List ℕ → Kind → List Parts
 parts_in k pool t = grid3 (of t) (values k pool (roles t).first) (seconds k pool t) (values k pool (roles t).third)
 

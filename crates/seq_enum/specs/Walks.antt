@@ -1,11 +1,11 @@
--- Where a walk through the sequences stands.
+-- The invariant of a walk: its sequence, the sequence's number, and the place of the last instruction agree.
 use Rattle.std.specs.Prelude.{◌≡◌, ◌≤◌, ◌<◌, ℕ, ◌-◌, ◌%◌, ◌^◌, List, length, slice_get, Some}
 use Rattle.thumb_instr.specs.declared.instr.Instr.{Instr}
 use Rattle.seq_enum.specs.Alphabet.{words}
 use Rattle.seq_enum.specs.Places.{sum_below}
 use Rattle.seq_enum.specs.declared.walk.Walk.{Walk}
 
--- how many sequences are shorter than n instructions
+-- how many sequences have fewer than n instructions
 abbrev pub shorter : List Instr → ℕ → ℕ
 shorter alphabet n = sum_below (λ m. length alphabet ^ m) n
 

@@ -1,4 +1,4 @@
-//! Instructions of an alphabet by number, row by row: the sizes of the rows before are added up, so that no list of the alphabet is kept.
+//! Instructions of an alphabet by place, a row for each kind: the sizes of the rows before are added up, so that no list of the alphabet is kept.
 ghost use Rattle.std.specs.Prelude.{◌≡◌, ◌+◌, ◌-◌, ◌≤◌, ◌<◌, ◌*◌, length, slice_get, IfSome, IsSome, All};
 ghost use Rattle.seq_enum.specs.Places.{rank};
 ghost use Rattle.std.specs.List.{flat_map};

@@ -1,4 +1,4 @@
-//! The costs of a text. Its lines are read exactly as they are written, and what they say is kept by mnemonic, so that none is said twice.
+//! Reads a text of costs: a heading, then lines of a mnemonic and its cost. Lines have just one form, and no mnemonic may have two.
 ghost use Rattle.std.specs.Prelude.{◌≡◌, ◌<◌, ◌≤◌, ℕ, ◌==◌, [], map, length, get_or, decimal, MatchOption, IfSome, IsTrue, ◌↔◌, All};
 ghost use Rattle.std.specs.List.{position};
 ghost use Rattle.std.specs.Option.{unwrap_or};
@@ -14,16 +14,16 @@ use ascii_scan::{Lines, SourceLine};
 use itoa::Buffer;
 use thiserror::Error;
 
-/// Why a text is none of costs.
+/// Why a text isn't one of costs.
 #[derive(Clone, Copy, Debug, PartialEq, Eq, Error)]
 #[error("line {number} begins no costs")]
 pub struct CostLine {
-    /// The least number such that so many first lines begin no text of costs; the number of the line that is missing or cut, where the text ends too early or its last
+    /// The first line, from 1, at which the text can't be one of costs any more; the missing or cut line, where the text ends too early or its last
     /// line lacks the newline.
     pub number: u64,
 }
 
-/// What a line says: a mnemonic, by its place among the 28, and its cost, 1 to 64.
+/// The content of a line: a mnemonic, by its place among the 28, and its cost, 1 to 64.
 #[derive(Clone, Copy)]
 struct Said {
     mnemonic: usize,
@@ -45,7 +45,7 @@ fn mnemonics() -> &'static [&'static [u8]]
     &MNEMONICS
 }
 
-/// Where the first of these names stands that is the word.
+/// The place of the first name that is the word.
 fn place_of(names: &[&[u8]], word: &[u8]) -> Option<usize>
     ensures { result ≡ position (λ name. bytes_eq name.now word.now) names.now }
 {
@@ -84,7 +84,7 @@ fn blank_in(line: &[u8]) -> Option<usize>
     line.iter().position(|byte| *byte == b' ')
 }
 
-/// What a line says, which is given without its newline.
+/// The content of a line, which is given without its newline.
 fn what_says(line: &[u8]) -> Option<Said>
     ensures { MatchOption result ((s : Saying) → IsSaid s → line_of s ≡ line.now → ⊥) (λ s. IsSaid s × (line_of s ≡ line.now)) }
 {
@@ -100,7 +100,7 @@ fn what_says(line: &[u8]) -> Option<Said>
     }
 }
 
-/// Notes what a line says. False where it lacks its newline, says nothing, or says a cost that is known.
+/// Notes the cost in a line. False where the line lacks its newline, has no cost, or its mnemonic has a cost already.
 fn note(costs: &mut [Option<u8>], line: &SourceLine<'_>) -> bool
     requires { length costs.old ≡ 28 }
     ensures { Notes (line_view line.now) costs.old costs.new result }
@@ -120,7 +120,7 @@ fn note(costs: &mut [Option<u8>], line: &SourceLine<'_>) -> bool
     }
 }
 
-/// Whether it is the line that begins a text of costs.
+/// Whether it is the heading of a text of costs.
 fn is_heading(line: &SourceLine<'_>) -> bool
     ensures { IsTrue result ↔ IsHeading (line_view line.now) }
 {
@@ -143,7 +143,7 @@ fn costs_of(kept: &[Option<u8>]) -> Costs
     }
 }
 
-/// The costs whose text the bytes are, or the least number such that so many first lines begin no text of costs: where the text ends too early or its last line lacks the
+/// The costs whose text the bytes are, or the first line at which the text can't be one of costs any more: where it ends too early or its last line lacks the
 /// newline, the number of the line that is missing or cut.
 pub fn read_costs(text: &[u8]) -> Result<Costs, CostLine>
     ensures { ReadsCosts text.now result }

@@ -1,4 +1,4 @@
-//! What sequences cost. A table of rules that goes by costs has a number for each mnemonic; where there is none, a sequence weighs as much as it is long.
+//! What sequences cost. A table of rules with costs has a number for each mnemonic; without costs, a sequence's weight is its length.
 ghost use Rattle.std.specs.Prelude.{◌≡◌, ◌≤◌, MatchOption, Some};
 ghost use Rattle.seq_enum.specs.Costs.{AreCosts, cost_in, mnemonic, weight_under};
 
@@ -101,7 +101,7 @@ impl Costs {
         &self.numbers
     }
 
-    /// The costs of 28 numbers: none where they aren't 28 of 1 to 64.
+    /// The costs with these numbers; None unless they are 28 numbers from 1 to 64.
     pub fn new(numbers: &[u8]) -> Option<Costs>
         ensures { MatchOption result (AreCosts numbers.now → ⊥) (λ costs. (costs ≡ numbers.now) × AreCosts numbers.now) }
     {

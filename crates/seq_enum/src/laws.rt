@@ -6,7 +6,7 @@ pub fn cost_texts_have_one_meaning()
     ensures { OneMeaning }
 {}
 
-/// No text is one of costs and refused as well, and one that is refused is refused at one line.
+/// No text is both accepted and refused, and a text is refused at just one line.
 pub fn cost_refusals_are_one()
     ensures not_both { NotBoth }
     ensures once { RefusedOnce }

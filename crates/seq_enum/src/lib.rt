@@ -1,4 +1,4 @@
-//! The alphabet of a window's instructions over a few registers and a pool of numbers, and its sequences by number.
+//! Enumerates instruction sequences: the alphabet over a few registers and a pool of numbers, its sequences by number, and by cost.
 #![tactic(auto)]
 
 mod alphabet;

@@ -1,4 +1,4 @@
-//! One row of the alphabet, the instructions of one kind: registers and numbers as the digits of a place.
+//! One row of the alphabet, the instructions of one kind: the places of its operands are the digits of an instruction's place.
 ghost use Rattle.std.specs.Prelude.{◌≡◌, ◌≤◌, ◌<◌, ◌*◌, length, slice_get, IfSome, IsSome};
 ghost use Rattle.thumb_instr.specs.Parts.{of};
 ghost use Rattle.thumb_instr.specs.Roles.{roles};
@@ -9,7 +9,7 @@ use crate::pool::Pool;
 use crate::values::{count_of, count_of_second, place_of, place_of_second, second_at, value_at};
 use thumb_instr::{Instr, Kind, Parts, rebuilt, roles};
 
-/// How many instructions a mnemonic has.
+/// How many instructions a kind has in the alphabet.
 #[tactic(auto, using(crate::proofs::Mnemonics::count_members))]
 pub(crate) fn size_of(kind: Kind, k: u8, pool: &Pool) -> u64
     requires few { k ≤ 4 }
@@ -22,7 +22,7 @@ pub(crate) fn size_of(kind: Kind, k: u8, pool: &Pool) -> u64
         * (count_of_second(kind, k, pool) * count_of(roles.third, k, pool))
 }
 
-/// The instruction of a mnemonic at a place.
+/// The instruction of a kind at a place.
 pub(crate) fn member(kind: Kind, k: u8, pool: &Pool, place: u64) -> Option<Instr>
     requires few { k ≤ 4 }
     requires listed { IsSome (rank kind) }
@@ -32,7 +32,7 @@ pub(crate) fn member(kind: Kind, k: u8, pool: &Pool, place: u64) -> Option<Instr
     rebuilt(&parts_at(kind, k, pool, place)?)
 }
 
-/// The kind, registers and numbers of the instruction of a mnemonic at a place.
+/// The kind, registers and numbers of the instruction of a kind at a place.
 fn parts_at(kind: Kind, k: u8, pool: &Pool, place: u64) -> Option<Parts>
     requires few { k ≤ 4 }
     requires some { 0 < second_count k pool.now kind * length (values k pool.now (roles kind).third) }
@@ -53,7 +53,7 @@ fn parts_at(kind: Kind, k: u8, pool: &Pool, place: u64) -> Option<Parts>
     })
 }
 
-/// Where an instruction stands among those of its mnemonic, by its parts.
+/// The place of an instruction among those of its kind, by its parts.
 pub(crate) fn place_of_parts(k: u8, pool: &Pool, parts: &Parts) -> Option<u64>
     requires { k ≤ 4 }
     ensures value { IsPlace result (parts_in k pool.now parts.now.kind) parts.now }

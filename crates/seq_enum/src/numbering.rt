@@ -1,4 +1,4 @@
-//! The numbers of sequences. What lies before each mnemonic of an alphabet is worked out once for all sequences that are numbered.
+//! The number of a sequence. The place at which each kind begins in the alphabet is computed once for all sequences that are numbered.
 ghost use Rattle.std.specs.Prelude.{◌≡◌, ◌≤◌, ◌<◌, ◌+◌, ◌*◌, ◌^◌, length, take, IfSome, IsSome, Some, All};
 ghost use Rattle.std.specs.List.{flat_map};
 ghost use Rattle.std.specs.Option.{option_map};
@@ -18,7 +18,7 @@ use thumb_instr::{Instr, Kind, Seq};
 pub struct Numbering<'a> {
     pub(crate) registers: u8,
     pub(crate) pool: &'a Pool,
-    /// how many instructions of the alphabet lie before each mnemonic
+    /// how many instructions of the alphabet come before those of each kind
     starts: ArrayVec<u64, 37>,
     size: u64,
 }
@@ -68,7 +68,7 @@ impl<'a> Numbering<'a> {
         Some(place)
     }
 
-    /// The place in the alphabet of what has this place among the instructions of a mnemonic.
+    /// The place in the alphabet of the instruction that has this place among those of its kind.
     pub(crate) fn behind(&self, row: usize, place: Option<u64>) -> Option<u64>
         requires is { IsNumbering self.now }
         requires listed { row < 37 }
@@ -80,7 +80,7 @@ impl<'a> Numbering<'a> {
         Some(before + place?)
     }
 
-    /// How many instructions of the alphabet lie before those of a mnemonic.
+    /// How many instructions of the alphabet come before those of a kind.
     fn before(&self, row: usize) -> u64
         requires is { IsNumbering self.now }
         requires listed { row < 37 }
@@ -100,7 +100,7 @@ pub fn number_of(k: u8, pool: &Pool, seq: &Seq) -> Option<u64>
     Numbering::new(k, pool).number_of(seq)
 }
 
-/// How many instructions lie before each mnemonic of a list.
+/// How many instructions come before those of each kind in a list.
 fn starts_of(rows: &[Kind], k: u8, pool: &Pool) -> ArrayVec<u64, 37>
     requires few { k ≤ 4 }
     requires listed { All (λ t. IsSome (rank t)) rows.now }
@@ -116,7 +116,7 @@ fn starts_of(rows: &[Kind], k: u8, pool: &Pool) -> ArrayVec<u64, 37>
     starts
 }
 
-/// A place behind so many others.
+/// A place moved up by `before`.
 fn moved(before: u64, place: Option<u64>) -> Option<u64>
     requires few { before < 2 ^ 62 }
     requires small { IfSome place (λ i. i < 2 ^ 62) }
@@ -125,7 +125,7 @@ fn moved(before: u64, place: Option<u64>) -> Option<u64>
     Some(before + place?)
 }
 
-/// How many sequences have fewer than `count` instructions, where there are so many instructions.
+/// How many sequences have fewer than `count` instructions, over an alphabet of `size` instructions.
 #[tactic(auto, using(crate::proofs::Words::sums))]
 pub fn count_below(size: u64, count: u32) -> u64
     requires few { size ≤ 1952 }

@@ -1,4 +1,4 @@
-//! The pool of numbers. How many of them an operand takes depends on its range, so counts by range stand here.
+//! The pool of numbers that operands may take. Which of them an operand takes depends on its range, so look-ups are by range.
 ghost use Rattle.std.specs.Prelude.{◌≡◌, ◌≤◌, ◌<◌, slice_get, length, filter, IfSome, IsSome, IsTrue, ◌↔◌, Some, true};
 ghost use Rattle.seq_enum.specs.Alphabet.{ascends_from, IsPlace, is_pool, inside};
 ghost use Rattle.seq_enum.specs.Places.{place_of};
@@ -24,7 +24,7 @@ impl Model for Pool {
 }
 
 impl Pool {
-    /// The pool of some numbers, where they are 1 to 16, each above the one before.
+    /// The pool of these numbers; None unless they are 1 to 16, each above the one before.
     pub fn new(numbers: &[u8]) -> Option<Pool>
         ensures valid { IsSome result ↔ IsTrue (is_pool numbers.now) }
         ensures value { IfSome result (λ p. p ≡ numbers.now) }
@@ -38,7 +38,7 @@ impl Pool {
         }
     }
 
-    /// The numbers, ascending.
+    /// The numbers, in ascending order.
     pub fn numbers(&self) -> &[u8]
         ensures value { result.now ≡ self.now }
         ensures valid { IsTrue (is_pool self.now) }
@@ -64,7 +64,7 @@ impl Pool {
         }
     }
 
-    /// Where a number stands among those from `least` to below `limit`.
+    /// The place of a number among those from `least` to below `limit`.
     pub(crate) fn place(&self, least: u32, limit: u32, number: u32) -> Option<u64>
         ensures value { IsPlace result (filter (inside least limit) self.now) number }
         ensures small { IfSome result (λ i. i < 16) }
@@ -102,7 +102,7 @@ fn ascends(numbers: &[u8]) -> bool
     true
 }
 
-/// The numbers as a value of its own.
+/// A copy of the numbers.
 fn kept(numbers: &[u8]) -> ArrayVec<u8, 16>
     requires { length numbers.now ≤ 16 }
     ensures { result.items ≡ numbers.now }
@@ -141,7 +141,7 @@ fn number_among(numbers: &[u8], least: u32, limit: u32, place: u64) -> Option<u8
     None
 }
 
-/// Where a number stands among those from `least` to below `limit`.
+/// The place of a number among those from `least` to below `limit`.
 #[tactic(auto, unfolding(crate::specs::Places::place_of))]
 fn place_among(numbers: &[u8], least: u32, limit: u32, number: u32) -> Option<u64>
     ensures value { result ≡ place_of number (filter (inside least limit) numbers.now) }

@@ -1,4 +1,4 @@
-//! The order of the rows is part of what a table's numbers mean, so it stands in one list.
+//! The order of the rows, the kinds of instructions, in one list: the numbers in a table depend on it.
 ghost use Rattle.std.specs.Prelude.{◌≡◌, ◌<◌, length, IfSome, IsSome, All};
 ghost use Rattle.seq_enum.specs.Places.{rank};
 ghost use Rattle.seq_enum.specs.Alphabet.{rows};
@@ -45,7 +45,7 @@ static ROWS: [Kind; 37] = [
     Kind::Reverse(Reversal::Revsh),
 ];
 
-/// The mnemonics of the alphabet, in order.
+/// The kinds of instructions in an alphabet, in order.
 #[tactic(auto, unfolding(crate::specs::Alphabet::rows), using(crate::proofs::Mnemonics::rows_listed))]
 pub(crate) fn rows() -> &'static [Kind]
     ensures value { result.now ≡ rows }
@@ -55,7 +55,7 @@ pub(crate) fn rows() -> &'static [Kind]
     &ROWS
 }
 
-/// The place of a kind of instruction among the 37 mnemonics of alphabets, from 0: none where instructions of the kind stand in none.
+/// The place of a kind among the 37 kinds of instructions in alphabets, from 0; None for any other kind.
 pub fn rank(kind: Kind) -> Option<usize>
     ensures value { result ≡ rank kind }
     ensures within { IfSome result (λ i. i < 37) }

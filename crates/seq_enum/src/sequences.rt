@@ -1,4 +1,4 @@
-//! Sequences by number: shorter ones first, and among those of one length the first instruction counts most.
+//! The sequence of a number. Shorter ones come first; among those of one length, the first instruction is the most significant digit.
 ghost use Rattle.std.specs.Prelude.{◌≡◌, ◌≤◌, ◌<◌, ◌^◌, length, slice_get, Some};
 ghost use Rattle.seq_enum.specs.Alphabet.{alphabet, words, sequences};
 

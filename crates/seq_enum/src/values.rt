@@ -1,4 +1,4 @@
-//! What stands as each operand in the alphabet: a register below `k`, or a number of the pool.
+//! The values of each operand in the alphabet: registers below `k`, or the numbers of the pool in the operand's range.
 ghost use Rattle.std.specs.Prelude.{◌≡◌, ◌≤◌, ◌<◌, slice_get, length, IfSome};
 ghost use Rattle.seq_enum.specs.Alphabet.{IsPlace, numbers_from};
 ghost use Rattle.seq_enum.specs.Places.{values, seconds, second_count, without};
@@ -31,7 +31,7 @@ pub(crate) fn value_at(role: Role, k: u8, pool: &Pool, place: u64) -> Option<u32
     }
 }
 
-/// Where a value stands among those of an operand.
+/// The place of a value among those of an operand.
 pub(crate) fn place_of(role: Role, k: u8, pool: &Pool, value: u32) -> Option<u64>
     requires { k ≤ 4 }
     ensures value { IsPlace result (values k pool.now role) value }
@@ -57,7 +57,7 @@ pub(crate) fn count_of_second(kind: Kind, k: u8, pool: &Pool) -> u64
     }
 }
 
-/// The value of the second operand at a place, behind a first.
+/// The value of the second operand at a place, for a given first operand.
 pub(crate) fn second_at(kind: Kind, k: u8, pool: &Pool, first: u32, place: u64) -> Option<u32>
     requires { place ≤ 256 }
     ensures { result ≡ slice_get (seconds k pool.now kind first) place }
@@ -68,7 +68,7 @@ pub(crate) fn second_at(kind: Kind, k: u8, pool: &Pool, first: u32, place: u64) 
     }
 }
 
-/// Where a value stands among those of the second operand, behind a first.
+/// The place of a value among those of the second operand, for a given first operand.
 pub(crate) fn place_of_second(kind: Kind, k: u8, pool: &Pool, first: u32, value: u32) -> Option<u64>
     requires { k ≤ 4 }
     ensures value { IsPlace result (seconds k pool.now kind first) value }
@@ -92,7 +92,7 @@ fn number_at(k: u8, place: u64) -> Option<u32>
     }
 }
 
-/// Where a number stands among the first `k`.
+/// The place of a number among the first `k`.
 #[tactic(auto, using(crate::proofs::Ascending::places_of_firsts))]
 fn place_of_number(k: u8, value: u32) -> Option<u64>
     ensures value { IsPlace result (numbers_from 0 k) value }
@@ -118,7 +118,7 @@ fn other_at(k: u8, left_out: u32, place: u64) -> Option<u32>
     }
 }
 
-/// Where a number stands among the first `k` without one.
+/// The place of a number among the first `k` without one.
 #[tactic(auto, using(crate::proofs::Ascending::places_of_others))]
 fn place_of_other(k: u8, left_out: u32, value: u32) -> Option<u64>
     ensures value { IsPlace result (without left_out (numbers_from 0 k)) value }

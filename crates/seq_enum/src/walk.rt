@@ -1,4 +1,4 @@
-//! All sequences one after the other. Most often only the last instruction changes, so that a step costs no more than that.
+//! A walk through all sequences in order of their numbers. Mostly only the last instruction changes, so that a step is cheap.
 ghost use Rattle.std.specs.Prelude.{◌≡◌, ◌≤◌, ◌<◌, ◌+◌, ◌^◌, length, slice_get, Some, None, MatchOption, IfOk};
 ghost use Rattle.std.specs.Bool.{OnTrue, OnFalse};
 ghost use Rattle.seq_enum.specs.Alphabet.{alphabet, words, sequences_of};
@@ -20,7 +20,7 @@ pub struct Walk<'a> {
 }
 
 impl<'a> Walk<'a> {
-    /// A walk that stands at sequence 0, which is empty.
+    /// A walk at sequence 0, which is empty.
     pub fn new(alphabet: &'a [Instr]) -> Self
         requires some { 0 < length alphabet.now }
         requires few { length alphabet.now ≤ 1952 }
@@ -36,14 +36,14 @@ impl<'a> Walk<'a> {
         }
     }
 
-    /// The number of the sequence where it stands.
+    /// The number of the current sequence.
     pub fn number(&self) -> u64
         ensures { result ≡ self.now.number }
     {
         self.number
     }
 
-    /// The sequence where it stands.
+    /// The current sequence.
     pub fn instrs(&self) -> &[Instr]
         requires { IsWalk self.now }
         ensures { slice_get (sequences_of self.now.alphabet.now) self.now.number ≡ Some result.now }
@@ -119,7 +119,7 @@ fn word_of(alphabet: &[Instr], number: u64) -> Option<(ArrayVec<Instr, 5>, u64)>
     None
 }
 
-/// The instructions of a place among the sequences of so many.
+/// The sequence at a place among those of `count` instructions.
 pub fn instrs_at(alphabet: &[Instr], count: u32, place: u64) -> ArrayVec<Instr, 5>
     requires some { 0 < length alphabet.now }
     requires short { count ≤ 5 }

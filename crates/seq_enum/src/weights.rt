@@ -1,5 +1,5 @@
-//! What all sequences cost, in order of their numbers. The sequences of one instruction more are, for each of the longest ones in order, each instruction
-//! behind it, so that what a sequence costs comes from what it costs without its last instruction.
+//! What all sequences cost, in order of their numbers. The sequences of the next length are each of the longest ones, in order, with each instruction
+//! appended, so that a sequence's cost is computed from its cost without the last instruction.
 ghost use Rattle.std.specs.Prelude.{◌≡◌, ◌+◌, ◌<◌, ◌≤◌, ◌++◌, All, IfOk, OnOk, Some, drop, length, map};
 ghost use Rattle.std.specs.List.{flat_map};
 ghost use Rattle.seq_enum.specs.Alphabet.{numbers_from, alphabet, words};
@@ -23,7 +23,7 @@ fn instr_costs(alloc: Global, alphabet: &[Instr], costs: &Costs) -> Result<Vec<u
     Ok(all)
 }
 
-/// Puts what a sequence costs with each instruction behind it behind the others.
+/// Appends the costs of a sequence with each instruction appended.
 #[inline(always)]
 fn push_extended(weights: &mut Vec<u16>, costs: &[u16], weight: u16) -> Result<(), AllocError>
     requires small { weight ≤ 320 }
@@ -36,7 +36,7 @@ fn push_extended(weights: &mut Vec<u16>, costs: &[u16], weight: u16) -> Result<(
     Ok(())
 }
 
-/// Puts what the sequences from a place on cost, each with each instruction behind it, behind the others.
+/// Appends the costs of all sequences from a place on, each with each instruction appended.
 fn push_longer(weights: &mut Vec<u16>, costs: &[u16], first: usize) -> Result<(), AllocError>
     requires within { first ≤ length weights.old.items }
     requires small { All (λ weight. weight ≤ 320) weights.old.items }

@@ -1,4 +1,4 @@
--- The answer to the proof of an entry or a family.
+-- What the checker answers on a proof is the verdict on the entry's or the family's proof.
 use Rattle.std.proofs.Common.{◌≡◌, ℕ, ℤ, suc, ◌⊎◌, inl, inr, List, [], ◌∷◌, ◌++◌, Option, Some, None, Result, Ok, Err, refl, ap, sym, ◌∙◌, subst, arith}
 use Rattle.std.specs.Prelude.{Any}
 use Rattle.std.proofs.lemmas.List.{append-nil}
@@ -16,7 +16,7 @@ use Rattle.lrat_check.proofs.Renamed.{proof_renamed}
 use Rattle.table_audit.specs.declared.errors.AuditError.{AuditError}
 use Rattle.table_audit.specs.declared.errors.AuditError.TheVariants.{Memory}
 
--- the verdict on a proof whose faults are told by these names
+-- the verdict on a proof whose faults are reported by these names
 abbrev pub NamedVerdict : (ProofFault → AuditError) → List (List ℕ) → List Content → Option AuditError → Type 0
 NamedVerdict name clauses lines = ProofVerdict (λ line. name (proof.Line line)) (name proof.Unfinished) clauses lines
 
@@ -33,7 +33,7 @@ proof_failed name clauses whole lines log fault told kept e f is (inr p) =
     (subst (λ ls. NamedVerdict name whole ls (Some (name fault))) f
     (subst (λ cs. NamedVerdict name cs lines (Some (name fault))) e (proof_renamed name proof.Line proof.Unfinished clauses lines (Some fault) p))))
 
--- an error that is handed on is the answer that it was
+-- an error that is passed on is the same answer
 pub handed_on : {A F : Type 0} (memory f : F) (r : Result A F) (verdict : Option F → Type 0) → IsErrAnd r (λ e. e ≡ f) → (f ≡ memory) ⊎ verdict (Some f) → Answers memory r verdict
 handed_on memory f (Ok a) verdict h p = absurd h
 handed_on memory f (Err e) verdict h (inl p) = inl (h ∙ p)
@@ -41,7 +41,7 @@ handed_on memory f (Err e) verdict h (inr p) = inr (subst (λ x. verdict (Some x
 
 -- ---- a side against itself ----
 
--- codes among which an empty clause stands last
+-- where the last clause is empty, an empty clause is among the codes
 last_empty : (clauses : List (List ℤ)) → Any (λ clause. clause ≡ []) (codes_of (clauses ++ [] ∷ []))
 last_empty [] = (0, [], omega arith, refl, refl)
 last_empty (clause ∷ clauses) = let r = last_empty clauses in (suc r.0, r.1, omega (arith, r.2), r.3, r.4)

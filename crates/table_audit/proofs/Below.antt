@@ -84,7 +84,7 @@ none_below h left [] q seq none b = nothing h.costs b.lighter
     nothing (Some costs) l = omega (arith, l)
 none_below h left (i ∷ is) q seq none b = omega (arith, none)
 
--- and so there is none
+-- so either no sequence is below a side, or the side isn't empty
 pub some_below : (h : Header) (left side : List Instr) → (length (below h left side) ≡ 0) ⊎ (0 < length side)
 unfolding below
 some_below h left (i ∷ is) = inr (omega arith)
@@ -100,7 +100,7 @@ some_below h left [] = inl (nothing_kept h.costs (sequences_below (alphabet_regi
 
 -- ---- shares of ascending numbers ----
 
--- the element at a place passes a test, and a number's share is within one
+-- the element at a place passes a test, and a number's share is at most one share
 pub record IsShare {X : Type 0} (f : ℕ → ℕ) (share : ℕ) (p : X → Bool) (xs : List X) (place q : ℕ) : Type 0 where
   pub element : X
   pub at : slice_get xs place ≡ Some element
@@ -114,7 +114,7 @@ no_shares : (f : ℕ → ℕ) (numbers : List ℕ) → ((q : ℕ) → Contains n
 no_shares f [] each = refl
 no_shares f (q ∷ qs) each = omega (arith, sum_by-cons f q qs, each q (0, omega arith, refl), no_shares f qs (λ r c. each r (later q r qs c)))
 
--- of ascending numbers no more have a share than there are elements that pass
+-- of numbers in ascending order no more have a share than there are elements that pass
 pub shares_within : {X : Type 0} (f : ℕ → ℕ) (share : ℕ) (p : X → Bool) (xs : List X) (low : ℕ) (numbers : List ℕ) → ascends_from low numbers ≡ true
     → ((q : ℕ) → Contains numbers q → (f q ≡ 0) ⊎ IsShare f share p xs (q - low) q) → sum_by f numbers ≤ length (filter p xs) * share
 unfolding ascends_from
@@ -187,7 +187,7 @@ run_within t e number seq before after u s at is short h =
     let same : u * length e.left ≡ length t.states * length e.left = ap (λ n. n * length e.left) is in
     omega (arith, h, share, more, same)
 
--- where each runs its sequence, if that is below the right side, all of them run no more than all such sequences
+-- ascending numbers whose sequences are run where they are below the right side cost no more than running all sequences below it
 pub told_most : (t : Table) (e : Rule) (numbers : List ℕ) → length e.left ≤ 5 → ascends_from 0 numbers ≡ true → sum_by (told_cost t e) numbers ≤ length (below t.header e.left e.right) * (length t.states * length e.left)
 unfolding below
 told_most t e numbers few a =

@@ -1,4 +1,4 @@
--- Steps of elements, one share for each.
+-- The steps of a loop are the sum of its elements' shares.
 use Rattle.std.proofs.Common.{ℕ, ◌≡◌, ◌<◌, ◌≤◌, ◌+◌, List, Some, length, get_or, slice_get, sum_by, take, ap, arith}
 use Rattle.std.proofs.lemmas.Option.{slice_get_within, get_or_from_slice_get}
 use Rattle.std.proofs.lemmas.List.Sums.{sum_by_more, sum_by_more_le, sum_by-take-le}

@@ -65,7 +65,7 @@ module _ (t : Table) (e : Rule) (instrs : List Instr) (longest : ℕ) (tried : I
       let in_all = below_in k t.header.pool (longest + 1) q one.0 short one.1 in
       record { seq = one.0; at = in_all.0; no_longer = omega (arith, in_all.1, tried.is_longest) }
 
-  -- one below the right side stands there
+  -- a sequence below the right side stands in the table at its number
   below_there : (q : ℕ) (seq : List Instr) → IsBelow t.header e.left e.right q seq → slice_get (table.sequences_below instrs (longest + 1)) q ≡ Some seq
   below_there q seq b =
       let l = below_short t.header e.left e.right q seq tried.costs b in

@@ -10,7 +10,7 @@ use Rattle.table_audit.specs.Shorter.{weight_in}
 use Rattle.table_audit.specs.Acceptance.{StateTest, StatesVerdict, WideVerdict, SidesVerdict, EntryProofVerdict, ToldVerdict, OpenTest, OpensVerdict, EntryVerdict, SymbolVerdict, FamilyProofVerdict, RaisedVerdict, FamilyVerdict, EntriesVerdict, FamiliesVerdict, TableVerdict, IsAccepted}
 use Rattle.table_audit.specs.Families.{entry_of}
 
--- two of which each comes first by weight and then by number are the same
+-- two untold sequences that are each first by weight and then by number have the same number
 told_one : (t : Table) (n : ℕ) (e : Rule) → IsOne (ToldVerdict t n e)
 told_one t n e = record { same = same }
   where

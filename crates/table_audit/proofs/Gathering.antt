@@ -1,4 +1,4 @@
--- Light sequences are found by putting instructions behind those that were found before.
+-- The search of `lighter` finds each light sequence: it appends instructions to those found before.
 use Rattle.std.proofs.Common.{◌≡◌, ℕ, zero, suc, ◌+◌, ◌-◌, ◌*◌, ◌/◌, ◌%◌, ◌^◌, ◌<◌, ◌≤◌, ◌⊎◌, ◌&&◌, inl, inr, Bool, true, false, List, [], ◌∷◌, ◌++◌, Option, Some, None, Contains, cond, filter, get_or, length, map, nat_lt, slice_get, refl, sym, ◌∙◌, ap, subst, arith, lt-ltb, add-one, append-nil, append_assoc, length-append}
 use Rattle.std.specs.Option.{option_map, option_and_then}
 use Rattle.std.proofs.Math.Nat.{mul-le-mul_left, mul-le-mul_right, pow-le-pow_left, pow-le-pow_right, pow-suc, pow-zero}
@@ -54,7 +54,7 @@ located alphabet (suc n) q seq e =
 shorter_count : (alphabet : List Instr) (n : ℕ) → length (sequences_below alphabet (n + 1)) ≡ length (sequences_below alphabet n) + length alphabet ^ n
 shorter_count alphabet n = ap (λ ws. length ws) (below_more alphabet n) ∙ length-append (sequences_below alphabet n) (words alphabet n) ∙ ap (λ m. length (sequences_below alphabet n) + m) (length-words alphabet n)
 
--- the instructions behind a sequence have the numbers from one on
+-- the number of the first sequence of n + 1 instructions, by that of the first of n instructions
 pub next_count : (alphabet : List Instr) (n : ℕ) → length (sequences_below alphabet (n + 1)) ≡ length (sequences_below alphabet n) * length alphabet + 1
 next_count alphabet zero =
     let none : length (sequences_below alphabet 0) ≡ 0 = ap (λ ws. length ws) (below_none alphabet) in
@@ -68,7 +68,7 @@ next_count alphabet (suc n) =
     let product : length (sequences_below alphabet (suc n)) * length alphabet ≡ (length (sequences_below alphabet n) + length alphabet ^ n) * length alphabet = ap (λ m. m * length alphabet) before in
     omega (arith, shorter_count alphabet (suc n), again, power, product)
 
--- there are not so many
+-- a bound on the number of words
 power_four : (size n : ℕ) → size ≤ 1952 → n ≤ 4 → size ^ n ≤ 1952 ^ 4
 power_four size n h k =
     let some : 0 < 1952 = omega arith in
@@ -82,7 +82,7 @@ short_count alphabet (suc n) few h =
     let more : length (sequences_below alphabet (suc n)) ≡ length (sequences_below alphabet n) + length alphabet ^ n = ap (λ m. length (sequences_below alphabet m)) (sym (add-one n)) ∙ shorter_count alphabet n in
     omega (arith, more, short_count alphabet n few (omega (arith, h)), power_four (length alphabet) n few (omega (arith, h)))
 
--- a word with an instruction behind it, by place
+-- a word with an instruction appended, by place
 word_behind : (alphabet : List Instr) (n i j : ℕ) (w : List Instr) (x : Instr) → slice_get (words alphabet n) i ≡ Some w → slice_get alphabet j ≡ Some x → slice_get (words alphabet (suc n)) (i * length alphabet + j) ≡ Some (w ++ x ∷ [])
 unfolding words
 word_behind alphabet n i j w x front last =
@@ -99,7 +99,7 @@ word_at alphabet n m i w h e =
     ap (λ ws. slice_get ws (length front + i)) (below_more alphabet n) ∙ get_back front (words alphabet n) (length front + i) (omega arith) ∙ ap (slice_get (words alphabet n)) there ∙ e in
     below_longest alphabet (n + 1) m (length front + i) w (omega (arith, h)) at
 
--- the number of a sequence with an instruction behind it
+-- the number of a sequence with an instruction appended
 pub longer_at : (alphabet : List Instr) (n m j : ℕ) (w : List Instr) (x : Instr) → slice_get (sequences_below alphabet n) m ≡ Some w → slice_get alphabet j ≡ Some x
     → slice_get (sequences_below alphabet (n + 1)) (m * length alphabet + 1 + j) ≡ Some (w ++ x ∷ [])
 longer_at alphabet n m j w x e last =
@@ -174,19 +174,19 @@ pub record IsLight (costs : Option (List ℕ)) (alphabet : List Instr) (limit n 
   pub at : slice_get (sequences_below alphabet n) q ≡ Some seq
   pub light : weight_under costs seq < limit
 
--- the number is that of a sequence with an instruction behind it
+-- the number is that of a sequence with an instruction appended
 pub record IsBehind (alphabet : List Instr) (number q : ℕ) : Type 0 where
   pub from : number * length alphabet + 1 ≤ q
   pub to : q < number * length alphabet + 1 + length alphabet
 
--- within a count, a number's sequence is one of fewer instructions
+-- a number below the count of sequences of fewer than n instructions is that of such a sequence
 within_count : (alphabet : List Instr) (n m q : ℕ) (seq : List Instr) → n ≤ m → slice_get (sequences_below alphabet m) q ≡ Some seq → q < length (sequences_below alphabet n) → slice_get (sequences_below alphabet n) q ≡ Some seq
 within_count alphabet n m q seq h e low = elim (slice_get_cases (sequences_below alphabet n) q).1 [
   | inl p ↦ (let same : p.0 ≡ seq = same_Some p.0 seq (sym (below_longest alphabet n m q p.0 h p.2) ∙ e) in p.2 ∙ ap (λ z. Some z) same)
   | inr p ↦ absurd (omega (arith, p.0, low))
 ]
 
--- of a light sequence the instructions behind it that are tested are those that leave it light
+-- of a light sequence's extensions the test keeps those that are light
 module _ (costs : Option (List ℕ)) (alphabet : List Instr) (limit n number : ℕ) (w : List Instr) (at : slice_get (sequences_below alphabet n) number ≡ Some w) (light : weight_under costs w < limit) where
   abbrev begin : ℕ
   begin = number * length alphabet + 1
@@ -230,7 +230,7 @@ module _ (costs : Option (List ℕ)) (alphabet : List Instr) (limit n number : �
 
 -- ---- the numbers so far ----
 
--- all of them are light, and the instructions were put behind those before a place
+-- all numbers are of light sequences, and those before the place were already extended by each instruction
 pub record Queue (costs : Option (List ℕ)) (alphabet : List Instr) (limit n place : ℕ) (numbers : List ℕ) : Type 0 where
   pub start : Contains numbers 0
   pub ascending : ascends_from 0 numbers ≡ true
@@ -424,7 +424,7 @@ queue_few costs alphabet limit n place numbers queue =
     few_numbers (is_lighter costs limit) (sequences_below alphabet n) numbers queue.ascending
     (λ q c. let l = queue.light q c in (l.seq, l.at, lt-ltb (weight_under costs l.seq) limit l.light))
 
--- the table is no longer than 128 times as many
+-- where the search ends early, the table has at most 128 sequences for each light one
 pub few_enough : (costs : Option (List ℕ)) (alphabet : List Instr) (limit n place count most : ℕ) (numbers : List ℕ) → count ≡ length (sequences_below alphabet n) → most ≡ count / 128 → most < length numbers
     → Queue costs alphabet limit n place numbers → length (sequences_below alphabet n) ≤ 128 * length (filter (is_lighter costs limit) (sequences_below alphabet n))
 few_enough costs alphabet limit n place count most numbers e d h queue = omega (arith, e, d, h, queue_few costs alphabet limit n place numbers queue)
@@ -440,7 +440,7 @@ all_lighter costs alphabet limit n none high =
     all_pass (is_lighter None limit) (sequences_below alphabet n) (λ q seq at. let l = located alphabet n q seq at in lt-ltb (length seq) limit (omega (arith, l.1, high))) in
     subst (λ c. length (sequences_below alphabet n) ≤ 128 * length (filter (is_lighter c limit) (sequences_below alphabet n))) (sym none) (omega (arith, light))
 
--- ---- the instructions behind one sequence ----
+-- ---- the instructions appended to one sequence ----
 
 range_more : (f : ℕ → Bool) (first place : ℕ) → filter f (numbers_from first (place + 1)) ≡ filter f (numbers_from first place) ++ cond (f (first + place)) ((first + place) ∷ []) []
 unfolding numbers_from

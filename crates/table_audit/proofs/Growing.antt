@@ -1,4 +1,4 @@
--- A table with one family more is accepted where the family is, and nothing that the audit says of a family looks at a table's version.
+-- An accepted table with one more family is accepted where that family is, and the verdict on a family doesn't depend on the table's version.
 use Rattle.std.proofs.Common.{◌≡◌, ℕ, ◌+◌, List, [], ◌∷◌, ◌++◌, Option, None, length, subst, arith}
 use Rattle.thumb_instr.specs.declared.instr.Instr.{Instr}
 use Rattle.rule_table.specs.Table.{Opened, Rule, Family, Table}
@@ -19,7 +19,7 @@ one_more test n (y ∷ xs) x h p =
     let e : length (y ∷ xs) + n ≡ length xs + (n + 1) = omega arith in
     (h.0, one_more test (n + 1) xs x h.1 (subst (λ m. test m x None) e p))
 
--- ---- a family more ----
+-- ---- one more family ----
 
 -- the table with these families
 abbrev with_families : Table → List Family → Table

@@ -44,7 +44,7 @@ slot_normal : (n : ℕ) (i : Instr) (x : Byte) → normal_of i ≡ i → normal_
 slot_normal n (instr.TwoNumber o d j) x h = by_test (λ s. normal_of (filled x s) ≡ filled x s) (j.number == n) (Hole o d) (Plain (instr.TwoNumber o d j)) (λ _. refl) (λ _. refl)
 slot_normal n i x h = h
 
--- it names the same registers in the same order
+-- such a side names the same registers in the same order
 pub names_raised : (n : ℕ) (side : List Instr) (x : Byte) → flat_map named (instance n side x) ≡ flat_map named side
 names_raised n [] x = refl
 names_raised n (i ∷ is) x = rw (slot_named n i x, names_raised n is x) refl
@@ -181,7 +181,7 @@ rule_at_before xs ys k i h = ap (λ o. rule_among o i) (get_front xs ys k h)
 pub rule_at_behind : (xs ys : List (List model.Rule)) (k i : ℕ) → length xs ≤ k → rule_at (xs ++ ys) k i ≡ rule_at ys (k - length xs) i
 rule_at_behind xs ys k i h = ap (λ o. rule_among o i) (get_back xs ys k h)
 
--- an element of a mapped list comes from one of the list
+-- an element of a mapped list is the image of an element of the list
 from_element : {A B P : Type 0} (v : A → B) (xs : List A) (k : ℕ) (y : B) → slice_get (map v xs) k ≡ Some y → ((x : A) → slice_get xs k ≡ Some x → v x ≡ y → P) → P
 from_element {A} {B} {P} v xs k y at next = go (slice_get xs k) refl (sym (slice_get-map v xs k) ∙ at)
   where

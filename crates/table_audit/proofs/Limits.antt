@@ -1,4 +1,4 @@
--- What follows of an accepted table's states and width: there are 64 states at least, and the sequences that are tried have four instructions at most.
+-- What follows from an accepted table's states and width: it has at least 64 states, and the sequences that are tried have at most four instructions.
 use Rattle.std.proofs.Common.{◌≡◌, ℕ, zero, suc, ◌+◌, ◌*◌, ◌^◌, ◌<◌, ◌≤◌, inl, inr, List, Option, Some, None, length, min, slice_get, refl, ap, arith}
 use Rattle.std.proofs.Math.Nat.{one-le-mul, pow-le-pow_left}
 use Rattle.std.proofs.lemmas.Bool.{cases_lt}
@@ -33,7 +33,7 @@ many_states t p =
 
 -- ---- width ----
 
--- 28 mnemonics have an instruction for each register, whatever the pool
+-- 28 kinds of instructions take no number, so that the alphabet has at least 28 instructions, whatever the pool
 least_size : (k : ℕ) (pool : List ℕ) → 0 < k → k ≤ 8 → 28 ≤ length (alphabet k pool)
 least_size k pool some few =
     let two : 1 ≤ k * k = one-le-mul some some in

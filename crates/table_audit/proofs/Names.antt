@@ -1,4 +1,4 @@
--- How many registers a canonical side names, said in two ways, and the items of a mask as a list.
+-- The two definitions of the number of registers that a canonical side names agree, and so do those of a mask's items.
 use Rattle.std.proofs.Common.{◌≡◌, ℕ, zero, suc, ◌+◌, ◌-◌, ◌<◌, ◌≤◌, ◌⊎◌, ◌==◌, ◌||◌, ◌&&◌, inl, inr, Bool, true, false, List, [], ◌∷◌, ◌++◌, max, filter, cond, refl, sym, ◌∙◌, ap, subst, arith, nat_lt, nat_le}
 use Rattle.std.specs.List.{flat_map}
 use Rattle.std.proofs.lemmas.Bool.{cases_Bool, eqb-true, or_cases, or_left, or_right, ltb-true, leb-true, and_parts}
@@ -16,7 +16,7 @@ use Rattle.table_audit.proofs.Appearing.{has_low, names_register}
 pub use Rattle.window_exec.proofs.Differences.{of_four}
 use Rattle.common_lemmas.proofs.Booleans.{eqb_sym}
 
--- ---- membership, said in two ways ----
+-- ---- membership, defined in two ways ----
 
 pub one_of_has : (x : ℕ) (xs : List ℕ) → one_of x xs ≡ has xs x
 one_of_has x [] = refl

@@ -17,7 +17,7 @@ use Rattle.table_audit.specs.Shorter.{sequences_below}
 use Rattle.common_lemmas.proofs.Lists.{get_front}
 use Rattle.seq_enum.proofs.Weighing.{numbers_split}
 
--- all sequences are those below n instructions and the longer ones behind them
+-- all sequences are those of fewer than n instructions, followed by the longer ones
 sequences_split : (k : ℕ) (pool : List ℕ) (n : ℕ) → n ≤ 6 → sequences k pool ≡ sequences_below k pool n ++ flat_map (words (alphabet k pool)) (numbers_from n (6 - n))
 unfolding sequences_of sequences_below
 sequences_split k pool n h =
@@ -38,7 +38,7 @@ below_in k pool n q s h e =
       omega (arith, bounds.1),
     )
 
--- and the other way round
+-- the converse
 pub below_from : (k : ℕ) (pool : List ℕ) (n q : ℕ) (s : List Instr) → n ≤ 6 → slice_get (sequences k pool) q ≡ Some s → length s < n
     → slice_get (sequences_below k pool n) q ≡ Some s
 below_from k pool n q s h e short =

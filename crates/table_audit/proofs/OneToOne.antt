@@ -25,7 +25,7 @@ one_place (x ∷ xs) d (suc i) (suc j) r e f = omega (arith, one_place xs d.1 i 
 
 -- ---- one-to-one maps ----
 
--- no two numbers below k are taken to one
+-- no two numbers below k are mapped to the same
 abbrev pub IsOneToOneBelow : ℕ → (ℕ → ℕ) → Type 0
 IsOneToOneBelow k f = (x y : ℕ) → x < k → y < k → f x ≡ f y → x ≡ y
 
@@ -64,7 +64,7 @@ firsts_mapped k f one seen [] b h = refl
 firsts_mapped k f one seen (r ∷ rs) b h =
     ap (λ s. firsts s (map f rs)) (first_mapped k f one seen r b h.0) ∙ firsts_mapped k f one (with_first seen r) rs (below_first k seen r b h.0) h.1
 
--- ---- the map that registers are ----
+-- ---- a list of registers as a map ----
 
 item_or : (registers : List Low) (x other : ℕ) → x < length registers → slice_get (numbers_of registers) x ≡ Some (number_or (slice_get registers x) other)
 item_or [] x other low = absurd (omega arith)
@@ -77,7 +77,7 @@ item_at registers x low = item_or registers x x low
 pub one_to_one : (registers : List Low) → AreDistinct (numbers_of registers) → IsOneToOneBelow (length registers) (item_under registers)
 one_to_one registers d x y low also e = one_place (numbers_of registers) d x y (item_under registers x) (item_at registers x low) (item_at registers y also ∙ ap Some (sym e))
 
--- ---- what is taken to the registers is r0, r1 and so on ----
+-- ---- what is mapped to the registers is r0, r1 and so on ----
 
 counts : (first : ℕ) (xs : List ℕ) → ((i : ℕ) → i < length xs → slice_get xs i ≡ Some (first + i)) → xs ≡ numbers_from first (length xs)
 unfolding numbers_from

@@ -1,4 +1,4 @@
--- Where each mnemonic costs 1, the sequences below a side are those that are shorter.
+-- Where each mnemonic costs 1, weight is length, so that cheapest is shortest.
 use Rattle.std.proofs.Common.{◌≡◌, ℕ, inl, inr, List, [], ◌∷◌, Some, None, length, replicate, refl, ◌∙◌, ap, arith}
 use Rattle.std.proofs.lemmas.Bool.{cases_lt}
 use Rattle.std.proofs.lemmas.List.{get_or-replicate, get_or_past}

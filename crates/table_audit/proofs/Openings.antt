@@ -46,7 +46,7 @@ spent_open t e o seq r at untold spent = (
 pub as_many : (left : List Instr) (states : List Seen) (trials : List Trial) → AreTrials left states trials → length trials ≡ length states
 as_many left states trials a = sym (length-map trials start_of) ∙ ap length a.starts
 
--- else its log's are added
+-- where no state tells it, the steps of its log are added
 pub spent_within : (t : Table) (e : Rule) (o : Opened) (seq : List Instr) (start before after u s log : ℕ) → below_at t.header e.left e.right o.number ≡ Some seq → u ≡ length t.states → s ≤ length e.left
     → before ≤ start + u * s → after ≤ before + log → log ≡ spent_cost (codes_of (formula_against t.header e seq).clauses) o.log → after ≤ start + (told_cost t e o.number + open_cost t e o)
 spent_within t e o seq start before after u s log at is short h k f =

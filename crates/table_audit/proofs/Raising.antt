@@ -1,4 +1,4 @@
--- Families and the entries that they raise.
+-- Look-ups of families and of the entries that they raise.
 use Rattle.std.proofs.Common.{◌≡◌, ℕ, zero, suc, ◌-◌, ◌≤◌, ◌<◌, ◌+◌, List, Option, Some, None, MatchOption, Result, map, length, refl, sym, ◌∙◌, subst, arith, ap, slice_get}
 use Rattle.std.specs.Borrow.{Bor}
 use Rattle.std.specs.List.{HoldsAt}

@@ -1,4 +1,4 @@
--- Whether a state is one that a table lists.
+-- The code's comparison of states, word by word, is equality with the state that a table lists at a place.
 use Rattle.std.proofs.Common.{◌≡◌, ℕ, ◌<◌, ◌≤◌, ◌&&◌, length, get_or, ◌↔◌, Bool, true, IsTrue, List, Some, None, slice_get, map, sym, ◌∙◌, ap, refl, eqb, inl, inr}
 use Rattle.std.specs.Option.{option_map}
 use Rattle.std.proofs.lemmas.Option.{slice_get-map, slice_get-get_or, slice_get_past, same_Some}

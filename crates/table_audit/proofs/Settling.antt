@@ -1,4 +1,4 @@
--- Numbers, one after the other: the first untold sequence so far.
+-- The loop over the numbers that are tried: the first untold sequence so far.
 use Rattle.std.proofs.Common.{◌≡◌, ℕ, zero, suc, ◌+◌, ◌<◌, ◌≤◌, ◌⊎◌, inl, inr, true, List, [], ◌∷◌, Option, Some, None, Contains, MatchOption, drop, length, get_or, slice_get, refl, sym, ◌∙◌, ap, subst, arith}
 use Rattle.std.proofs.Math.Seq.{drop-cons}
 use Rattle.std.proofs.lemmas.Bool.{cases_lt}
@@ -24,7 +24,7 @@ use Rattle.thumb_model.proofs.Lists.{present_at}
 
 -- ---- the first so far ----
 
--- it comes no later, by weight and then by number
+-- the number comes no later than q, by weight and then by number
 abbrev pub ComesFirst : (limit number weight q : ℕ) → Type 0
 ComesFirst limit number weight q = (limit < weight) ⊎ ((limit ≡ weight) × (number ≤ q))
 
@@ -36,12 +36,12 @@ pub record IsFirstBefore (t : Table) (e : Rule) (rest : List ℕ) (number limit 
   pub before : (q : ℕ) → Contains rest q → number < q
   pub first : (q : ℕ) (other : List Instr) → IsUntold t e q other → Contains rest q ⊎ ComesFirst limit number (weight_in t.header other) q
 
--- where there is none yet, the right side's weight is to be beaten
+-- where there is none yet, the limit is the right side's weight
 abbrev pub SoFar : Table → Rule → List ℕ → Option ℕ → ℕ → Type 0
 SoFar t e rest None limit = (limit ≡ weight_in t.header e.right) × ((q : ℕ) (other : List Instr) → IsUntold t e q other → Contains rest q)
 SoFar t e rest (Some number) limit = IsFirstBefore t e rest number limit
 
--- no sequence is untold that is to come and doesn't beat the limit
+-- what is known after the first i numbers: the first untold one so far, and the weight that a better one must stay below
 pub record SettledBefore (t : Table) (e : Rule) (numbers : List ℕ) (i : ℕ) (first : Option ℕ) (limit : ℕ) : Type 0 where
   pub most : limit ≤ weight_in t.header e.right
   pub so_far : SoFar t e (drop i numbers) first limit
@@ -73,7 +73,7 @@ module _ (t : Table) (e : Rule) (numbers : List ℕ) (i : ℕ) (low : i < length
       let same : its_within.seq ≡ seq = same_Some its_within.seq seq (sym its_option ∙ e') in
       (its_within.at ∙ ap (λ z. Some z) same, subst (λ (w : List Instr). length w ≤ length e.left) same its_within.no_longer)
 
--- a number's sequence is one
+-- a number has just one sequence
 same_sequence : (t : Table) (e : Rule) (x q : ℕ) (seq other : List Instr) → slice_get (sequences (alphabet_registers t.header e.left) t.header.pool) x ≡ Some seq → x ≡ q → IsUntold t e q other → seq ≡ other
 same_sequence t e x q seq other at is u = same_Some seq other (sym at ∙ ap (slice_get (sequences (alphabet_registers t.header e.left) t.header.pool)) is ∙ u.below.at)
 
@@ -85,7 +85,7 @@ module _ (t : Table) (e : Rule) (numbers : List ℕ) (i : ℕ) (low : i < length
   abbrev rest : List ℕ
   rest = drop (i + 1) numbers
 
-  -- the number is x, or one to come
+  -- the number is x, or a later one
   this_or_rest : (q : ℕ) → Contains (drop i numbers) q → (x ≡ q) ⊎ Contains rest q
   this_or_rest q c = first_or_later x rest q (subst (λ xs. Contains xs q) (split numbers i low) c)
 

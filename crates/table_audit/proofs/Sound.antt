@@ -1,4 +1,4 @@
--- An accepted table's rules are sound and shortest, what they name open is rightly so, and its families hold for each of their values.
+-- The audit is right: what an accepted table promises (`IsSound`) follows from its tests.
 use Rattle.std.proofs.Common.{◌≡◌, ℕ, ◌+◌, ◌-◌, ◌^◌, ◌<◌, ◌≤◌, ◌⊎◌, ◌==◌, ◌&&◌, inl, inr, true, false, List, Option, Some, None, slice_get, get_or, length, map, refl, sym, ◌∙◌, subst, arith, All, nat_lt, nat_le}
 use Rattle.std.proofs.lemmas.Nat.Bits.{bit_at-lt}
 use Rattle.std.proofs.lemmas.List.{get_or_past}
@@ -83,7 +83,7 @@ equal_sides t n e f masks p v words x h =
     (no_model_is_equal e.left e.right e.mask registers (over_wider own registers e.left within f.left) f.right masks (mask_more own registers e.mask within f.mask)).0 none in
     same v words x (has_one e.mask x h).0
 
--- a state that tells a sequence shows that it leaves another value
+-- a sequence that a state tells isn't equal to the left side
 told_differs : (states : List Seen) (left seq : List Instr) (mask : ℕ) → All IsState states → IsMask mask → IsTold states left seq mask → Equal left seq (items_in mask) → ⊥
 told_differs states left seq mask valid masks told same =
     let s = told.1 in

@@ -1,4 +1,4 @@
--- Trials, and the listed states that they begin at.
+-- What trials tell is what the listed states tell from which they start.
 use Rattle.std.proofs.Common.{◌≡◌, ℕ, ◌<◌, ◌↔◌, Bool, true, false, not, IsTrue, List, Some, length, get_or, slice_get, map, sym, ◌∙◌, ap, subst, inl, inr, refl, arith}
 use Rattle.std.specs.List.{Any}
 use Rattle.std.specs.Option.{option_map}
@@ -14,7 +14,7 @@ use Rattle.table_audit.specs.Shorter.{values_in, IsTold}
 use Rattle.fingerprints.specs.Trials.{start_of, AreTrials}
 use Rattle.common_lemmas.proofs.Lists.{get_of_or}
 
--- what a list's element becomes stands at its place
+-- an element of a mapped list, by its place
 pub listed : {X Y : Type 0} (f : X → Y) (xs : List X) (i : ℕ) (x : X) → i < length xs → x ≡ get_or xs i x → slice_get (map f xs) i ≡ Some (f x)
 listed f xs i x low is = slice_get-map f xs i ∙ ap (option_map f) (get_of_or xs i x low is)
 
@@ -26,7 +26,7 @@ present xs i low = elim (slice_get_cases xs i).1 [
   | inr p ↦ absurd (omega (arith, low, p.0))
 ]
 
--- a sequence leaves of some trial's state another value exactly where some state tells it
+-- a sequence leaves another value than the left side in some trial exactly where some state tells it
 pub told_is : (left : List Instr) (states : List Seen) (trials : List Trial) (seq : List Instr) (mask : ℕ) → AreTrials left states trials
     → Any (λ t. Differ (values_of t.end) (after_all seq (values_of t.start)) mask) trials ↔ IsTold states left seq mask
 told_is left states trials seq mask are = (forth, back)
@@ -55,7 +55,7 @@ told_is left states trials seq mask are = (forth, back)
         let tells : Tells (values_in (seen t.start)) left seq mask = subst (λ s. Tells (values_in s) left seq mask) same found.4 in
         (k, t, low, here.1, subst (λ v. Differ v (after_all seq (values_of t.start)) mask) (sym end) tells)
 
--- a sequence that isn't named and isn't told by the trials is neither
+-- the code's test by trials finds just the sequences that are neither named open nor told by a state
 pub untold_is : (left : List Instr) (states : List Seen) (trials : List Trial) (seq : List Instr) (mask : ℕ) (named told : Bool) → AreTrials left states trials
     → IsTrue told ↔ Any (λ t. Differ (values_of t.end) (after_all seq (values_of t.start)) mask) trials → named ≡ false → IsTrue (not told) ↔ (named ≡ false) × (IsTold states left seq mask → ⊥)
 untold_is left states trials seq mask named true are t unnamed = (λ no. absurd (false≢true no), λ h. absurd (h.1 ((told_is left states trials seq mask are).0 (t.0 refl))))

@@ -1,4 +1,4 @@
--- Whether a number is among those named open, which ascend.
+-- The binary search for a number among those named open, which are in ascending order, is right.
 use Rattle.std.proofs.Common.{◌≡◌, ℕ, zero, suc, ◌+◌, ◌||◌, Contains, length, drop, get_or, slice_get, map, ◌<◌, ◌≤◌, ◌==◌, true, false, List, [], ◌∷◌, ◌++◌, Some, refl, sym, ◌∙◌, ap, subst, arith, nat_le, nat_lt}
 use Rattle.std.specs.List.{AllWithin}
 use Rattle.std.specs.List.Sorted.{IsNonDecreasingBy}
@@ -13,7 +13,7 @@ use Rattle.table_audit.specs.Naming.{is_number}
 use Rattle.common_lemmas.proofs.Booleans.{or_false}
 use Rattle.seq_enum.proofs.Ascending.{ascends_lower}
 
--- the numbers from one on that ascend hold it only in front
+-- ascending numbers from `low` on don't contain a lesser number
 pub named_high : (opens : List Opened) (low n : ℕ) → n < low → ascends_from low (numbers_of opens) ≡ true → is_named opens n ≡ false
 unfolding ascends_from
 named_high [] low n h a = refl
@@ -23,7 +23,7 @@ named_high (o ∷ opens) low n h a =
     let other : (o.number == n) ≡ false = ne_eqb o.number n (λ e. omega (arith, e, least, h)) in
     rw other (named_high opens (suc o.number) n (omega arith) parts.1)
 
--- a number is named open where the first that isn't below it is it
+-- a number is named open just where the first named number that isn't below it equals it
 pub named_at : (opens : List Opened) (low p n : ℕ) → ascends_from low (numbers_of opens) ≡ true
     → ((k : ℕ) (o : Opened) → k < p → slice_get opens k ≡ Some o → o.number < n) → ((k : ℕ) (o : Opened) → p ≤ k → slice_get opens k ≡ Some o → n ≤ o.number)
     → is_named opens n ≡ is_number (slice_get opens p) n
@@ -39,7 +39,7 @@ named_at (o ∷ opens) low (suc p) n a before after =
     ap (λ b. b || is_named opens n) (ne_eqb o.number n (λ e. omega (arith, e, less)))
     ∙ named_at opens (suc o.number) p n parts.1 (λ k z h at. before (suc k) z (omega (arith, h)) at) (λ k z h at. after (suc k) z (omega (arith, h)) at)
 
--- the numbers rise
+-- each of the ascending numbers is at least the lowest
 pub ascends_get : (low : ℕ) (xs : List ℕ) → ascends_from low xs ≡ true → (j : ℕ) → j < length xs → low ≤ get_or xs j 0
 unfolding ascends_from
 ascends_get low [] a j h = absurd (omega (arith, h))
@@ -98,7 +98,7 @@ ascends_drop low (x ∷ xs) (suc i) h a =
     let next : suc (i + 1) ≡ suc i + 1 = omega arith in
     subst (λ n. ascends_from (suc (get_or xs i 0)) (drop n (x ∷ xs)) ≡ true) next (ascends_drop (suc x) xs i (omega (arith, h)) (and_parts (nat_le low x) (ascends_from (suc x) xs) a).1)
 
--- numbers that ascend from one on behind others that ascend to below it
+-- ascending numbers from `high` on, appended to ascending numbers below `high`, are ascending
 pub ascends_append : (low high : ℕ) (xs ys : List ℕ) → low ≤ high → ascends_from low xs ≡ true → ((q : ℕ) → Contains xs q → q < high) → ascends_from high ys ≡ true → ascends_from low (xs ++ ys) ≡ true
 unfolding ascends_from
 ascends_append low high [] ys h a below b = ascends_lower low high ys h b

@@ -1,4 +1,4 @@
--- Registers of numbered sequences, and elements that are there.
+-- Bounds on the registers that sequences name, which the functions on the first k registers require.
 use Rattle.std.proofs.Common.{◌≡◌, ℕ, ◌≤◌, inl, inr, List, [], ◌∷◌, Some, slice_get, arith}
 use Rattle.thumb_instr.specs.declared.instr.Instr.{Instr}
 use Rattle.thumb_instr.specs.Window.{named, AreBelow}

@@ -1,4 +1,4 @@
--- Whether the audit accepts a table, or why not: the first cause in order.
+-- What the audit has to answer: each test's verdict, as a predicate on no fault or a fault, and their order, so that each table has one verdict.
 use Rattle.std.specs.Prelude.{ℕ, ◌≡◌, ◌<◌, ◌≤◌, ◌⊎◌, ◌+◌, false, List, Option, Some, None, length, slice_get}
 use Rattle.thumb_instr.specs.declared.instr.Instr.{Instr}
 use Rattle.clause_model.specs.Clauses.{codes_of}
@@ -24,7 +24,7 @@ StateTest t n s = Tests (slice_get t.states n ≡ Some s) (States (n + 1))
 abbrev pub StatesVerdict : Table → Option AuditError → Type 0
 StatesVerdict t = InTurn (StateTest t) 0 (seeded_states t.header.seed)
 
--- the sequences that an entry may have to be told from have fewer instructions than this, where left sides have at most so many: with costs they may be as long
+-- sequences that an entry may have to be told from have fewer instructions than this, where left sides have at most `left`: with costs they may be as long
 abbrev pub lengths_below : Option (List ℕ) → ℕ → ℕ
 lengths_below None left = left
 lengths_below (Some costs) left = left + 1
@@ -54,7 +54,7 @@ pub record IsUntold (t : Table) (e : Rule) (number : ℕ) (seq : List Instr) : T
   pub unnamed : is_named e.opens number ≡ false
   pub untold : IsTold t.states e.left seq e.mask → ⊥
 
--- it is the first such by weight, then by number
+-- the sequence of this number is the first untold one by weight, then by number
 pub record IsFirstUntold (t : Table) (e : Rule) (number : ℕ) : Type 0 where
   pub seq : List Instr
   pub is : IsUntold t e number seq

@@ -1,4 +1,4 @@
--- What the canonical form of a window is, and of which entries there is a formula.
+-- That the canonical form of a window is a canonical side, and what an entry must be to have a formula.
 use Rattle.std.specs.Prelude.{◌≡◌, ℕ, List, Option, length}
 use Rattle.thumb_instr.specs.declared.instr.Instr.{Instr}
 use Rattle.thumb_instr.specs.Window.{Low}
@@ -9,14 +9,14 @@ use Rattle.rule_table.specs.Header.{Header}
 use Rattle.rule_table.specs.Table.{Rule}
 use Rattle.table_audit.specs.Shorter.{named_count, alphabet_registers, IsCanonicalSide}
 
--- the sequence is a canonical side as long as the window, its registers are counted alike in both ways, and the mask has no register but those that it names, which are those below their count
+-- the sequence is a canonical side as long as the window, its registers are counted alike in both ways, and the mask has no register that it doesn't name
 pub record IsSideOf (window seq : List Instr) (mask : ℕ) : Type 0 where
   pub canonical : IsCanonicalSide seq
   pub counted : named_count seq ≡ register_count seq
   pub over : IsMaskOver (named_count seq) mask
   pub as_long : length seq ≡ length window
 
--- a window's canonical form is one
+-- a window's canonical form is such a side
 abbrev pub CanonicalFormIsSide : Type 0
 CanonicalFormIsSide =
     (window : List Instr) (items : ℕ) (seq : List Instr) (given : List (Option Low)) (mask : ℕ)

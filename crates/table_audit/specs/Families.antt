@@ -26,12 +26,12 @@ entry_of t f = entry_at t.rules f.entry
 abbrev pub family_at : Table → ℕ → Option Family
 family_at t n = if nat_lt (length t.rules) n then slice_get t.families (n - length t.rules - 1) else None
 
--- a hole for a number: movs, cmp, adds or subs with it in 8 bits
+-- the instruction is a hole for a number: movs, cmp, adds or subs with that number in 8 bits
 abbrev pub is_hole : ℕ → Instr → Bool
 is_hole n (instr.TwoNumber o d i) = i.number == n
 is_hole n i = false
 
--- the number is of the pool and in the range, which is one of bytes, and the left side has a hole for it
+-- the number is in the pool and in the range, which is within 0 to 255, and the left side has a hole for it
 pub record IsRaisable (pool : List ℕ) (f : Family) (left : List Instr) : Type 0 where
   pub pooled : one_of f.number pool ≡ true
   pub from : f.low ≤ f.number
@@ -60,7 +60,7 @@ raised_formula h f e = family_formula e.left e.right (symbol_of f) e.mask (alpha
 abbrev pub AreEqualWithEach : Family → Rule → List ℕ → Type 0
 AreEqualWithEach f e mask = (x : Byte) → IsValue (symbol_of f) x → Equal (instance f.number e.left x) (instance f.number e.right x) mask
 
--- no sequence with holes in any of its own 8-bit places, which with the family's number is below the right side and isn't named open, leaves the same as the left side with each value
+-- no sequence with holes, which with the family's number in them is below the right side and not named open, leaves the same as the left side for all values
 abbrev pub NoneIsShorter : Header → Family → Rule → List ℕ → Type 0
 NoneIsShorter h f e mask =
     (n : Byte) → n.number ≡ f.number → (number : ℕ) (other : List Slot) → IsBelow h e.left e.right number (map (filled n) other) → is_named e.opens number ≡ false

@@ -1,4 +1,4 @@
--- The fault of a proof as that of an entry or a family, which has this number.
+-- A fault of a proof, reported as a fault of the entry or the family of this number.
 use Rattle.std.specs.Prelude.{ℕ}
 use Rattle.lrat_check.specs.declared.proof_fault.ProofFault.{ProofFault}
 use Rattle.lrat_check.specs.declared.proof_fault.ProofFault.TheVariants as proof

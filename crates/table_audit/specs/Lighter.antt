@@ -1,4 +1,4 @@
--- Numbers of the sequences that are to be tried: those that are below a right side, or so many of them as the first state leaves.
+-- What the numbers to be tried must be: in ascending order, within the left side's length, and with each untold sequence among them.
 use Rattle.std.specs.Prelude.{ℕ, ◌≡◌, ◌<◌, ◌≤◌, ◌↔◌, ◌&&◌, Bool, true, false, List, Option, Some, None, Contains, length, nat_lt, slice_get, ◌-◌}
 use Rattle.thumb_instr.specs.declared.instr.Instr.{Instr}
 use Rattle.seq_enum.specs.Alphabet.{ascends_from, sequences}
@@ -7,7 +7,7 @@ use Rattle.rule_table.specs.Table.{Rule, Table}
 use Rattle.table_audit.specs.Shorter.{alphabet_registers, is_lighter}
 use Rattle.table_audit.specs.Acceptance.{IsUntold}
 
--- the numbers, ascending, of those sequences that weigh less than a limit
+-- the numbers, in ascending order, are those of the sequences that weigh less than a limit
 pub record AreLighter (costs : Option (List ℕ)) (limit : ℕ) (seqs : List (List Instr)) (numbers : List ℕ) : Type 0 where
   pub ascending : ascends_from 0 numbers ≡ true
   pub within : (q : ℕ) → Contains numbers q → q < length seqs
@@ -28,7 +28,7 @@ pub record IsWithin (t : Table) (e : Rule) (number : ℕ) : Type 0 where
   pub at : slice_get (sequences (alphabet_registers t.header e.left) t.header.pool) number ≡ Some seq
   pub no_longer : length seq ≤ length e.left
 
--- each number is, in ascending order, and each of an untold sequence is among them
+-- the numbers are in ascending order, each is within, and each number of an untold sequence is among them
 pub record CoverUntold (t : Table) (e : Rule) (numbers : List ℕ) : Type 0 where
   pub ascending : ascends_from 0 numbers ≡ true
   pub within : (q : ℕ) → Contains numbers q → IsWithin t e q

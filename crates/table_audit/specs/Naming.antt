@@ -1,4 +1,4 @@
--- Numbers that are named open, and the state of which tables are.
+-- Numbers that are named open, the state that the tables of outcomes are for, and what running an open sequence costs.
 use Rattle.std.specs.Prelude.{ℕ, ◌*◌, ◌==◌, Bool, false, List, [], ◌∷◌, Option, Some, None, length}
 use Rattle.thumb_instr.specs.declared.instr.Instr.{Instr}
 use Rattle.window_exec.specs.declared.state.WState.{WState}
@@ -14,7 +14,7 @@ abbrev pub first_of : List WState → WState
 first_of [] = record { r = 0 ∷ 0 ∷ 0 ∷ 0 ∷ []; nzcv = 0 }
 first_of (s ∷ ss) = s
 
--- the steps of runs for a number: those of its sequence, where that is below the right side
+-- the instructions run for a number: its sequence's on each state, where that is below the right side
 abbrev pub run_share : Table → Rule → Option (List Instr) → ℕ
 run_share t e None = 0
 run_share t e (Some seq) = length t.states * length e.left

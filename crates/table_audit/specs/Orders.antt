@@ -1,4 +1,4 @@
--- Registers by first appearance.
+-- Whether the registers of a side are r0, r1 and so on by first appearance, as the code's loops test it.
 use Rattle.std.specs.Prelude.{◌≡◌, ◌<◌, ◌≤◌, ℕ, true, List, Some, length, slice_get}
 use Rattle.std.specs.List.{list_all}
 use Rattle.thumb_instr.specs.declared.instr.Instr.{Instr}
@@ -24,7 +24,7 @@ pub record IsInOrder (side : List Instr) : Type 0 where
   pub in_order : appearing side ≡ numbers_from 0 (named_count side)
   pub few : named_count side ≤ 4
 
--- left side and mask are over the registers below k, the right side over so many, and all are within the header's numbers
+-- left side and mask are over the registers below k, the right side over those below `registers`, and all are within the header's limits
 pub record AreWithin (t : Table) (e : Rule) (k registers : ℕ) : Type 0 where
   pub short : length e.left ≤ t.header.left
   pub few : k ≤ t.header.regs

@@ -1,4 +1,4 @@
--- Sides of entries, and what is shorter than the left one.
+-- Which sides an entry may have, and which sequences are below its right side: shorter, or with costs cheaper.
 use Rattle.std.specs.Prelude.{◌≡◌, ◌≤◌, ◌+◌, ℕ, List, length, map, min, ◌<◌, ◌==◌, ◌&&◌, Bool, Any, Option, Some, None, filter, nat_le, nat_lt, slice_get, if◌then◌else◌}
 use Rattle.thumb_instr.specs.declared.instr.Instr.{Instr}
 use Rattle.thumb_instr.specs.Window.{normal_of}
@@ -21,11 +21,11 @@ use Rattle.window_exec.specs.State.{Tells, Seen, values_by}
 abbrev pub named_count : List Instr → ℕ
 named_count instrs = length (appearing instrs)
 
--- so many registers and, where the header allows one and r0 to r3 have one left, a scratch register
+-- this number of registers, plus the scratch register where the header allows one, but at most four
 abbrev pub with_scratch : Header → ℕ → ℕ
 with_scratch h registers = min (registers + h.scratch) 4
 
--- how many registers the sequences of an entry have that stand against a left side, its right side too: those that the left side names, and the scratch register
+-- how many registers the sequences may use that are compared with a left side, the right side too: those that it names, and the scratch register
 abbrev pub alphabet_registers : Header → List Instr → ℕ
 alphabet_registers h left = with_scratch h (named_count left)
 
@@ -77,7 +77,7 @@ pub record IsBelow (h : Header) (left side : List Instr) (number : ℕ) (seq : L
 abbrev pub is_lighter : Option (List ℕ) → ℕ → List Instr → Bool
 is_lighter costs limit seq = nat_lt (weight_under costs seq) limit
 
--- all such sequences
+-- all sequences no longer than the left side that weigh less than this side
 unfoldable pub below : Header → (left side : List Instr) → List (List Instr)
 below h left side = filter (is_lighter h.costs (weight_in h side)) (sequences_below (alphabet_registers h left) h.pool (length left + 1))
 
@@ -85,15 +85,15 @@ below h left side = filter (is_lighter h.costs (weight_in h side)) (sequences_be
 abbrev pub if_below : Option (List ℕ) → (left side seq : List Instr) → Option (List Instr)
 if_below costs left side seq = if nat_le (length seq) (length left) && nat_lt (weight_under costs seq) (weight_under costs side) then Some seq else None
 
--- that of a number over the first k registers and a pool, if there is
+-- the sequence of a number over the first k registers and a pool, if there is one and it is below
 unfoldable pub lighter_at : Option (List ℕ) → ℕ → List ℕ → (left side : List Instr) → ℕ → Option (List Instr)
 lighter_at costs k pool left side number = option_and_then (if_below costs left side) (slice_get (sequences k pool) number)
 
--- that of a number over an entry's alphabet
+-- the sequence of a number over an entry's alphabet, if it is below
 abbrev pub below_at : Header → (left side : List Instr) → ℕ → Option (List Instr)
 below_at h left side number = lighter_at h.costs (alphabet_registers h left) h.pool left side number
 
--- what a state that a table lists holds
+-- the values of registers and flags in a state that a table lists
 abbrev pub values_in : Seen → Values
 values_in s = values_by s.r s.nzcv
 

@@ -1,4 +1,4 @@
--- What the entries of an accepted table are.
+-- What an accepted table promises: sound rules, shortest or cheapest right sides, open names with their logs, and families that hold for each value.
 use Rattle.std.specs.Prelude.{ℕ, ◌≡◌, ◌≤◌, ◌↔◌, false, List, [], ◌∷◌, Option, None, Some, ◌++◌, filter, length, map, replicate, slice_get}
 use Rattle.thumb_instr.specs.declared.instr.Instr.{Instr}
 use Rattle.thumb_instr.specs.Items.{has}
@@ -10,7 +10,7 @@ use Rattle.table_audit.specs.Shorter.{IsBelow, is_named}
 use Rattle.table_audit.specs.Acceptance.{IsRightlyOpen}
 use Rattle.table_audit.specs.Families.{entry_at, entry_of, values_of, raised, IsRaisable, AreEqualWithEach, NoneIsShorter}
 
--- ---- entries as rewriting has them ----
+-- ---- entries as rewriting uses them ----
 
 -- the items of a mask: some of r0 to r3, N, Z, C and V
 unfoldable pub items_in : ℕ → List ℕ
@@ -63,7 +63,7 @@ pub record IsSoundFamily (t : table.Table) (f : table.Family) : Type 0 where
 abbrev pub AreSoundFamilies : table.Table → Type 0
 AreSoundFamilies t = (k : ℕ) (f : table.Family) → slice_get t.families k ≡ Some f → IsSoundFamily t f
 
--- a table's rules are sound and shortest, or cheapest, what they name open is rightly so, and its families hold for each of their values
+-- a table's rules are sound, and shortest or cheapest but for what they rightly name open; its families hold for each of their values
 pub record IsSound (t : table.Table) : Type 0 where
   pub sound : AreSound (numbers_of t)
   pub shortest : AreShortest t

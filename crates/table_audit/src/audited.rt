@@ -1,4 +1,4 @@
-//! An `Audited` is made by the audit alone. Rewriting takes nothing else, so that no rule is applied that was not checked.
+//! Only the audit makes an `Audited`. Rewriting takes nothing else, so that no unchecked rule is ever applied.
 ghost use Rattle.std.specs.Prelude.{◌≡◌};
 ghost use Rattle.rule_table.specs.Table.{IsTable};
 ghost use Rattle.rule_table.specs.Views.{table_of};
@@ -29,7 +29,7 @@ impl Model for Audited {
 }
 
 impl Audited {
-    /// A table that is accepted.
+    /// Marks an accepted table as audited.
     pub(crate) fn new(table: Table) -> Audited
         requires table { IsTable (table_of table) }
         requires accepted { IsAccepted (table_of table) }
@@ -48,7 +48,7 @@ impl Audited {
         &self.table
     }
 
-    /// The table, which is given up as one that is audited.
+    /// The plain table, without the mark that it was audited.
     pub fn into_table(self) -> Table
         ensures value { result ≡ self }
         ensures valid { IsTable (table_of self) }

@@ -1,4 +1,4 @@
-//! The causes of a refused table, in the order in which they are looked for; the first entry's first cause is told.
+//! Why a table is refused. The causes stand in the order in which the audit looks for them, and the first is reported.
 ghost use Rattle.std.specs.Prelude.{◌≡◌};
 
 use std::alloc::{AllocError, AllocFailed};
@@ -27,7 +27,7 @@ pub enum EntryFault {
 /// Why a family is refused.
 #[derive(Clone, Copy, Debug, PartialEq, Eq, Error)]
 pub enum FamilyKind {
-    /// There is no such entry, or the number isn't of the pool, or not in the range, or the range isn't one of bytes, or the left side doesn't have the number
+    /// There is no such entry, the number isn't in the pool or not in the range, the range isn't within 0 to 255, or the left side doesn't have the number
     /// in 8 bits.
     #[error("the number can't be raised")]
     Symbol,
@@ -42,7 +42,7 @@ pub enum FamilyKind {
 /// Why a table is refused.
 #[derive(Clone, Copy, Debug, PartialEq, Eq, Error)]
 pub enum AuditError {
-    /// The place, from 1, of the first of the seed's states that is missing or another.
+    /// The place, from 1, of the first of the seed's states that is missing or differs.
     #[error("state {0} is not the seed's")]
     States(u64),
     /// How many sequences there may be below a right side, where these are more than 5,000,000.

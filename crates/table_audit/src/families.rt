@@ -63,14 +63,14 @@ pub fn is_hole(number: u32, instr: &Instr) -> bool
     }
 }
 
-/// Whether some instruction is one of those.
+/// Whether some instruction has this number in 8 bits.
 fn has_hole(number: u32, side: &[Instr]) -> bool
     ensures { result ≡ list_any (is_hole number) side.now }
 {
     side.iter().any(|instr| is_hole(number, instr))
 }
 
-/// An instruction with a value in its 8-bit place, where that holds this number.
+/// An instruction with its 8-bit number replaced by a value, where that is this number; else the instruction itself.
 fn filled(number: u32, instr: &Instr, value: Byte) -> Instr
     ensures { result ≡ filled value (slot number instr.now) }
 {
@@ -94,7 +94,7 @@ fn filled(number: u32, instr: &Instr, value: Byte) -> Instr
     }
 }
 
-/// A side of an entry with a value in each 8-bit place of a number.
+/// A side of an entry with a value in place of a number, wherever that stands in 8 bits.
 pub fn raised_side(side: &[Instr], number: u32, value: Byte) -> Seq
     requires { length side.now ≤ 5 }
     ensures { result ≡ instance number side.now value }
@@ -113,7 +113,7 @@ fn is_pooled(number: u32, members: &[u8]) -> bool
     members.iter().any(|member| u32::from(*member) == number)
 }
 
-/// Whether a family's number is of the pool and in the family's range, which is one of bytes, and stands in 8 bits in a left side.
+/// Whether a family's number is in the pool and in the family's range, which is within 0 to 255, and stands in 8 bits in the left side.
 pub fn is_raisable(pool: &Pool, family: &Family, left: &Seq) -> bool
     ensures { IsTrue result ↔ IsRaisable pool.now (family_of family.now) left.now }
 {
@@ -124,7 +124,7 @@ pub fn is_raisable(pool: &Pool, family: &Family, left: &Seq) -> bool
         && has_hole(family.number, left.as_slice())
 }
 
-/// The formula that the sides of an entry differ for some value of a family's number: the proof of the family is a proof of this formula.
+/// The formula that the sides of an entry differ for some value of a family's number. The family's proof refutes this formula.
 #[tactic(auto, using(crate::proofs::Fitting::ordered_of))]
 pub fn family_formula(
     alloc: Global,
@@ -152,7 +152,7 @@ pub fn family_formula(
     )
 }
 
-/// The fault of a proof as that of the family of this number.
+/// A fault of a proof, reported as a fault of the family of this number.
 fn raised_fault(number: u64, fault: ProofFault) -> AuditError
     ensures { result ≡ raised_fault number fault }
 {
@@ -169,7 +169,7 @@ fn raised_fault(number: u64, fault: ProofFault) -> AuditError
     }
 }
 
-/// Tells the first line of a family's proof that isn't accepted, or that it comes to no empty clause.
+/// Reports the first line of a family's proof that isn't accepted, or that no clause is empty.
 fn check_proof<L: Ledger>(
     alloc: Global,
     table: &Table,
@@ -190,7 +190,7 @@ fn check_proof<L: Ledger>(
     }
 }
 
-/// Tells why a family of an entry is refused, if it is.
+/// Reports why a family of an entry is refused, if it is.
 fn check_raised<L: Ledger>(
     alloc: Global,
     table: &Table,
@@ -212,7 +212,7 @@ fn check_raised<L: Ledger>(
     check_proof(alloc, table, number, family, entry, steps)
 }
 
-/// Tells why a family is refused, if it is.
+/// Reports why a family is refused, if it is.
 fn check_family<L: Ledger>(
     alloc: Global,
     table: &Table,
@@ -233,7 +233,7 @@ fn check_family<L: Ledger>(
     }
 }
 
-/// Tells the first family that is refused, and why.
+/// Reports the first family that is refused, and why.
 pub(crate) fn check_families<L: Ledger>(
     alloc: Global,
     table: &Table,

@@ -8,18 +8,18 @@ ghost use Rattle.table_audit.specs.Acceptance.{TableVerdict, IsAccepted};
 ghost use Rattle.table_audit.specs.Soundness.{IsSound, CheapestIsShortest};
 ghost use Rattle.table_audit.specs.Canonical.{CanonicalFormIsSide};
 
-/// The verdict on a table is one.
+/// A table has at most one verdict.
 pub fn audit_has_one_answer()
     ensures { (t : Table) (a b : Option AuditError) → TableVerdict t a → TableVerdict t b → a ≡ b }
 {}
 
-/// An accepted table is refused for want of memory alone.
+/// An acceptable table is refused for want of memory alone.
 #[tactic(auto, using(crate::proofs::Determined::accepted_answers))]
 pub fn accepted_tables_are_not_refused()
     ensures { (t : Table) (r : Result code.Table AuditError) → IsAccepted t → Answers AuditError.Memory r (TableVerdict t) → IfErr r (λ e. e ≡ AuditError.Memory) }
 {}
 
-/// The rules of an accepted table are sound, and shortest, or with costs cheapest, but for what they name open, which is rightly so; and its
+/// The rules of an accepted table are sound, and shortest, or with costs cheapest, but for what they rightly name open; and its
 /// families hold for each of their values.
 #[tactic(auto, using(crate::proofs::Sound::accepted_sound))]
 pub fn accepted_tables_are_sound()

@@ -1,4 +1,4 @@
-//! The audit of a table of rules: an accepted table's rules are sound, and shortest, or with costs cheapest, but for what they name open, and its families hold for each value.
+//! The audit of a table: accepted rules are sound, and shortest, or with costs cheapest, but for what they name open; families hold for each of their values.
 #![tactic(auto)]
 
 mod audited;

@@ -1,5 +1,5 @@
-//! The sequences that weigh less than a limit, where they are few beside those that are as long. Each instruction weighs something, so a sequence without its
-//! last instruction is lighter: all of them are found by putting instructions behind those that were found before.
+//! The sequences that weigh less than a limit, where they are few among those as long. Each instruction weighs at least 1, so a sequence without its
+//! last instruction is lighter: all of them are found by appending instructions to those found before.
 ghost use Rattle.std.specs.Prelude.{◌≡◌, ◌<◌, ◌≤◌, ◌+◌, ◌*◌, ◌^◌, ◌++◌, None, IfOk, IsTrue, OnOk, MatchOption, filter, length};
 ghost use Rattle.seq_enum.specs.Alphabet.{numbers_from};
 ghost use Rattle.seq_enum.specs.Costs.{cost_under};
@@ -12,7 +12,7 @@ use seq_enum::{Costs, weight};
 use std::alloc::{AllocError, Global};
 use thumb_instr::Instr;
 
-/// For each sequence that is lighter a table of outcomes may have so many: a table of rules lists at least 64 states, and an audit may run a sequence on
+/// A table of outcomes may have this many sequences for each that is lighter: a table of rules lists at least 64 states, and an audit may run a sequence on
 /// each of them twice.
 const SHARE: u64 = 128;
 
@@ -26,7 +26,7 @@ fn cost(costs: &Option<Costs>, instr: &Instr) -> u32
     }
 }
 
-/// Puts the numbers of a sequence with one instruction more, in order of the instructions, behind the others, where they are below a count and the instruction
+/// Appends the numbers of the sequences that are the given one with one instruction more, where the number is below a count and the instruction
 /// weighs less than a limit.
 fn push_longer(
     numbers: &mut Vec<u64>,
@@ -51,7 +51,7 @@ fn push_longer(
     Ok(())
 }
 
-/// Whether there are no costs, and sequences of at most `longest` instructions weigh less than a limit.
+/// Whether there are no costs and all sequences of at most `longest` instructions weigh less than a limit.
 fn are_all_lighter(costs: &Option<Costs>, longest: u8, limit: u32) -> bool
     ensures { IsTrue result → (costs.now ≡ None) × (longest + 1 ≤ limit) }
 {
@@ -61,8 +61,8 @@ fn are_all_lighter(costs: &Option<Costs>, longest: u8, limit: u32) -> bool
     }
 }
 
-/// The numbers, ascending, of the sequences of at most `longest` instructions that weigh less than a limit. None where a table of outcomes that is so long
-/// has no more than 128 sequences for each of them, as where there are no costs and each of its sequences is lighter.
+/// The numbers, in ascending order, of the sequences of at most `longest` instructions that weigh less than a limit. None where the table of outcomes for that
+/// length has no more than 128 sequences for each of them, as where there are no costs and all its sequences are lighter.
 pub(crate) fn few_lighter(
     alloc: Global,
     costs: &Option<Costs>,

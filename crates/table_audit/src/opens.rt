@@ -1,4 +1,4 @@
-//! The numbers that an entry names open: each must be one that no state tells, and its log must spend the whole budget, so that none is named for convenience.
+//! Numbers that an entry names open: no state may tell the sequence, and its log must spend the whole budget, so that none is named open for convenience.
 ghost use Rattle.std.specs.Prelude.{◌≡◌, ◌<◌, ◌≤◌, ◌+◌, ◌*◌, ◌↔◌, true, IfOk, IsTrue, length, map, sum_by};
 ghost use Rattle.window_exec.specs.State.{seen};
 ghost use Rattle.seq_enum.specs.Alphabet.{ascends_from};
@@ -60,7 +60,7 @@ fn is_rightly_open<L: Ledger>(
     }
 }
 
-/// Tells the first number named open that isn't rightly so.
+/// Reports the first number named open that isn't rightly so.
 pub(crate) fn check_opens<L: Ledger>(
     alloc: Global,
     table: &Table,

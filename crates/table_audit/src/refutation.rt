@@ -1,4 +1,4 @@
-//! Whether the proof of an entry is accepted: the formula that its sides differ is made, and the proof has to come to the empty clause.
+//! Whether the proof of an entry is accepted: it must derive the empty clause from the formula that the sides differ.
 ghost use Rattle.std.specs.Prelude.{◌≡◌, ◌≤◌, ◌+◌, [], IsTrue};
 ghost use Rattle.rule_table.specs.Views.{header_in, rule_of, table_of};
 ghost use Rattle.lrat_check.specs.Proofs.{Answers};
@@ -17,7 +17,7 @@ use std::alloc::Global;
 use step_ledger::{Ledger, Steps};
 use thumb_instr::Seq;
 
-/// The fault of a proof as that of the entry of this number.
+/// A fault of a proof, reported as a fault of the entry of this number.
 fn fault_of(number: u64, fault: ProofFault) -> AuditError
     ensures { result ≡ fault_of number fault }
 {
@@ -34,7 +34,7 @@ fn fault_of(number: u64, fault: ProofFault) -> AuditError
     }
 }
 
-/// Whether two sides are one sequence over r0 to r3 and a pool.
+/// Whether two sides are the same sequence over r0 to r3 and a pool. False also where one isn't over these.
 fn is_same(pool: &Pool, left: &Seq, right: &Seq) -> bool
     ensures { IsTrue result → left.now ≡ right.now }
 {
@@ -56,7 +56,7 @@ fn is_unshortened(pool: &Pool, entry: &Entry) -> bool
     entry.proof.is_empty() && is_same(pool, &entry.left, &entry.right)
 }
 
-/// Tells the first line of an entry's proof that isn't accepted, or that it comes to no empty clause. Where the right side is the left side itself, as in most
+/// Reports the first line of an entry's proof that isn't accepted, or that no clause is empty. Where the right side is the left side itself, as in most
 /// entries that were learnt, no formula is made.
 pub(crate) fn check_proof<L: Ledger>(
     alloc: Global,

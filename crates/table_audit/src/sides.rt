@@ -1,4 +1,4 @@
-//! The sides that an entry may have, and the formula that they differ.
+//! Whether an entry's sides are canonical and within the header's limits, and the formula that they differ, which its proof refutes.
 ghost use Rattle.std.specs.Prelude.{◌≡◌, ◌+◌, ◌<◌, ◌≤◌, ◌↔◌, true, IfOk, IfSome, IsTrue, MatchOption, length, min};
 ghost use Rattle.std.specs.List.{list_all};
 ghost use Rattle.thumb_instr.specs.Window.{is_in_window, named, named_by};
@@ -18,7 +18,7 @@ use seq_enum::{Pool, number_of, weight};
 use std::alloc::Global;
 use thumb_instr::{Instr, Low, Mask, Role, Seq, parts, registers_of, roles};
 
-/// How many registers there are, where those of a list, after r0 up to below r(count), are r0, r1 and so on by first appearance.
+/// How many registers were seen after a list, where r0 to r(count - 1) were seen before it and each new one is the next in order; else None.
 fn ordered(registers: &[Low], count: u32) -> Option<u32>
     requires { count + length registers.now < 100 }
     ensures few { IfSome result (λ n. n ≤ count + length registers.now) }
@@ -36,7 +36,7 @@ fn ordered(registers: &[Low], count: u32) -> Option<u32>
     Some(seen)
 }
 
-/// How many registers instructions that may stand in a window name, where those are r0, r1 and so on by first appearance.
+/// How many registers the instructions of a window name, where these are r0, r1 and so on by first appearance; else None.
 fn ordered_names(instrs: &[Instr]) -> Option<u32>
     requires windows { list_all is_in_window instrs.now ≡ true }
     requires few { length instrs.now ≤ 5 }
@@ -92,8 +92,8 @@ fn is_mask_over(k: u8, mask: Mask) -> bool
     true
 }
 
-/// Whether left side and mask are over the first `k` registers, the right side over the first `registers`, and all within the header's
-/// numbers, and the right side neither has more instructions than the left side nor weighs more.
+/// Whether left side and mask are over the first `k` registers, the right side is over the first `registers`, all are within the header's
+/// limits, and the right side neither has more instructions than the left side nor weighs more.
 fn are_within(table: &Table, entry: &Entry, k: u8, registers: u8) -> bool
     requires some { (0 < k) × (0 < registers) }
     requires few { (k ≤ 4) × (registers ≤ 4) }
@@ -119,7 +119,7 @@ pub fn sides_fit(table: &Table, entry: &Entry) -> bool
     }
 }
 
-/// The least number above the register that a role has, if it is one.
+/// The least number above an operand's register, or 0 where its role isn't a register.
 fn above_by(role: Role, number: u32) -> u64
     ensures { result ≡ above (named_by role number) }
 {
@@ -141,7 +141,7 @@ fn above_named(instr: &Instr) -> u64
     first.max(second.max(third))
 }
 
-/// How many registers instructions are over: the least number above all that they name. A side whose registers are r0, r1 and so on names so many.
+/// How many registers instructions are over: the least number above all that they name. A side whose registers are r0, r1 and so on names just that many.
 pub fn register_count(instrs: &[Instr]) -> u64
     ensures { result ≡ register_count instrs.now }
 {
@@ -162,7 +162,7 @@ pub fn named_count(side: &Seq) -> u8
     register_count(side.as_slice()) as u8
 }
 
-/// So many registers and, where a header allows one and r0 to r3 have one left, a scratch register.
+/// This number of registers, plus the scratch register where the header allows one (`scratch` is 0 or 1), but at most four.
 pub fn with_scratch(registers: u8, scratch: u8) -> u8
     ensures { result ≡ min (registers + scratch) 4 }
 {
@@ -196,8 +196,8 @@ pub(crate) fn formula_against(
     formula(alloc, &entry.left, seq, entry.mask, registers)
 }
 
-/// The formula that the sides of an entry differ, whose sides fit a table: the proof of the entry is a proof of this formula, and its DIMACS
-/// text is what a checker of its own is given.
+/// The formula that the sides of an entry differ, which fit the table. The entry's proof refutes this formula, and its DIMACS
+/// text is what an independent checker is given.
 pub fn entry_formula(alloc: Global, table: &Table, entry: &Entry) -> Result<Formula, Memory>
     requires { HasFormula (header_in table.now) (rule_of entry.now) }
     ensures { IfOk result (λ f. f ≡ formula_of (header_in table.now) (rule_of entry.now)) }

@@ -1,4 +1,4 @@
-//! The states that a table begins with: those of its seed.
+//! A table's list of states must begin with those generated from its seed, so that no sequence which they tell can be named open.
 ghost use Rattle.std.specs.Prelude.{◌≡◌, ◌↔◌, IsTrue, Some, slice_get, map};
 ghost use Rattle.window_exec.specs.State.{seen};
 ghost use Rattle.rule_table.specs.Views.{table_of};
@@ -19,7 +19,7 @@ fn is_there(states: &[WState], place: usize, state: &WState) -> bool
     place < states.len() && states[place] == *state
 }
 
-/// Tells the first of the seed's states that is missing from the table, or is another there.
+/// Reports the first of the seed's states that is missing from the table, or differs there.
 pub(crate) fn check_states(alloc: Global, table: &Table) -> Result<(), AuditError>
     ensures { Answers Memory result (StatesVerdict (table_of table.now)) }
 {

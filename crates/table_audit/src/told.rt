@@ -1,5 +1,5 @@
-//! Each sequence below the right side is named open, or some state tells it. The first state tells nearly all, by a table of what each sequence leaves of it,
-//! and the others are run on all states. Where the table would have far more sequences than are below the right side, those are run at once.
+//! Each sequence below the right side is named open, or a state tells it: both sequences run from it differ under the mask. The first state tells nearly all,
+//! by a table of outcomes; the rest are run on all states. Where that table would be far longer than the list of sequences below, those are run at once.
 ghost use Rattle.std.specs.Prelude.{◌≡◌, ℕ, ◌<◌, ◌≤◌, ◌+◌, ◌*◌, ◌↔◌, true, false, List, None, Some, IfOk, OnOk, IsTrue, MatchOption, length, map};
 ghost use Rattle.thumb_model.specs.Effect.{AreOver};
 ghost use Rattle.window_exec.specs.declared.state.WState.{WState as State};
@@ -29,7 +29,7 @@ use step_ledger::{Ledger, Steps};
 use thumb_instr::Seq;
 use window_exec::WState;
 
-/// Whether a number is named open. The numbers named open ascend.
+/// Whether a number is named open, by binary search: the numbers named open are in ascending order.
 fn is_named(opens: &[Open], number: u64) -> bool
     requires { ascends_from 0 (numbers_of (map opened_of opens.now)) ≡ true }
     ensures { result ≡ is_named (map opened_of opens.now) number }
@@ -41,7 +41,7 @@ fn is_named(opens: &[Open], number: u64) -> bool
     }
 }
 
-/// The first of some states, or one of zeros.
+/// The first of some states, or the state of zeros where there is none.
 fn first_of(states: &[WState]) -> WState
     ensures { result ≡ first_of states.now }
 {
@@ -69,7 +69,7 @@ fn is_untold<L: Ledger>(
 }
 
 /// The number of the first sequence below the right side, by weight and then by number, that isn't named open and that no state tells from the left side,
-/// where each such is among the numbers given.
+/// where the numbers given, in ascending order, include all such.
 fn first_untold<L: Ledger>(
     table: &Table,
     entry: &Entry,
@@ -102,8 +102,8 @@ fn first_untold<L: Ledger>(
     first
 }
 
-/// Numbers, ascending, of sequences no longer than the left side, with each that is below the right side and that the first state doesn't tell from the
-/// left side. The table of outcomes grows where that pays.
+/// Numbers, in ascending order, of sequences no longer than the left side. Among them is each that is below the right side and isn't told by a state from the
+/// left side. The table of outcomes grows only where it isn't far longer than the list of sequences below.
 fn numbers_to_try<L: Ledger>(
     alloc: Global,
     table: &Table,
@@ -131,7 +131,7 @@ fn numbers_to_try<L: Ledger>(
     }
 }
 
-/// Tells the first sequence below the right side, by weight and then by number, that isn't named open and that no state tells from the left side. The
+/// Reports the first sequence below the right side, by weight and then by number, that isn't named open and that no state tells from the left side. The
 /// tables are kept from entry to entry.
 pub(crate) fn check_told<L: Ledger>(
     alloc: Global,

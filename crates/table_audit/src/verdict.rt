@@ -1,4 +1,4 @@
-//! The audit: its tests in order, and tables that passed it.
+//! The audit: it runs the tests of the other modules in their fixed order and reports the first cause of refusal.
 ghost use Rattle.std.specs.Prelude.{◌≡◌, ◌≤◌, ◌+◌, IfOk, true, length, map, sum_by};
 ghost use Rattle.seq_enum.specs.Alphabet.{ascends_from};
 ghost use Rattle.rule_table.specs.Table.{IsTable, numbers_of};
@@ -24,7 +24,7 @@ use rule_table::{Entry, Table};
 use std::alloc::Global;
 use step_ledger::{Ledger, Steps};
 
-/// Tells the first sequence below the right side that is neither named open nor told by a state, or the first number that isn't rightly named open.
+/// Reports the first sequence below the right side that is neither named open nor told by a state, or the first number that isn't rightly named open.
 #[tactic(auto, using(crate::proofs::Fitting::ordered_of))]
 fn check_shorter<L: Ledger>(
     alloc: Global,
@@ -51,7 +51,7 @@ fn check_shorter<L: Ledger>(
     check_opens(alloc, table, number, entry, k, &trials, steps)
 }
 
-/// Tells why an entry is refused, if it is.
+/// Reports why an entry is refused, if it is.
 #[tactic(auto, unfolding(crate::specs::Acceptance::EntryVerdict))]
 fn check_entry<L: Ledger>(
     alloc: Global,
@@ -80,7 +80,7 @@ fn check_entry<L: Ledger>(
     check_shorter(alloc, table, number, entry, tables, steps)
 }
 
-/// Tells the first entry that is refused, and why.
+/// Reports the first entry that is refused, and why.
 fn check_entries<L: Ledger>(
     alloc: Global,
     table: &Table,
@@ -99,7 +99,7 @@ fn check_entries<L: Ledger>(
     Ok(())
 }
 
-/// Tells why a table is refused, if it is.
+/// Reports why a table is refused, if it is.
 fn check_table<L: Ledger>(
     alloc: Global,
     table: &Table,
@@ -115,13 +115,13 @@ fn check_table<L: Ledger>(
     check_families(alloc, table, steps)
 }
 
-/// Accepts a table, or tells the first cause for which it is refused, and gives the table up. In order: the first of the seed's states that
-/// is missing or another; that there are too many sequences that may be below a right side; then entry by entry its sides, the first line of its proof that
-/// isn't accepted, that the proof comes to no empty clause, the first sequence below the right side, by weight and then by number, that is neither named open
-/// nor told by a state, and the first number that isn't rightly named open; then family by family that it can't be raised so, and its proof. A sequence is
+/// Accepts a table, or reports the first cause of refusal and drops the table. The causes, in order: the first of the seed's states that
+/// is missing or differs; too many sequences that may be below a right side; then, entry by entry, its sides, the first line of its proof that
+/// isn't accepted, a proof without an empty clause, the first sequence below the right side, by weight and then by number, that is neither named open
+/// nor told by a state, and the first number that isn't rightly named open; then, family by family, a number that can't be raised, and its proof. A sequence is
 /// below the right side where it is no longer than the left side and weighs less than the right side: it costs less, or without costs it is shorter.
 ///
-/// A step is an instruction that is run, a sequence whose outcome is worked out, or a look at a literal of a clause.
+/// A step is one instruction run, one sequence whose outcome is computed, or one look at a literal of a clause.
 pub fn audit<L: Ledger>(
     alloc: Global,
     table: Table,

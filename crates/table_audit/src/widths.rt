@@ -1,4 +1,4 @@
-//! How many sequences are below right sides, and which they are.
+//! How many sequences may be below a right side, which bounds the work of an audit, and the sequence of a number, if it is below.
 ghost use Rattle.std.specs.Prelude.{◌≡◌, ◌<◌, ◌≤◌, IfSome, length};
 ghost use Rattle.thumb_model.specs.Effect.{AreOver};
 ghost use Rattle.rule_table.specs.Table.{IsTable};
@@ -14,7 +14,7 @@ use rule_table::Table;
 use seq_enum::{Costs, Pool, count_below, seq_at, size, weight};
 use thumb_instr::Seq;
 
-/// The greatest number of sequences that may have to be told from an entry.
+/// The greatest number of sequences that an entry's left side may have to be told from.
 pub const WIDEST: u64 = 5_000_000;
 
 /// How many sequences of the first `k` registers and a pool have fewer than `count` instructions.
@@ -27,7 +27,7 @@ pub fn count_shorter(k: u8, pool: &Pool, count: u8) -> u64
     count_below(size(k, pool), u32::from(count))
 }
 
-/// How many sequences of the first `k` registers and a pool an entry may have to be told from at most, whose left side has at most so many instructions:
+/// At most how many sequences of the first `k` registers and a pool an entry may have to be told from, whose left side has at most `left` instructions:
 /// all that are shorter, and with costs those that are as long too.
 pub fn width(costs: &Option<Costs>, k: u8, pool: &Pool, left: u8) -> u64
     requires some { 0 < k }
@@ -42,7 +42,7 @@ pub fn width(costs: &Option<Costs>, k: u8, pool: &Pool, left: u8) -> u64
     count_shorter(k, pool, count)
 }
 
-/// The sequence of a number, of the first `k` registers and a pool, where it is no longer than a left side and weighs less than another side.
+/// The sequence of a number, over the first `k` registers and a pool, where it is no longer than a left side and weighs less than another side.
 pub fn below_at(
     costs: &Option<Costs>,
     k: u8,
@@ -65,7 +65,7 @@ pub fn below_at(
     }
 }
 
-/// Tells how many sequences an entry may have to be told from, where these are too many.
+/// Refuses a table where an entry may have to be told from more than `WIDEST` sequences, and reports how many.
 pub(crate) fn check_width(table: &Table) -> Result<(), AuditError>
     requires { IsTable (table_of table.now) }
     ensures { Answers Memory result (WideVerdict (table_of table.now)) }

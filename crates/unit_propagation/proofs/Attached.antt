@@ -1,4 +1,4 @@
--- A clause more, which watches two literals of its own.
+-- A clause that is added and watches two of its literals keeps the invariants.
 use Rattle.std.proofs.Common.{◌≡◌, ◌≢◌, ℕ, ◌<◌, List, [], ◌∷◌, ◌++◌, length, map, sym, ◌∙◌, ap, inl, inr, arith, subst, false}
 use Rattle.std.specs.Prelude.{Contains, All, ◌↔◌}
 use Rattle.std.proofs.lemmas.Bool.{cases_eq}
@@ -44,7 +44,7 @@ module _ (earlier pushed later : Content) (at : ℕ) (literals : List ℕ) (push
     contrary = λ l h. let b : HasLiteral earlier (negated l) = k.contrary l (omega (arith, same_size)) in omega (arith, same_size);
   }
 
-  -- where the watches of the other clauses are as before
+  -- the case in which the watches of the other clauses are as before
   module _ (whole : IsWhole earlier) (others : (r s l : ℕ) → r ≢ at → Watches later r s l ↔ Watches pushed r s l) where
     old : (r t m : ℕ) → r ≢ at → Watches later r t m ↔ Watches earlier r t m
     old r t m n = (

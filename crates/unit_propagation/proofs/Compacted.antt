@@ -1,4 +1,4 @@
--- The rule of watches speaks of sets, so compaction keeps it.
+-- Compaction keeps the rule of watches, since the rule doesn't depend on the order of a chain.
 use Rattle.std.proofs.Common.{◌≡◌, ℕ, ◌-◌, ◌<◌, List, length, get_or, sym, ◌∙◌, subst, arith}
 use Rattle.std.specs.Prelude.{Contains}
 use Rattle.std.proofs.lemmas.List.{get_or_default}

@@ -1,4 +1,4 @@
--- From one literal of the assignment to the next.
+-- The loop of propagation, from one literal of the trail to the next.
 use Rattle.std.proofs.Common.{◌≡◌, ◌≢◌, ℕ, ◌+◌, ◌<◌, ◌≤◌, ◌⊎◌, List, [], ◌∷◌, ◌++◌, length, take, get_or, Option, sym, ◌∙◌, ap, inl, inr, arith, subst, suc, true, false, nat_eq}
 use Rattle.std.specs.Prelude.{Contains, All, AllPairs}
 use Rattle.std.specs.List.{IsDistinct, list_any}
@@ -28,17 +28,17 @@ any_below n q (x ∷ xs) h e = elim (cases_eq q x) [
   | inr d ↦ any_below n q xs (All-tail (λ l. l < n) x xs h) (let z : nat_eq q x ≡ false = grind (arith, nat_tests) in rw z at e)
 ]
 
--- different numbers below n are at most n
+-- a list of different numbers below n has at most n
 pub length_below : (n : ℕ) (xs : List ℕ) → AllPairs (λ l m. l ≢ m) xs → All (λ l. l < n) xs → length xs ≤ n
 length_below n xs d h = length-le_from_distinct_below xs n (distinct_from_pairs xs d) (λ q e. any_below n q xs h e)
 
--- so far the rule of watches holds for the first literals of the assignment
+-- the rule of watches holds for the literals of the trail before `head`
 pub record IsAt (start : Content) (a : List ℕ) (r : List (Option ℕ)) (content : Content) (b : List ℕ) (s : List (Option ℕ)) (head : ℕ) : Type 0 where
   pub later : IsLater start a r content b s
   pub low : head ≤ length b
   pub rule : RuleUpTo content (take head b) b
 
--- what a walk is to know of the next literal
+-- what a walk requires of the next literal
 pub next_rule : (content : Content) (a : List ℕ) (head literal f : ℕ) → head < length a → literal ≡ get_or a head literal → f ≡ negated literal → RuleUpTo content (take head a) a → (at slot l : ℕ) → Watches content at slot l → Contains (take (head + 1) a) (negated l) → (l ≡ f) ⊎ IsOtherTrue content a at slot
 next_rule content a head literal f b e g rule at slot l w c =
     let t : take (head + 1) a ≡ take head a ++ literal ∷ [] = take_more a head literal b ∙ ap (λ (x : ℕ). take head a ++ x ∷ []) (sym e) in

@@ -1,4 +1,4 @@
--- What the rule of watches keeps where a watch moves or a literal becomes true.
+-- The rule of watches is kept where a watch moves or a literal becomes true.
 use Rattle.std.proofs.Common.{◌≡◌, ◌≢◌, ℕ, ◌-◌, ◌<◌, ◌⊎◌, List, [], ◌∷◌, ◌++◌, length, length-append, map, take, drop, refl, sym, ◌∙◌, ap, inl, inr, arith, subst, zero, suc, Option, Some, get_or}
 use Rattle.std.specs.Prelude.{Contains, All, ◌↔◌, slice_get}
 use Rattle.std.proofs.Math.ListN.{set}
@@ -154,7 +154,7 @@ module _ (content : Content) (p a c : List ℕ) (at slot f other : ℕ) (more : 
     | inr t ↦ inr (t.0, (t.1.0, more t.0 t.1.1))
   ]
 
--- how contents and assignments go on
+-- `IsLater` where nothing changed, where a watch moved, and where a literal became true
 pub later_same : (content : Content) (a : List ℕ) (r : List (Option ℕ)) → length r ≡ length a → IsLater content a r content a r
 later_same content a r e = record {
   clauses = refl;
@@ -221,7 +221,7 @@ reason_later earlier later a b k reason e f i h =
       unit = rw (t, n) (subst (λ (cs : List Clause). IsUnit (take k a) (literals_in (clause_among cs reason)) (get_or a k 0)) (sym e) h.unit);
     }
 
--- an entry of a list that begins as another one
+-- an entry within a common prefix
 pub entry_kept : (xs ys : List (Option ℕ)) (n k : ℕ) (x : Option ℕ) → take n ys ≡ xs → k < n → slice_get xs k ≡ Some x → slice_get ys k ≡ Some x
 entry_kept xs ys n k x e b f = entry_of_take ys n k b (subst (λ (zs : List (Option ℕ)). slice_get zs k ≡ Some x) (sym e) f)
   where
@@ -263,7 +263,7 @@ module _ (content : Content) (before : Option (ℕ × ℕ)) (watch : ℕ × ℕ)
   pub stands_in : HasClause content watch.0 × (watch.1 < 2)
   stands_in = whole.slots f watch stands.0 stands.1
 
-  -- and moves
+  -- the case in which it moves
   module _ (later : Content) (a : List ℕ) (r : List (Option ℕ)) (aligned : length r ≡ length a) (l other : ℕ) (attached : IsAttached content) (consistent : IsConsistent a) (falsified : Contains a (negated f)) (v : Watches content watch.0 (1 - watch.1) other)
       (free : IsFalse a l → ⊥) (different : l ≢ other) (in' : Contains (literals_of content watch.0) l)
       (chain : (m : ℕ) (xs ys : List (ℕ × ℕ)) → IsAfter content before watch m xs ys → later ≡ watched (with_chain content m (xs ++ ys)) watch.0 watch.1 l)

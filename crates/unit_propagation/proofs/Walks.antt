@@ -65,7 +65,7 @@ known_later earlier later c s k = record {
   contrary = λ l h. let b : HasLiteral earlier (negated l) = k.contrary l (omega (arith, s)) in omega (arith, s);
 }
 
--- where the rule holds of all but the falsified literal at first, it holds of all but the watches from the next one on
+-- if at the start the rule holds but for the falsified literal, it now holds but for the watches from `next` on
 pub record IsOn (start : Content) (a : List ℕ) (r : List (Option ℕ)) (content : Content) (b : List ℕ) (s : List (Option ℕ)) (falsified : ℕ) (before next : Option (ℕ × ℕ)) (seen later : List (ℕ × ℕ)) : Type 0 where
   pub whole : IsWhole content
   pub on : IsLater start a r content b s

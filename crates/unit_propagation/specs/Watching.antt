@@ -1,4 +1,4 @@
--- The rule of watches.
+-- The rule of watches, the invariant of propagation, and how arena, trail and reasons may change under it.
 use Rattle.std.specs.Prelude.{ℕ, false, [], ◌≡◌, ◌≢◌, ◌-◌, ◌<◌, ◌≤◌, ◌⊎◌, List, ◌∷◌, ◌++◌, Contains, All, take, length, Option, Some, slice_get, get_or}
 use Rattle.clause_model.specs.Clauses.{negated, IsUnit}
 use Rattle.clause_arena.specs.Contents.{Content, HasClause, HasLiteral, Watches, IsAfter, literals_of, chain_of}
@@ -13,7 +13,7 @@ pub record IsWatched (content : Content) (at : ℕ) : Type 0 where
   pub first_in : Contains (literals_of content at) first
   pub second_in : Contains (literals_of content at) second
 
--- a clause that watches a literal watches two of its own
+-- a clause that watches a literal watches two different ones of its own
 abbrev pub IsAttached : Content → Type 0
 IsAttached content = (at slot literal : ℕ) → Watches content at slot literal → IsWatched content at
 
@@ -26,15 +26,15 @@ pub record IsKnown (content : Content) : Type 0 where
 abbrev pub IsOtherTrue : Content → List ℕ → ℕ → ℕ → Type 0
 IsOtherTrue content a at slot = (other : ℕ) × (Watches content at (1 - slot) other × Contains a other)
 
--- where a watched literal's contrary is in the first list, the other one is in the second
+-- where a watched literal's contrary is in p, the other watched literal is in a
 abbrev pub RuleUpTo : Content → List ℕ → List ℕ → Type 0
 RuleUpTo content p a = (at slot literal : ℕ) → Watches content at slot literal → Contains p (negated literal) → IsOtherTrue content a at slot
 
--- the rule of watches: where a watched literal is false, the other one is true
+-- the rule of watches: where a watched literal is false, the other watched one is true
 abbrev pub Rule : Content → List ℕ → Type 0
 Rule content a = RuleUpTo content a a
 
--- the literal at a place became true by a clause that was unit under those before it
+-- the literal at a place of the trail became true by a clause that was unit under the literals before it
 pub record IsReason (content : Content) (trail : List ℕ) (place reason : ℕ) : Type 0 where
   pub clause : HasClause content reason
   pub unit : IsUnit (take place trail) (literals_of content reason) (get_or trail place 0)
@@ -53,17 +53,17 @@ pub record IsLater (earlier : Content) (a : List ℕ) (before : List (Option ℕ
   pub kept : (n : ℕ) → n ≤ length a → Rule earlier (take n a) → Rule later (take n b)
   pub because : (k : ℕ) → length a ≤ k → k < length b → (reason : ℕ) × (slice_get reasons k ≡ Some (Some reason)) × IsReason later b k reason
 
--- a watched literal whose contrary is in the first list is this one, in one of these watches, or the other one is true
+-- where a watched literal's contrary is in p, the other one is true, but for the watches of the falsified literal in `later`
 abbrev pub Due : Content → List ℕ → List ℕ → ℕ → List (ℕ × ℕ) → Type 0
 Due content p a falsified later =
     (at slot literal : ℕ) → Watches content at slot literal → Contains p (negated literal) → ((literal ≡ falsified) × Contains later (at, slot)) ⊎ IsOtherTrue content a at slot
 
--- after a watch has moved, those that were due are due but this one, and the falsified literal's chain is without it
+-- a watch has moved: it is no longer due, the others are as before, and the falsified literal's chain is without it
 pub record IsMoved (earlier later : Content) (a : List ℕ) (falsified : ℕ) (before : Option (ℕ × ℕ)) (watch : ℕ × ℕ) : Type 0 where
   pub due : (p : List ℕ) (rest : List (ℕ × ℕ)) → ((k : ℕ) → Contains p k → Contains a k) → Due earlier p a falsified (watch ∷ rest) → Due later p a falsified rest
   pub chain : (seen rest : List (ℕ × ℕ)) → IsAfter earlier before watch falsified seen rest → chain_of later falsified ≡ seen ++ rest
 
--- there is a clause more under a new reference, and each clause that watched literals watches them still
+-- a clause was added under a new reference, and each clause that watched two literals still does
 pub record IsAdded (earlier : Content) (at : ℕ) (literals : List ℕ) (later : Content) : Type 0 where
   pub clauses : later.clauses ≡ earlier.clauses ++ record { at = at; literals = literals; is_dropped = false } ∷ []
   pub size : length later.chains ≡ length earlier.chains

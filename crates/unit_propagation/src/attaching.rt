@@ -1,4 +1,4 @@
-//! Clauses enter the arena watched, where two of their literals are open, or unwatched, where they say only what is set.
+//! Clauses are added to the arena: those with two different literals watch two of them, and those with one literal, which is set at once, watch nothing.
 ghost use Rattle.std.specs.Prelude.{◌≢◌, ◌<◌, Contains, IfOk};
 ghost use Rattle.clause_arena.specs.Contents.{HasLiteral, Watches};
 ghost use Rattle.unit_propagation.specs.Watching.{IsAdded};

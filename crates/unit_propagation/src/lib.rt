@@ -1,4 +1,4 @@
-//! Propagation by watched literals: what follows by unit clauses, and by which clause.
+//! Unit propagation by two watched literals, which notes for each literal that becomes true the clause that is its reason.
 #![tactic(auto)]
 
 mod attaching;

@@ -1,4 +1,4 @@
-//! What becomes of each watch of a literal that has become false: kept, moved, or its clause is unit or false.
+//! Propagation: for each literal that became false its chain of watches is walked. A watch stays or moves, or its clause is unit or false.
 ghost use Rattle.std.specs.Prelude.{◌≡◌, ◌≢◌, ℕ, ◌+◌, ◌-◌, ◌<◌, ◌≤◌, ◌⊎◌, List, length, take, Contains, All, IfOk, OnOk, IfSome, slice_get, Option, Some, None, true, false};
 ghost use Rattle.clause_model.specs.Clauses.{negated, IsFalse, AllFalse};
 ghost use Rattle.clause_arena.specs.Contents.{HasClause, HasLiteral, Watches, IsWhole, literals_of, IsBetween, IsAfter};
@@ -22,9 +22,9 @@ fn other_of(arena: &Arena, at: Ref, slot: u8) -> u32
     }
 }
 
-/// What comes of a watch whose literal has become false.
+/// What happens to a watch whose literal has become false.
 enum WatchOutcome {
-    /// It stays, and the other watched literal is true.
+    /// It stays, and the other watched literal is now true.
     Kept,
     /// Its slot watches another literal.
     Moved,
@@ -32,7 +32,7 @@ enum WatchOutcome {
     Conflict,
 }
 
-/// Whether a literal is another one, and isn't false.
+/// Whether a literal isn't `other`, and isn't false.
 fn is_free(literal: u32, other: u32, assignment: &Assignment) -> bool
     ensures free { result ≡ true → (literal ≢ other) × (IsFalse assignment.now literal → ⊥) }
     ensures bound { result ≡ false → (literal ≡ other) ⊎ IsFalse assignment.now literal }
@@ -43,7 +43,7 @@ fn is_free(literal: u32, other: u32, assignment: &Assignment) -> bool
     !assignment.is_true(Literal::from_code(literal).negated())
 }
 
-/// A literal of a clause, but for one, that isn't false.
+/// A literal of a clause, other than `other`, that isn't false.
 fn find_free(literals: &[u32], other: u32, assignment: &Assignment) -> Option<u32>
     ensures some { IfSome result (λ l. Contains literals.now l × (l ≢ other) × (IsFalse assignment.now l → ⊥)) }
     ensures none { result ≡ None → All (λ l. (l ≡ other) ⊎ IsFalse assignment.now l) literals.now }
@@ -56,7 +56,7 @@ fn find_free(literals: &[u32], other: u32, assignment: &Assignment) -> Option<u3
     None
 }
 
-/// The watch after another one.
+/// The watch that follows this one in its chain.
 fn following(arena: &Arena, watch: (Ref, u8)) -> Option<(Ref, u8)>
     requires { (literal : ℕ) × Watches arena.now watch.0 watch.1 literal }
     ensures { (literal : ℕ) (earlier later : List (ℕ × ℕ)) → IsBetween arena.now literal earlier watch later → result ≡ slice_get later 0 }
@@ -65,8 +65,8 @@ fn following(arena: &Arena, watch: (Ref, u8)) -> Option<(Ref, u8)>
     arena.next_watch(at, slot)
 }
 
-/// Keeps a watch of a false literal where the other one is true, moves it where a literal of the
-/// clause isn't false, and makes the other one true where it can.
+/// Keeps a watch of a false literal where the other watched literal is true, moves it where a further literal
+/// of the clause isn't false, and else makes the other one true, or reports a conflict where that is false.
 fn visit(
     arena: &mut Arena,
     assignment: &mut Assignment,
@@ -113,7 +113,7 @@ fn visit(
     }
 }
 
-/// Goes along the chain of a literal that has become false; the answer is a false clause.
+/// Walks the chain of a literal that has become false, up to a false clause, which is the answer.
 fn walk(
     arena: &mut Arena,
     assignment: &mut Assignment,
@@ -146,8 +146,8 @@ fn walk(
     Ok(None)
 }
 
-/// Makes true what follows by unit clauses, from a place of the assignment on, and notes beside each
-/// literal the clause that it follows by; the answer is a false clause, if there is one.
+/// Propagates the literals of the trail from a place on to the end, and notes beside each new
+/// literal its reason, the clause that was unit; the answer is a false clause, if there is one.
 pub fn propagate(
     arena: &mut Arena,
     assignment: &mut Assignment,

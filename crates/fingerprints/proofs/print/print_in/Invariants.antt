@@ -3,6 +3,6 @@ use Rattle.fingerprints.specs.Print.{print_from}
 use Rattle.fingerprints.specs.Columns.{states_in}
 use Rattle.fingerprints.proofs.print.print_in.Given as goal
 
--- the columns that are left lead from the print so far to the whole one
+-- mixing the remaining columns into the print so far yields the whole print
 abbrev pub invariant-loop-column : goal.invariant-loop-column
 invariant-loop-column l = print_from l.mask.items.bits l.h (states_in (drop l.column-index l.columns)) ≡ print_from l.mask.items.bits 0 (states_in l.columns)

@@ -3,7 +3,7 @@ use Rattle.fingerprints.specs.Print.{print_from}
 use Rattle.fingerprints.specs.Columns.{lanes_from}
 use Rattle.fingerprints.proofs.print.with_lanes.Given as goal
 
--- the lanes that are left lead from the prints so far to the whole ones
+-- mixing the remaining lanes into the prints so far yields the whole prints
 abbrev pub invariant-loop-i : goal.invariant-loop-i
 invariant-loop-i l = record {
   a : print_from l.mask.items.bits l.h.a (lanes_from l.a l.i (l.count - l.i)) ≡ print_from l.mask.items.bits l.fn.prints.a (lanes_from l.a 0 l.count);

@@ -8,7 +8,7 @@ use Rattle.fingerprints.proofs.sequences.+print_length.Given as goal
 abbrev pub decreases-print_length : goal.decreases-print_length
 decreases-print_length l = l.length
 
--- the instructions that are left complete the prints of the length
+-- the prints so far, completed by the remaining instructions', are those of the length
 abbrev pub invariant-loop-instr : goal.invariant-loop-instr
 invariant-loop-instr l = record {
   over : AreOver 4 (drop l.instr-index l.alphabet);

@@ -4,7 +4,7 @@ use Rattle.fingerprints.specs.Print.{print_from}
 use Rattle.fingerprints.specs.Columns.{states_in}
 use Rattle.fingerprints.proofs.sequences.print_four.Given as goal
 
--- the columns that are left lead from the prints so far to the whole ones
+-- mixing the remaining columns into the prints so far yields the whole prints
 abbrev pub invariant-loop-column : goal.invariant-loop-column
 invariant-loop-column l = record {
   a : print_from l.mask.items.bits l.prints.a (map (after l.a) (states_in (drop l.column-index l.columns))) ≡ print_from l.mask.items.bits 0 (map (after l.a) (states_in l.columns));

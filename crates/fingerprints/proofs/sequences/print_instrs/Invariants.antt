@@ -5,7 +5,7 @@ use Rattle.fingerprints.specs.Sequences.{prints_of}
 use Rattle.fingerprints.proofs.SequenceLemmas.{prints_behind}
 use Rattle.fingerprints.proofs.sequences.print_instrs.Given as goal
 
--- the instructions that are left complete the prints
+-- the prints so far, completed by the remaining instructions', are the whole
 abbrev pub invariant-loop-rest : goal.invariant-loop-rest
 invariant-loop-rest l = record {
   over : AreOver 4 l.rest;

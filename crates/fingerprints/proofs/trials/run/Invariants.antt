@@ -4,7 +4,7 @@ use Rattle.window_exec.specs.State.{values_of}
 use Rattle.step_ledger.specs.Counts.{RisesBy}
 use Rattle.fingerprints.proofs.trials.run.Given as goal
 
--- the instructions that are left lead from the state to the same end
+-- the remaining instructions lead from the state to the final one
 abbrev pub invariant-loop-instr : goal.invariant-loop-instr
 invariant-loop-instr g l = record {
   over : AreOver 4 (drop l.instr-index l.instrs);

@@ -3,7 +3,7 @@ use Rattle.seq_enum.specs.Alphabet.{numbers_from}
 use Rattle.rule_table.specs.Canonical.{firsts, numbers_of}
 use Rattle.table_audit.proofs.sides.ordered.Given as goal
 
--- the registers that are left lead to the same list
+-- continuing with the remaining registers yields the same list
 abbrev pub invariant-loop-register : goal.invariant-loop-register
 invariant-loop-register l = record {
   same : firsts (numbers_from 0 l.seen) (numbers_of (drop l.register-index l.registers)) ≡ firsts (numbers_from 0 l.count) (numbers_of l.registers);

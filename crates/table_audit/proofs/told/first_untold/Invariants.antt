@@ -4,7 +4,7 @@ use Rattle.table_audit.specs.Naming.{told_cost}
 use Rattle.table_audit.proofs.Settling.{SettledBefore}
 use Rattle.table_audit.proofs.told.first_untold.Given as goal
 
--- the first untold one of the numbers so far is known, and what beats it
+-- the first untold number so far is known, and the weight that a better one must stay below
 abbrev pub invariant-loop-number : goal.invariant-loop-number
 invariant-loop-number g l = record {
   settled : SettledBefore (table_of l.table) (rule_of l.entry) l.numbers l.number-index l.first l.limit;

@@ -28,7 +28,7 @@ loop-head-smaller c =
     let b : length c.loop-head.assignment ≤ length c.loop-head.arena.chains = length_below (length c.loop-head.arena.chains) c.loop-head.assignment c.len.ensures.distinct (c.loop-head.invariant.later.literals c.requires.literals) in
     omega (arith, c.in_ok-at.ensures.later.size, c.len.ensures.value)
 
--- the rule at one literal more, from what the walk along the chain of its contrary gives
+-- the rule for one more literal, from what the walk along the chain of its contrary guarantees
 rule : (content later : Content) (a b literals : List ℕ) (head literal f code count : ℕ) → head < count → count ≡ length a → literals ≡ a → literal ≡ get_or literals head literal → f ≡ negated literal → code ≡ f → RuleUpTo content (take head a) a
     → ((p : List ℕ) → ((k : ℕ) → Contains p k → Contains a k) → ((at slot l : ℕ) → Watches content at slot l → Contains p (negated l) → (l ≡ code) ⊎ IsOtherTrue content a at slot) → RuleUpTo later p b) → RuleUpTo later (take (head + 1) a) b
 rule content later a b literals head literal f code count h n e r g d old done =

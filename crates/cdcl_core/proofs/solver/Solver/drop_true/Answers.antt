@@ -11,7 +11,7 @@ use Rattle.cdcl_core.proofs.Adopted.{base_here}
 use Rattle.cdcl_core.proofs.Moved.{kept_live, kept_reasons, base_moved, covers_moved, dropped_moved}
 use Rattle.cdcl_core.proofs.solver.Solver.drop_true.Goals as goal
 
--- what holds after clauses were dropped, said of the vectors and not of the slices
+-- what holds after clauses were dropped, stated for the vectors instead of the slices
 dropped_base : (content later : Content) (refs shown : List ℕ) (reasons shown_reasons : List (Option ℕ)) (trail : List ℕ) → shown ≡ refs → shown_reasons ≡ reasons
     → IsBase (clauses_of content) (length content.chains) later shown shown_reasons trail None → IsBase (clauses_of later) (length content.chains) later refs reasons trail None
 dropped_base content later refs shown reasons shown_reasons trail e f b = rw (← e, ← f) (base_here b)

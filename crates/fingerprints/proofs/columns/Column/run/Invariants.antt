@@ -3,7 +3,7 @@ use Rattle.thumb_model.specs.Effect.{after_all, AreOver}
 use Rattle.fingerprints.specs.Columns.{states_of}
 use Rattle.fingerprints.proofs.columns.Column.run.Given as goal
 
--- the instructions that are left lead from the states so far to the same end
+-- the remaining instructions lead from the states so far to the final ones
 abbrev pub invariant-loop-instr : goal.invariant-loop-instr
 invariant-loop-instr l = record {
   over : AreOver 4 (drop l.instr-index l.instrs);

@@ -7,7 +7,7 @@ use Rattle.step_ledger.specs.Counts.{RisesBy}
 use Rattle.fingerprints.specs.OutcomeColumns.{extended, Holds, HaveRoom, KeepsFrom}
 use Rattle.fingerprints.proofs.outcome_columns.Columns.push_extended.Given as goal
 
--- the instructions so far stand behind the sequence
+-- the outcomes with the instructions so far were appended
 abbrev pub invariant-loop-instr : goal.invariant-loop-instr
 invariant-loop-instr g l = record {
   over : AreOver l.k (drop l.instr-index l.alphabet);

@@ -5,7 +5,7 @@ use Rattle.step_ledger.specs.Counts.{RisesBy}
 use Rattle.fingerprints.specs.OutcomeColumns.{extended, HaveRoom, Holds}
 use Rattle.fingerprints.proofs.outcome_columns.Columns.push_length.Given as goal
 
--- so many of the longest sequences have each instruction behind them
+-- the longest sequences before this place were extended by each instruction
 abbrev pub invariant-loop-place : goal.invariant-loop-place
 invariant-loop-place g l = record {
   holds : (shorter longest : List (List Instr)) → length shorter ≡ l.first → Holds l.k l.start (shorter ++ longest) l.initial.self

@@ -11,7 +11,7 @@ use Rattle.fingerprints.proofs.outcomes.Outcomes.grow.Goals as goal
 pub push_length-requires-clause-within : goal.push_length-requires-clause-within
 push_length-requires-clause-within g c = grown_first c.self.inside.k c.self.inside.alphabet.items c.self.inside.start c.loop-length._length c.loop-length.first c.loop-length.columns c.loop-length.invariant.grown
 
--- the room is that of the sequences in the end
+-- the room is that for all sequences at the end
 pub copied-requires-clause-within : goal.copied-requires-clause-within
 copied-requires-clause-within g c =
     let alphabet = c.self.inside.alphabet.items in

@@ -5,7 +5,7 @@ use Rattle.fingerprints.specs.Outcomes.{sequences_below}
 use Rattle.fingerprints.proofs.Growing.{IsGrown}
 use Rattle.fingerprints.proofs.outcomes.Outcomes.grow.Given as goal
 
--- so long are the sequences by now
+-- the length of the longest sequences so far
 abbrev pub invariant-loop-length : goal.invariant-loop-length
 invariant-loop-length g l = record {
   grown : IsGrown l.self-inside.k l.self-inside.alphabet.items l.self-inside.start l._length l.first l.columns;
