@@ -1,4 +1,4 @@
--- Each status but Done and Memory has its cause, and where that is excluded it does not come.
+-- Each status but Done and Memory has a cause; where all causes are excluded, the run ends as Done or memory runs out.
 use Rattle.std.proofs.Common.{◌≡◌, ◌≤◌, ◌<◌, inl, inr, ℕ, Bool, true, false, List, [], ◌∷◌, Option, Some, None, length, refl, subst, arith}
 use Rattle.std.specs.Prelude.{All}
 use Rattle.std.specs.Str.{IsUtf8}
@@ -19,7 +19,7 @@ pub within_not_big : (o : Option (List ℕ)) → IsWithin o → IsTooBig o → �
 within_not_big None w g = w
 within_not_big (Some t) w g = not_both (length t) limit w g
 
--- what is shown and excluded alike by content or by counts
+-- a cause can't be both shown and excluded, be it by content or by counts
 pub clash : (tells : Bool) (told risen told_not risen_not : Type 0) → (told → told_not → ⊥) → (risen → risen_not → ⊥) → Shows tells told risen → Shows tells told_not risen_not → ⊥
 clash true told risen told_not risen_not f g h k = f h k
 clash false told risen told_not risen_not f g h k = g h k
@@ -45,7 +45,7 @@ module _ (words : List (List ℕ)) (r : Request) (old new : Seen) (before after 
       let same : q ≡ r = asks_once words text q r a asks in
       none_stops old new cause f (plan_of r).names u.names (subst (λ (p : Request). StopsAt cause old (plan_of p).names) same h)
 
-  -- the refusal of a run stands
+  -- a refusal of the plan of any request that the words ask for is one of this request's plan
   stands : (q : Request) → AskFor words q → (line : List ℕ) → ComesTo (plan_of q) old (Refuses line) → ComesTo (plan_of r) old (Refuses line)
   stands q a line h = let same : q ≡ r = asks_once words text q r a asks in subst (λ (p : Request). ComesTo (plan_of p) old (Refuses line)) same h
 
@@ -66,7 +66,7 @@ module _ (words : List (List ℕ)) (r : Request) (old new : Seen) (before after 
   ends status.TooBig h u f = absurd (stopped (λ n. TooBigAt old new n) (not_too_big old new) u h.0 h.1 h.2.stops)
   ends status.Missing h u f = absurd (stopped (λ n. MissedAt old new n) (not_missed old new) u h.0 h.1 h.2.stops)
 
-  -- likewise where what is refused is so by a full table alone
+  -- the same if the only possible refusal is that of a too long table
   pub ends_full : (s : Status) → Peeps words old new before after s → IsUnhindered (plan_of r) old new before after → (Ran words old new before after status.Refused → IsCarriedOutOrFull before after status.Refused) → IsCarriedOutOrFull before after s
   ends_full status.Done h u f = inl (inl refl)
   ends_full status.Memory h u f = inl (inr refl)

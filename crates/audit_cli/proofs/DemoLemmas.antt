@@ -1,4 +1,4 @@
--- Why what `demo` tells is what its definition says, and why nothing is refused but a text that is too long.
+-- What `demo` prints is what its definition says, and nothing is refused except a table whose text is too long.
 use Rattle.std.proofs.Common.{◌≡◌, ◌∙◌, ℕ, ◌≤◌, List, [], ◌∷◌, ◌++◌, append_assoc, length, refl, sym, subst, arith, Option, Some, None, leb-true}
 use Rattle.thumb_model.specs.Listing.{ListingLine}
 use Rattle.rule_model.specs.Rewriting.{Replacement, AreRewritten}
@@ -30,7 +30,7 @@ use Rattle.audit_cli.specs.Answers.{IsDemoListing}
 use Rattle.audit_cli.proofs.MuteLines.{AreMute}
 use Rattle.audit_cli.proofs.DemoLines.{demo_lines, demo_listed, demo_mute}
 
--- ---- what can't come ----
+-- ---- refusals that can't happen ----
 
 pub never_unread : (n : ℕ) (r : Refusal) → n ≤ 20000 → IsUnread (demo_text n) r → ⊥
 never_unread n _ few (unread line k h) = one_verdict.not_both (demo_text n) (demo_lines n) line k (demo_listed n few) h
@@ -69,7 +69,7 @@ narrow = leb-true (width_of demo_settings) 5000000 refl
 pub made_mute : (lines : List ListingLine) → IsDemoListing lines → AreMute lines
 made_mute lines (n, few, is) = subst AreMute (one_listing (demo_text n) (demo_lines n) lines (demo_listed n few) is) (demo_mute n)
 
--- ---- what is told ----
+-- ---- the report ----
 
 pub is_rewriting_told : (t : Table) (given lines : List ListingLine) (rs : List Replacement) (bytes : List ℕ) (replaced before after size : ℕ) (told : List ℕ)
     → AreRewritten (setting 0 t) given rs lines → IsAssembled 0 lines bytes

@@ -1,4 +1,4 @@
--- The lines of the listing that `demo` makes: its text is the listing of these, and they mention no name.
+-- The lines of the listing that `demo` makes: its text is read as these lines, and they mention no name.
 use Rattle.std.proofs.Common.{◌≡◌, ◌∙◌, ℕ, zero, suc, ◌+◌, ◌*◌, ◌<◌, ◌≤◌, ◌%◌, ◌==◌, true, false, List, [], ◌∷◌, ◌++◌, length, map, inl, inr, refl, sym, ap, ap₂, subst, arith, codes, append_assoc, append-nil, length-append, if◌then◌else◌, None, Ok}
 use Rattle.std.specs.List.{list_all}
 use Rattle.std.specs.Fmt.{decimal}

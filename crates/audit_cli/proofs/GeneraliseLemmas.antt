@@ -1,4 +1,4 @@
--- A family by the solver: what its answers say, and the table with the family.
+-- `generalise`: what the solver's answers say of a family, and that the audit accepts the table with the proved family.
 use Rattle.std.proofs.Common.{◌≡◌, ◌∙◌, ℕ, ◌+◌, ◌-◌, ◌<◌, ◌≤◌, false, List, [], ◌∷◌, ◌++◌, Bool, Option, Some, None, get_or, length, map, max, refl, sym, ap, subst, arith, length-append, option_map}
 use Rattle.std.specs.Prelude.{slice_get}
 use Rattle.std.proofs.lemmas.List.{length-map}
@@ -40,7 +40,7 @@ use Rattle.rule_model.proofs.Table.{over_wider}
 
 -- ---- a model ----
 
--- what a model gives tells the sides apart
+-- the state and the value of a model tell the sides apart
 pub differs : (t : Table) (f : Family) (e : Rule) (k : ℕ) (model : List Bool) (s : WState) (value : ℕ) → HasFormula t.header e → IsMask e.mask → IsRaisableFor t f e → k ≡ alphabet_registers t.header e.left → k ≤ 4
     → IsModel model (raised_formula t.header f e) → length s.r ≡ 4 → SameOver 4 (values_of s) (start_values (assigned model) k) → value ≡ value_at (assigned model) k → DifferAt t f value (values_of s)
 differs t f e k model s value has masks raisable is few holds four same shown =
@@ -71,7 +71,7 @@ unequal left right mask v masks words tells same = tells.2 (same v words tells.0
 
 -- ---- the table with the family ----
 
--- what holds of a family holds of it with another proof
+-- whether a family can be raised doesn't depend on its proof
 raisable_by : (pool : List ℕ) (f : Family) (left : List Instr) (proof : List Content) → IsRaisable pool f left → IsRaisable pool (record f { proof = proof }) left
 raisable_by pool f left proof r = record { pooled = r.pooled; from = r.from; to = r.to; bytes = r.bytes; held = r.held }
 
@@ -116,7 +116,7 @@ generalised t raised f e proof valid accepted can refutes one is = record {
 
 -- ---- the entry ----
 
--- a family with an entry has one
+-- a family that has an entry isn't without one
 pub not_none : (t : Table) (f : Family) (e : Rule) → entry_of t f ≡ Some e → HasNone t f → ⊥
 not_none t f e is none = let bad : Some e ≡ None = sym is ∙ none in cc
 
@@ -124,11 +124,11 @@ not_none t f e is none = let bad : Some e ≡ None = sym is ∙ none in cc
 pub same_entry : (t : Table) (f : Family) (e x : Rule) → IsRaisableFor t f e → IsRaisableFor t f x → e ≡ x
 same_entry t f e x can also = same_Some e x (sym can.is_entry ∙ also.is_entry)
 
--- and one that can be raised
+-- a family that can be raised isn't unraisable
 pub not_unraisable : (t : Table) (f : Family) (e : Rule) → IsRaisableFor t f e → IsUnraisable t f → ⊥
 not_unraisable t f e can (x, is, cannot) = cannot (subst (λ (y : Rule). IsRaisable t.header.pool f y.left) (same_Some e x (sym can.is_entry ∙ is)) can.raisable)
 
--- the mask of a family's entry is one
+-- the mask of a family's entry is valid
 pub entry_mask : (t : Table) (f : Family) (e : Rule) → IsTable t → entry_of t f ≡ Some e → IsMask e.mask
 entry_mask t f e valid at = entry_stands t.rules f.entry e at (λ i there.
     let low = slice_get_within t.rules i e there in

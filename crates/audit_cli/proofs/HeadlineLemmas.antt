@@ -1,4 +1,4 @@
--- A done run of `rewrite` has done what its headline says, field by field.
+-- A run of `rewrite` that ends as Done has done what the headline says, field by field.
 use Rattle.std.proofs.Common.{◌≡◌, ℕ, List, [], ◌∷◌, ◌++◌, Option, Some, None, refl, sym, subst}
 use Rattle.std.proofs.lemmas.List.{append-nil}
 use Rattle.std.specs.Prelude.{Ok}
@@ -17,7 +17,7 @@ use Rattle.audit_cli.specs.Rewrite.{Destination, Counts, Leaves, alone, pair, no
 use Rattle.audit_cli.specs.Peep.{plan_of}
 use Rattle.audit_cli.specs.Headline.{IsHeadline, IsImage, RewritesAsPromised, image_kept, image_told}
 
--- no refusal
+-- the outcome is no refusal
 unfoldable pub IsAct : Outcome → Type 0
 IsAct (Refuses line) = ⊥
 IsAct (Does keeps lines) = Unit {0}
@@ -46,7 +46,7 @@ unfolding IsAct
 found to table listing _ (unaudited r h) act = absurd act
 found to table listing _ (audited t is o h) act = found_text to table listing t o is h act
 
--- what was handed out: the listing, its image where one is asked for, and the counts
+-- what was kept and printed: the listing, its image if one is asked for, and the counts
 record Handed (to : Destination) (given lines : List ListingLine) (c : Counts) (o : Outcome) : Type 0 where
   image : Option (List ℕ)
   is : IsImage to given lines image

@@ -1,4 +1,4 @@
--- A listing's windows are windows to learn from.
+-- The windows of a listing meet what the learner requires of windows.
 use Rattle.std.proofs.Common.{◌≡◌, ℕ, zero, suc, ◌+◌, ◌≤◌, List, [], ◌∷◌, ◌++◌, length, map, refl, sym, ap, subst, arith, Result, Ok, Err}
 use Rattle.std.specs.Prelude.{All}
 use Rattle.std.specs.Result.{result_map_both}
@@ -26,7 +26,7 @@ use Rattle.audit_cli.specs.Answers.{Teach}
 
 -- ---- windows ----
 
--- a spot of few instructions
+-- a span of a window with no more instructions than the settings allow
 abbrev IsShort : Settings → WindowSpan → Type 0
 IsShort s spot = spot.count ≤ s.left
 
@@ -98,7 +98,7 @@ is_unlearnt to lines r o h is = subst (LinesLearn to lines) (sym is) (unlearnt r
 pub is_learnt : (to : LearnArguments) (lines : List ListingLine) (t : Table) (o : Outcome) → IsLearnt to.settings lines t → o ≡ kept_table to.out t → LinesLearn to lines o
 is_learnt to lines t o h is = subst (LinesLearn to lines) (sym is) (learnt t h)
 
--- ---- what learning answered ----
+-- ---- the result of learning ----
 
 pub is_taught : {A : Type 0} (view : A → Table) (s : Settings) (lines : List ListingLine) (x : Result A Refusal) (a : A) → Teach s lines (result_map_both view (λ e. e) x) → x ≡ Ok a → IsLearnt s lines (view a)
 is_taught {A} view s lines x a h e = subst (λ (y : Result A Refusal). Teach s lines (result_map_both view (λ r. r) y)) e h
@@ -106,7 +106,7 @@ is_taught {A} view s lines x a h e = subst (λ (y : Result A Refusal). Teach s l
 pub not_taught : {A : Type 0} (view : A → Table) (s : Settings) (lines : List ListingLine) (x : Result A Refusal) (r : Refusal) → Teach s lines (result_map_both view (λ e. e) x) → x ≡ Err r → IsUnlearnt s lines r
 not_taught {A} view s lines x r h e = subst (λ (y : Result A Refusal). Teach s lines (result_map_both view (λ q. q) y)) e h
 
--- ---- what reading costs answered ----
+-- ---- the result of reading costs ----
 
 pub is_priced : (to : LearnArguments) (text bytes costs : List ℕ) (x : Result (List ℕ) CostLine) (o : Outcome) → ReadsCosts bytes x → x ≡ Ok costs → Learns (priced costs to) text o → LearnsByCosts to text bytes o
 is_priced to text bytes costs x o h e k = priced_so costs (let is : IsCostText bytes costs = subst (ReadsCosts bytes) e h in is) o k

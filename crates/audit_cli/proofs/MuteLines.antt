@@ -1,4 +1,4 @@
--- Lines that mention no name and set no address: each mention is aimed, they can be laid out and have an image, and stay so when they are rewritten.
+-- Lines that mention no name and set no address, as those of `demo`: they can be laid out and have an image, and stay such lines when they are rewritten.
 use Rattle.std.proofs.Common.{◌≡◌, ◌∙◌, ℕ, zero, suc, ◌+◌, ◌-◌, ◌==◌, ◌&&◌, Bool, true, false, List, [], ◌∷◌, ◌++◌, length, map, inl, inr, refl, sym, ap, subst, true≢false, Option, Some, None}
 use Rattle.std.proofs.lemmas.Bool.{cases_Bool}
 use Rattle.thumb_instr.specs.declared.instr.Instr.{Instr}

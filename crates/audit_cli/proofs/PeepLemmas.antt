@@ -1,4 +1,4 @@
--- A run of a command is the call's.
+-- The run of the command that the words ask for is what the contract of the top call says.
 use Rattle.std.proofs.Common.{ℕ, List, refl, inr}
 use Rattle.command_line.specs.CommandLine.{Request, AskFor}
 use Rattle.outer_store.specs.Outside.{Seen, Sunk}

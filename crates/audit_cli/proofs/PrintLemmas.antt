@@ -1,10 +1,10 @@
--- Printed lines, piece after piece.
+-- Report lines as the code formats them, piece by piece, are those of the definitions.
 use Rattle.std.proofs.Common.{◌≡◌, ◌∙◌, ◌++◌, ◌∷◌, [], ℕ, List, append_assoc, ap}
 use Rattle.std.specs.Prelude.{codes}
 use Rattle.std.specs.Fmt.{decimal}
 use Rattle.audit_cli.specs.Printed.{report_of, tidied_report}
 
--- behind the first word
+-- after the first word
 pieces : (n b a : List ℕ) → (n ++ 10 ∷ []) ++ (codes "instructions" ++ (32 ∷ b) ++ (32 ∷ a) ++ 10 ∷ []) ≡ n ++ 10 ∷ (codes "instructions " ++ (b ++ 32 ∷ (a ++ 10 ∷ [])))
 pieces n b a =
     append_assoc n (10 ∷ []) (codes "instructions" ++ (32 ∷ b) ++ (32 ∷ a) ++ 10 ∷ [])

@@ -1,4 +1,4 @@
--- Refusal lines, piece after piece.
+-- Refusal lines as the code formats them, piece by piece, are those of the definitions.
 use Rattle.std.proofs.Common.{◌≡◌, ◌++◌, ◌∷◌, [], ℕ, ℤ, List, append_assoc, ◌∙◌}
 use Rattle.std.specs.Prelude.{codes}
 use Rattle.std.specs.Fmt.{decimal, signed_decimal}

@@ -1,4 +1,4 @@
--- A proof in which no fault is found is a refutation, and the other way round: the states of a checker that goes through its lines.
+-- The audit finds no fault in a proof if and only if it is a refutation: the states of a checker that goes through the proof's lines.
 use Rattle.std.proofs.Common.{◌≡◌, ◌∙◌, inl, inr, ℕ, zero, suc, ◌+◌, ◌-◌, ◌<◌, ◌||◌, Bool, true, false, List, [], ◌∷◌, ◌++◌, Option, None, cond, length, nat_eq, slice_get, refl, sym, ap, subst, arith, append_assoc, append-nil}
 use Rattle.std.specs.Prelude.{◌↔◌, Any, IsTrue}
 use Rattle.std.specs.List.{list_any}
@@ -137,7 +137,7 @@ accepts_all state (line ∷ lines) a =
     let here = leads state line a.0 in
     (next state line, here, accepts_all (next state line) lines (subst (λ (k : Known). AllAccepted k lines) (sym (led_known state (next state line) line here)) a.1))
 
--- whether an empty clause was among those that were live, with those that the lines add
+-- the formula is refuted if and only if the empty clause is among the clauses seen before or those that the lines add
 refuted_all : (old new : State) (lines : List Content) (seen : List (List ℕ)) → AcceptsAll old lines new → IsTrue old.refuted ↔ Any (λ c. c ≡ []) seen → IsTrue new.refuted ↔ Any (λ c. c ≡ []) (seen ++ additions lines)
 refuted_all old new [] seen e h = rw e (subst (λ (xs : List (List ℕ)). IsTrue old.refuted ↔ Any (λ c. c ≡ []) xs) (sym (append-nil seen)) h)
 refuted_all old new (line ∷ lines) seen (middle, a, more) h =

@@ -1,4 +1,4 @@
--- Why what is kept of a rewritten listing is the headline's.
+-- What is kept of a rewritten listing is what the headline says.
 use Rattle.std.proofs.Common.{◌≡◌, ℕ, List, [], ◌∷◌, ◌++◌, length, sym, ap, subst, Option, None}
 use Rattle.thumb_model.specs.Listing.{ListingLine}
 use Rattle.thumb_model.specs.Layout.{Layable}
@@ -32,11 +32,11 @@ kept_pair to lines c bytes o some i e = subst (Leaves to lines c) (sym e) (pair 
 pub kept_none : (to : Destination) (lines : List ListingLine) (c : Counts) (r : Refusal) (o : Outcome) → (WantsNone to → ⊥) → HasNoImage to.base lines r → o ≡ Refuses (refusal_line r) → Leaves to lines c o
 kept_none to lines c r o some h e = subst (Leaves to lines c) (sym e) (no_image some r h)
 
--- by a table without costs each instruction costs 1
+-- if a table has no costs, each instruction costs 1
 costs_one : (base : ℕ) (t : Table) → t.header.costs ≡ None → CostsOne (setting base t)
 costs_one base t none i = ap (λ (costs : Option (List ℕ)). cost_under costs i) none
 
--- rewriting by the definition is the headline
+-- rewriting by its definition gives what the headline says
 pub is_rewriting : (to : Destination) (t : Table) (given lines : List ListingLine) (replacements : List Replacement) (c : Counts) (o : Outcome) → IsSound t → IsListing (text_of_lines given) given → Layable to.base given
     → AreRewritten (setting to.base t) given replacements lines → c ≡ record { replaced = length replacements; before = instruction_count given; after = instruction_count lines } → Leaves to lines c o
     → IsRewriting to t given o

@@ -1,4 +1,4 @@
--- A run, step by step.
+-- A run of `trace`, step by step: the loop's invariant, and how the run stands when the loop ends.
 use Rattle.std.proofs.Common.{◌≡◌, ◌∙◌, ℕ, zero, suc, ◌+◌, ◌<◌, true, false, List, [], ◌∷◌, ◌++◌, Option, Some, None, refl, sym, ap, subst, arith, inl, inr, ◌⊎◌, below_more}
 use Rattle.std.specs.Prelude.{slice_get}
 use Rattle.thumb_model.specs.Listing.{Code, Place, Op, Word}
@@ -21,7 +21,7 @@ use Rattle.thumb_machine.specs.Running.{EndedBy, IsStage, Stands, Stepped, at_of
 use Rattle.audit_cli.specs.Trace.{GoesOn, IsRun, StandsAfter, goes, wants, ended}
 use Rattle.audit_cli.proofs.StayLemmas.{stays_quiet}
 
--- ---- what a stage tells of a step ----
+-- ---- what a stage says of a step ----
 
 no_end_goes : {X : Type 0} (e : End) → stage.Going ≡ stage_of e → X
 no_end_goes end.Left h = absurd (cc)
@@ -99,7 +99,7 @@ none_yet names code m left h = record {
   running = h;
 }
 
--- a stage of neither kind is that of an end
+-- a stage other than these two is that of an end
 over_at : (n : Continuation) (s : Stage) (a : MachinePosition) → IsStage s n a → (s ≡ stage.Going → ⊥) → (s ≡ stage.Wants → ⊥) → (n ≡ Over) × (e : End) × (a ≡ at.Ended e) × (s ≡ stage_of e)
 over_at On s a h going wanting = absurd (going h)
 over_at (To p) s a h going wanting = absurd (going h)
@@ -133,7 +133,7 @@ module _ (names : Naming) (code : Code) (start : State) (most n : ℕ) (m new : 
   running_now : has_ended now.at ≡ false
   running_now = sym (ap has_ended far.stands.place) ∙ far.running
 
-  -- no step so far asked for more
+  -- no step so far needed more answers than were left
   went : (next ≡ Stay → ⊥) → (k : ℕ) → k < n + 1 → GoesOn names code (times (step names code) k start)
   went enough = below_more (λ k. GoesOn names code (times (step names code) k start)) n far.goes_on (record { running = running_now; enough = enough })
 

@@ -1,4 +1,4 @@
--- The answers of the outside, one after another.
+-- The fixed start of a trace: the list of answers, built one by one, and the items of the start state.
 use Rattle.std.proofs.Common.{◌≡◌, ◌∙◌, inl, inr, ℕ, suc, ◌+◌, ◌-◌, ◌<◌, ◌==◌, List, [], ◌∷◌, ◌++◌, replicate, refl, sym, ap, arith, append_assoc, eqb-true, if◌then◌else◌}
 use Rattle.std.specs.Prelude.{nat_lt, slice_index}
 use Rattle.std.proofs.lemmas.Bool.{cases_Bool}

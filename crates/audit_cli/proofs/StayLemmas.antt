@@ -1,4 +1,4 @@
--- A step that asks for more answers than are left is seen by no event.
+-- A step that needs more answers than are left adds no event.
 use Rattle.std.proofs.Common.{◌≡◌, ◌∙◌, ℕ, ◌*◌, ◌==◌, ◌%◌, true, false, List, [], ◌∷◌, ◌++◌, length, map, Option, Some, None, refl, ap, append-nil, if◌then◌else◌}
 use Rattle.std.specs.Prelude.{nat_le, slice_get}
 use Rattle.thumb_instr.specs.declared.instr.Instr.{Instr}
@@ -135,7 +135,7 @@ quiet_act around (instr.ReadSpecial d s) w = quiet_takes (reads_special d.number
 quiet_act around (instr.WriteMask m) w = quiet_tells _ w
 quiet_act around i w = λ h. refl
 
--- a step that stays for want of answers adds no event
+-- a step that can't be taken for lack of answers adds no event
 pub stays_quiet : (names : Naming) (code : Code) (a : Position) (s : State) → next_at names code a s ≡ Stay → (step_at names code a s).events ≡ s.events
 stays_quiet names code Ended s e = refl
 stays_quiet names code (Here p) s e = on (slice_get code.places p) e where

@@ -1,4 +1,4 @@
--- Refusals of the shared steps.
+-- The results and refusals of the steps that commands share, as the definitions have them.
 use Rattle.std.proofs.Common.{◌≡◌, ◌∙◌, ap, ◌⊎◌, inl, inr, ℕ, List, Option, Some, Result, Ok, Err, IfOk, sym, subst}
 use Rattle.std.specs.Result.{result_map_both}
 use Rattle.rule_table.specs.Table.{Table}
@@ -24,7 +24,7 @@ use Rattle.audit_cli.specs.Answers.{MakesImage, AuditsTable, ReadsTable, ReadsLi
 pub is_unlisted : (text : List ℕ) (line : ℕ) → IsRefusedTable text line → IsUnlisted text (refusal.Table line)
 is_unlisted text line h = unlisted line h
 
--- what the audit answered
+-- the audit's verdict if it refuses
 pub refused_verdict : {A : Type 0} (x : Result A AuditError) (d e : AuditError) (V : Option AuditError → Type 0) → Answers audit.Memory x V → x ≡ Err d → d ≡ e → (e ≡ audit.Memory → ⊥) → V (Some e)
 refused_verdict {A} x d e V h is same other = go (subst (λ (y : Result A AuditError). Answers audit.Memory y V) (is ∙ ap (λ (f : AuditError). Err f) same) h) where
   go : (e ≡ audit.Memory) ⊎ V (Some e) → V (Some e)
@@ -37,7 +37,7 @@ is_unread text line k h = unread line k h
 pub is_unlaid : (base : ℕ) (lines : List ListingLine) (line : ℕ) (fault : Fault) (r : Refusal) → first_fault base lines ≡ Some (line, fault) → r ≡ unlaid_refusal line fault → IsUnlaid base lines r
 is_unlaid base lines line fault r h e = subst (IsUnlaid base lines) (sym e) (unlaid line fault h)
 
--- what the assembler answered
+-- the refusals of the assembler
 pub is_no_address : (base : ℕ) (lines : List ListingLine) (line : ℕ) → IsRefusal base lines (image.NoAddress line) → HasNoImage base lines (refusal.Address line)
 is_no_address base lines line h = no_address line h
 
@@ -50,20 +50,20 @@ is_made {A} view base lines x a h e = subst (λ (y : Result A Refusal). MakesIma
 pub not_made : {A : Type 0} (view : A → List ℕ) (base : ℕ) (lines : List ListingLine) (x : Result A Refusal) (r : Refusal) → MakesImage base lines (result_map_both view (λ e. e) x) → x ≡ Err r → HasNoImage base lines r
 not_made {A} view base lines x r h e = subst (λ (y : Result A Refusal). MakesImage base lines (result_map_both view (λ s. s) y)) e h
 
--- what holds of the refusal's line holds of an outcome that is it
+-- what holds of the refusal with a line holds of an outcome that equals it
 pub refused_so : (P : Outcome → Type 0) (r : Refusal) (o : Outcome) → o ≡ Refuses (refusal_line r) → P (Refuses (refusal_line r)) → P o
 refused_so P r o e h = subst P (sym e) h
 
--- what is so of an answer by what is said of it
+-- what follows from a property of a result's value holds of that value
 pub ok_so : {A E : Type 0} (r : Result A E) (P Q : A → Type 0) → IfOk r P → ((a : A) → P a → Q a) → IfOk r Q
 ok_so {A} {E} (Ok a) P Q h f = f a h
 ok_so {A} {E} (Err e) P Q h f = h
 
--- and what holds of the refusal's line, of an answer that is it
+-- what holds of the refusal with a line holds of a result that equals it
 pub refused_ok : {A E : Type 0} (view : A → Outcome) (P : Outcome → Type 0) (r : Refusal) (x : Result A E) → IfOk x (λ o. view o ≡ Refuses (refusal_line r)) → P (Refuses (refusal_line r)) → IfOk x (λ o. P (view o))
 refused_ok view P r x e h = ok_so x (λ o. view o ≡ Refuses (refusal_line r)) (λ o. P (view o)) e (λ o is. refused_so P r (view o) is h)
 
--- what a step answered, with a view of what it made
+-- ---- the results of steps, through a view of what they made ----
 
 pub is_listed : {A : Type 0} (view : A → Table) (text : List ℕ) (x : Result A Refusal) (a : A) → ReadsTable text (result_map_both view (λ e. e) x) → x ≡ Ok a → IsText text (view a)
 is_listed {A} view text x a h e = subst (λ (y : Result A Refusal). ReadsTable text (result_map_both view (λ r. r) y)) e h
@@ -77,7 +77,7 @@ is_audited {A} view text x a h e = subst (λ (y : Result A Refusal). AuditsTable
 pub not_audited : {A : Type 0} (view : A → Table) (text : List ℕ) (x : Result A Refusal) (r : Refusal) → AuditsTable text (result_map_both view (λ e. e) x) → x ≡ Err r → IsUnaudited text r
 not_audited {A} view text x r h e = subst (λ (y : Result A Refusal). AuditsTable text (result_map_both view (λ s. s) y)) e h
 
--- what a step answered
+-- ---- the results of steps ----
 
 pub is_read : (text : List ℕ) (x : Result (List ListingLine) Refusal) (lines : List ListingLine) → ReadsListing text x → x ≡ Ok lines → IsListing text lines
 is_read text x lines h e = subst (ReadsListing text) e h

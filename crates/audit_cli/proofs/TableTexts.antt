@@ -1,4 +1,4 @@
--- How many lines the text of a table has at most.
+-- The text of a table bounds its numbers of open sequences and of proof lines, since each has a line of at least one byte: so counts don't overflow.
 use Rattle.std.proofs.Common.{◌≡◌, ◌∙◌, ℕ, ◌+◌, ◌≤◌, List, [], ◌∷◌, ◌++◌, length, map, subst, arith, length-append}
 use Rattle.std.specs.List.{flat_map}
 use Rattle.std.specs.Prelude.{sum_by}
@@ -19,7 +19,7 @@ items_short (i ∷ is) =
     let rest = items_short is in
     omega arith
 
--- each line of a table has a byte of its text
+-- a table has no more lines than its text has bytes
 pub items_within : (text : List ℕ) (t : Table) → IsText text t → length (items_of t) ≤ length text
 items_within text t is = subst (λ (bytes : List ℕ). length (items_of t) ≤ length bytes) is.whole (items_short (items_of t))
 
@@ -61,7 +61,7 @@ items_count t =
     let d = length-append (flat_map family_items t.families) (End ∷ []) in
     omega (arith, a, b, c, d)
 
--- and so each open number has one
+-- a table has no more open numbers than its text has bytes
 pub opens_within : (text : List ℕ) (t : Table) → IsText text t → opens_of t ≤ length text
 opens_within text t is =
     let all = items_within text t is in
@@ -101,7 +101,7 @@ raised_short (f ∷ fs) =
     let rest = raised_short fs in
     omega (arith, both, sum, here, rest)
 
--- each line of a proof has a byte of the table's text
+-- the proofs of a table have no more lines than its text has bytes
 pub proofs_within : (t : Table) → lines_in t ≤ length (text_of t)
 proofs_within t =
     let all = items_short (items_of t) in

@@ -1,4 +1,4 @@
--- Why what is kept of a tidied listing is what `tidy` promises.
+-- What is kept of a tidied listing is what the definition of `tidy` says.
 use Rattle.std.proofs.Common.{◌≡◌, ℕ, List}
 use Rattle.thumb_model.specs.Listing.{ListingLine, code_of}
 use Rattle.thumb_model.specs.Layout.{Layable}

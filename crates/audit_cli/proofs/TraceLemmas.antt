@@ -1,4 +1,4 @@
--- What lines and texts come to.
+-- The outcome of `trace` for lines and texts: the machine starts where the trace begins, and its run is that of the definition.
 use Rattle.std.proofs.Common.{◌≡◌, ◌∙◌, ◌++◌, ℕ, List, [], Result, Ok, Err, sym, ap, subst}
 use Rattle.std.specs.Prelude.{IfOk, Some}
 use Rattle.thumb_model.specs.Listing.{ListingLine, code_of, place_of}
@@ -27,7 +27,7 @@ goes_on asked text lines (Err e) is h = tt
 
 -- ---- the run ----
 
--- a machine that begins so is where the trace begins
+-- a machine that starts from the fixed state is where the trace begins
 pub begins : (lines : List ListingLine) (label : List ℕ) (p : ℕ) (b : Begins) (m : Machine) (left : List Answer) → place_of (code_of lines) label ≡ Some p
     → values_at b ≡ start_values → b.bytes ≡ [] → b.place ≡ p → Starts b m → answers_of left ≡ answers_from 1 256 → state_of m left ≡ begun (code_of lines) label start_world []
 begins lines label p b m left at values bytes place starts answers = λ i. record {
@@ -40,7 +40,7 @@ begins lines label p b m left at values bytes place starts answers = λ i. recor
   events = ap events_of starts.events i;
 }
 
--- a run from there is what the lines come to
+-- a run from there gives the outcome for the lines
 pub runs : (asked : TraceArguments) (lines : List ListingLine) (p : ℕ) (names : Naming) (start : State) (n : ℕ) (s : Stage) (es : List Event) (printed : List ℕ) → Layable 0 lines
     → place_of (code_of lines) asked.label ≡ Some p → IsLaid 0 lines names → start ≡ begun (code_of lines) asked.label start_world [] → IsRun names (code_of lines) start asked.most n s
     → es ≡ (times (step names (code_of lines)) n start).events → printed ≡ event_lines es ++ steps_line n s → LinesTrace asked lines (Does [] printed)

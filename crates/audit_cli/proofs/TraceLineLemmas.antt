@@ -1,4 +1,4 @@
--- Printed lines of a trace, piece after piece.
+-- Lines of a trace as the code formats them, piece by piece, are those of the definitions.
 use Rattle.std.proofs.Common.{◌≡◌, ◌++◌, ◌∷◌, [], ℕ}
 use Rattle.std.specs.Prelude.{codes}
 use Rattle.std.specs.Fmt.{decimal}

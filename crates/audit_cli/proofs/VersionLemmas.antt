@@ -1,4 +1,4 @@
--- Tables in other versions: the audit has the same verdict on them.
+-- The audit has the same verdict on a table in another version: `upgrade` and `generalise` rest on it.
 use Rattle.std.proofs.Common.{ℕ, ◌+◌, List, [], ◌∷◌, Option, Some, None, inl, inr}
 use Rattle.std.specs.Prelude.{◌↔◌}
 use Rattle.thumb_instr.specs.declared.instr.Instr.{Instr}
@@ -43,7 +43,7 @@ stays_open v t e o h = record { seq = h.seq; below = stays_below v t e.left e.ri
 stays_untold : (v : ℕ) (t : Table) (e : Rule) (q : ℕ) (seq : List Instr) → IsUntold t e q seq → IsUntold (in_version v t) e q seq
 stays_untold v t e q seq h = record { below = stays_below v t e.left e.right q seq h.below; unnamed = h.unnamed; untold = h.untold }
 
--- what is untold in the table of this version is untold in the given one
+-- a sequence that no state distinguishes in the table of this version is such a one in the given table
 was_untold : (v : ℕ) (t : Table) (e : Rule) (q : ℕ) (seq : List Instr) → IsUntold (in_version v t) e q seq → IsUntold t e q seq
 was_untold v t = stays_untold t.header.version (in_version v t)
 

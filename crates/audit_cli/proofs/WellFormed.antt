@@ -1,4 +1,4 @@
--- What rewriting leaves is a listing: its text is read as its lines.
+-- A rewritten listing is a listing again: its text is read as its lines.
 use Rattle.std.proofs.Common.{◌≡◌, ◌∙◌, ℕ, ◌+◌, ◌<◌, true, List, [], ◌∷◌, length, map, drop, refl, sym, ap, subst, arith, true≢false}
 use Rattle.std.specs.Prelude.{slice_get}
 use Rattle.std.specs.List.{list_all}
@@ -37,7 +37,7 @@ all_unlabelled : (registers : List Low) (k : ℕ) (is : List Instr) → AreOver 
 all_unlabelled registers k [] over = refl
 all_unlabelled registers k (i ∷ is) over = rw (unlabelled registers i over.0) (all_unlabelled registers k is over.2)
 
--- instructions stand where an entry applies
+-- there are instructions where a rule applies
 stand_there : (rule : Rule) (r : Replacement) (ls : List ListingLine) → Applies rule r.registers (code_of ls) r.place → (k : ℕ) → k < length rule.left → is_op_place (slice_get (places_of ls) (r.place + k)) ≡ true
 stand_there rule r ls a k lt =
     let n = window_length rule r.registers (code_of ls) r.place a in

@@ -1,4 +1,4 @@
--- What the commands of the code ask for.
+-- The commands' structs of the code, as the arguments of the definitions.
 use Rattle.audit_cli.specs.declared.steps.Counts.{Counts as Counted}
 use Rattle.audit_cli.specs.declared.rewrite.Rewrite.{Rewrite}
 use Rattle.audit_cli.specs.Rewrite.{Counts, Destination}
@@ -30,7 +30,7 @@ settings_for l = learnt_by l.options.now l.costs
 abbrev pub learn_arguments_of : Learn → LearnArguments
 learn_arguments_of l = record { out = l.out.now; settings = settings_for l }
 
--- before the costs are read the version alone says that there are some
+-- before the costs are read, the version alone says that there will be some
 abbrev pub learn_arguments_by_costs : LearnByCosts → LearnArguments
 learn_arguments_by_costs l = record { out = l.learn.out.now; settings = record (settings_for l.learn) { version = 4 } }
 

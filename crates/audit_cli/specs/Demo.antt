@@ -1,4 +1,4 @@
--- What `demo` comes to: a listing is made, a table learnt from its windows, the listing rewritten by that table, and its image made.
+-- The outcome of `demo`: a listing is made, a table learnt from its windows, the listing rewritten by that table, and its image made.
 use Rattle.std.specs.Prelude.{◌≡◌, ℕ, zero, suc, ◌%◌, ◌==◌, List, [], ◌∷◌, ◌++◌, None, length, codes, if◌then◌else◌}
 use Rattle.std.specs.Fmt.{decimal}
 use Rattle.thumb_model.specs.Listing.{ListingLine}
@@ -26,7 +26,7 @@ own text = 9 ∷ (text ++ 10 ∷ [])
 abbrev pub register : ℕ → List ℕ
 register i = 114 ∷ decimal (i % 8)
 
--- two instructions in a register: a byte is cut out, a number is negated, or a register is copied to itself twice
+-- two instructions on a register, by which its low byte is extracted, it is negated, or it is copied to itself twice
 abbrev pub pair : ℕ → List ℕ → List ℕ
 pair kind d =
     if kind == 0 then own (codes "lsls " ++ (d ++ (codes ", " ++ (d ++ codes ", #24")))) ++ own (codes "lsrs " ++ (d ++ (codes ", " ++ (d ++ codes ", #24"))))
@@ -45,13 +45,13 @@ windows_text (suc n) = windows_text n ++ window_text n
 abbrev pub demo_text : ℕ → List ℕ
 demo_text n = codes "demo:" ++ 10 ∷ (windows_text n ++ own (codes "bx lr"))
 
--- ---- what comes of it ----
+-- ---- the outcome ----
 
--- one register, two instructions, 20,000 clauses, the seed 42, and the numbers 1 and 24
+-- one register, two instructions, a budget of 20,000 clauses, the seed 42, no scratch register, the pool of 1 and 24, and no costs
 abbrev pub demo_settings : Settings
 demo_settings = learnt_header 1 2 20000 42 0 (1 ∷ 24 ∷ []) None
 
--- lines are rewritten by a table, laid out from address 0 on, and made an image; what is told of that
+-- lines are rewritten by a table, laid out from address 0 on, and made an image; and the lines that report this
 pub record IsRewritingTold (t : Table) (given : List ListingLine) (told : List ℕ) : Type 0 where
   pub replacements : List Replacement
   pub lines : List ListingLine
@@ -60,7 +60,7 @@ pub record IsRewritingTold (t : Table) (given : List ListingLine) (told : List �
   pub image : IsAssembled 0 lines bytes
   pub are_told : told ≡ report_of (length replacements) (instruction_count given) (instruction_count lines) ++ image_line (length bytes)
 
--- the listing of so many windows, the table that is learnt from it, and its rewriting by that table; what is told of all
+-- the listing of so many windows, the table that is learnt from it, and its rewriting by that table; and the lines that report all this
 pub record IsDemo (n : ℕ) (told : List ℕ) : Type 0 where
   pub lines : List ListingLine
   pub listing : IsListing (demo_text n) lines
@@ -70,7 +70,7 @@ pub record IsDemo (n : ℕ) (told : List ℕ) : Type 0 where
   pub rewritten : IsRewritingTold table lines rewriting
   pub are_told : told ≡ demo_line n ++ (learnt_line (length table.rules) (opens_of table) (length table.states) ++ rewriting)
 
--- what so many windows come to: nothing is kept, and all that is told is printed; or the table of the first windows has a text that is too long
+-- the outcome for so many windows: nothing is kept and the report is printed, or the table of the first windows has a text that is too long
 pub data DemoComesTo (n : ℕ) : Outcome → Type 0 where
   shown : (told : List ℕ) → IsDemo n told → DemoComesTo n (Does [] told)
   too_long : (lines : List ListingLine) → IsListing (demo_text n) lines → (windows : List Window) → AreWindowsOf demo_settings lines windows

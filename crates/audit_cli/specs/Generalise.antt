@@ -1,4 +1,4 @@
--- What `generalise` comes to.
+-- The outcome of `generalise`: a table with one more family, which raises an entry, or the reason why there is none.
 use Rattle.std.specs.Prelude.{◌≡◌, ℕ, List, [], ◌∷◌, ◌++◌, Some, None, Result, Ok, Err, length, map, max}
 use Rattle.thumb_model.specs.Effect.{AreWords, Equal}
 use Rattle.window_exec.specs.State.{values_of, Tells}
@@ -19,20 +19,20 @@ use Rattle.audit_cli.specs.declared.refusal.Refusal.TheVariants as refusal
 use Rattle.audit_cli.specs.Printed.{refusal_line, families_line, IsUnaudited, IsAudited}
 use Rattle.audit_cli.specs.Upgrade.{IsKept}
 
--- the family of an entry, counted from 1, for each value of a number from a least to a greatest, before it is proved
+-- the family that raises an entry, counted from 1: a number may take each value from a least to a greatest; its proof is still empty
 abbrev pub wanted : (entry number low high : ℕ) → Family
 wanted entry number low high = record { entry = entry; number = number; low = low; high = high; proof = [] }
 
--- the family's entry, and that the number can be raised
+-- the rule is the family's entry, and its number can be raised
 pub record IsRaisableFor (t : Table) (f : Family) (e : Rule) : Type 0 where
   pub is_entry : entry_of t f ≡ Some e
   pub raisable : IsRaisable t.header.pool f e.left
 
--- the table with a family more, behind all others, in version 3 or its own later one
+-- the table with one more family, after all others, in version 3, or in its own version if that is later
 abbrev pub with_family : Table → Family → Table
 with_family t f = record t { header = record t.header { version = max 3 t.header.version }; families = t.families ++ f ∷ [] }
 
--- the table has the family more, by a proof of the solver's, and the audit accepts it
+-- the table is the given one with this family, which has a proof by the solver, and the audit accepts it
 pub record IsGeneralised (t : Table) (f : Family) (raised : Table) : Type 0 where
   pub entry : Rule
   pub raisable : IsRaisableFor t f entry
@@ -48,11 +48,11 @@ pub record IsGeneralised (t : Table) (f : Family) (raised : Table) : Type 0 wher
 abbrev pub HasNone : Table → Family → Type 0
 HasNone t f = entry_of t f ≡ None
 
--- the entry's number can't be raised so
+-- the entry exists, but its number can't be raised in this way
 abbrev pub IsUnraisable : Table → Family → Type 0
 IsUnraisable t f = (e : Rule) × (entry_of t f ≡ Some e) × (IsRaisable t.header.pool f e.left → ⊥)
 
--- the family's sides with a value are told apart from a state
+-- the family's sides with a value have different effects from a state
 pub record DifferAt (t : Table) (f : Family) (value : ℕ) (v : ℕ → ℕ) : Type 0 where
   pub entry : Rule
   pub raisable : IsRaisableFor t f entry
@@ -68,7 +68,7 @@ pub record IsSpentOn (t : Table) (f : Family) (log : List Content) : Type 0 wher
   pub raisable : IsRaisableFor t f entry
   pub spent : IsSpentLog t.header.budget (codes_of (raised_formula t.header f entry).clauses) log
 
--- what each fault says
+-- what each fault of the code says
 abbrev pub FailsFor : Table → Family → FamilyFault → Type 0
 FailsFor t f Number = HasNone t f
 FailsFor t f Symbol = IsUnraisable t f
@@ -78,24 +78,26 @@ FailsFor t f Memory = Unit {0}
 
 -- ---- the command ----
 
--- a table gets no such family: it has no such entry, or its number can't be raised so, or its sides with some value aren't equal under the mask, or some log spends the budget
+-- a table gets no such family: it has no such entry, or its number can't be raised in this way, or its sides with some value differ under the mask, or some
+-- log spends the budget
 pub data IsUnraised (t : Table) (f : Family) : Refusal → Type 0 where
   no_entry : HasNone t f → IsUnraised t f refusal.Number
   unraisable : IsUnraisable t f → IsUnraised t f refusal.Symbol
   differ : (e : Rule) → IsRaisableFor t f e → (x : Byte) → IsValue (symbol_of f) x → (Equal (instance f.number e.left x) (instance f.number e.right x) (items_in e.mask) → ⊥) → IsUnraised t f (refusal.Differ x.number)
   spent : (log : List Content) → IsSpentOn t f log → IsUnraised t f (refusal.Spent t.header.budget)
 
--- what comes of raising
+-- the result of raising
 abbrev pub Raises : Table → Family → Result Table Refusal → Type 0
 Raises t f (Ok raised) = IsGeneralised t f raised
 Raises t f (Err r) = IsUnraised t f r
 
--- what a text comes to: it is no table, or one that the audit refuses, or one that gets no such family, or the table with the family is kept, and its families and the lines of the proof are counted
+-- the outcome for a text: it is no table, or one that the audit refuses, or one that gets no such family; or the table with the family is kept, and its
+-- families and the lines of the proof are counted
 pub data Generalises (out : List ℕ) (f : Family) (text : List ℕ) : Outcome → Type 0 where
   unaudited : (r : Refusal) → IsUnaudited text r → Generalises out f text (Refuses (refusal_line r))
   unraised : (t : Table) → IsAudited text t → (r : Refusal) → IsUnraised t f r → Generalises out f text (Refuses (refusal_line r))
   generalised : (t : Table) → IsAudited text t → (raised : Table) (h : IsGeneralised t f raised) (o : Outcome) → IsKept out raised (families_line (length raised.families) (length h.proof)) o → Generalises out f text o
 
--- `generalise` goes by one text
+-- `generalise` takes one text
 abbrev pub GeneraliseComesTo : List ℕ → Family → List (List ℕ) → Outcome → Type 0
 GeneraliseComesTo out f texts o = (text : List ℕ) × (texts ≡ text ∷ []) × Generalises out f text o

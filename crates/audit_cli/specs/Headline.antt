@@ -22,7 +22,8 @@ use Rattle.audit_cli.specs.Peep.{Peeps}
 
 -- ---- the image, where one is asked for ----
 
--- none is asked for, or the bytes of these lines, whose run meets theirs, and that of the given ones, wherever the laid naming fits
+-- none is asked for; or it holds the bytes of these lines, and its run reaches what the runs of these and of the given lines reach, wherever the laid
+-- naming fits
 abbrev pub IsImage : Destination → List ListingLine → List ListingLine → Option (List ℕ) → Type 0
 IsImage to given lines None = WantsNone to
 IsImage to given lines (Some bytes) = (WantsNone to → ⊥) × IsAssembled to.base lines bytes × RunsAsPromised to.base given lines bytes
@@ -37,42 +38,42 @@ image_told (Some bytes) = image_line (length bytes)
 
 -- ---- the whole ----
 
--- what a done call of `rewrite TABLE LISTING OUT IMAGE --base N` has done
+-- what a call of `rewrite TABLE LISTING OUT IMAGE --base N` that ended as Done has done
 pub record IsHeadline (table listing : List ℕ) (to : Destination) (old new : Seen) (before after : Sunk) : Type 0 where
-  -- the texts under two names were read, which are those held there, where the store tells what it holds
+  -- the texts under two names were read; if the store shows its content, they are those held there
   pub table_text : List ℕ
   pub listing_text : List ℕ
   pub table_held : Gave old table table_text
   pub listing_held : Gave old listing listing_text
-  -- the one is a table that the audit accepts
+  -- the first is a table that the audit accepts
   pub rules : Table
   pub is_table : IsTableText table_text rules
   pub accepted : IsAccepted rules
-  -- the other is a well-formed listing, which can be laid out
+  -- the second is a well-formed listing, which can be laid out
   pub given : List ListingLine
   pub is_listing : IsListing listing_text given
   pub given_layable : Layable to.base given
-  -- lines are left: while some entry applies, it is replaced at the first place where one does, the longest left side first, then the lowest entry
+  -- the rewritten lines: while some rule applies, one is applied at the first place where one does: that with the longest left side, then the first in order
   pub lines : List ListingLine
   pub replacements : List Replacement
   pub rewritten : AreRewritten (setting to.base rules) given replacements lines
   -- they have the same runs from every state, in no more steps
   pub same : Same (code_of given) (code_of lines)
-  -- no entry applies to them any more
+  -- no rule applies to them any more
   pub finished : NoneApplies (setting to.base rules) lines
   -- each replacement applied in the lines as they then were
   pub applied : AllApplied (setting to.base rules) given replacements
-  -- each leaves the same live registers and flags, and no shorter sequence of the entry's alphabet does, or where the table has costs no cheaper one that is as
-  -- short as the left side, save those that the entry names open, each with its log
+  -- each replacement has the same effect on the live registers and flags, and no shorter sequence of the entry's alphabet has, or if the table has costs no
+  -- cheaper one that is no longer than the left side, save those that the entry leaves open, each with its log
   pub sound : IsSound rules
-  -- they can be laid out, are what their text is read as, and where the table has no costs no more lines than were given
+  -- they can be laid out, their text is read as these lines, and if the table has no costs, they are no more than the given ones
   pub no_longer : rules.header.costs ≡ None → length lines ≤ length given
   pub layable : Layable to.base lines
   pub read_again : IsListing (text_of_lines lines) lines
-  -- where an image is asked for, it is theirs, and its run meets theirs and that of the given lines, wherever the laid naming fits
+  -- if an image is asked for, it is that of these lines, and its run reaches what theirs and that of the given lines reach, wherever the laid naming fits
   pub image : Option (List ℕ)
   pub is_image : IsImage to given lines image
-  -- the store was asked for the two texts, then to keep the lines' text and the image, and for nothing else; it holds them, where it tells
+  -- the store was asked for the two texts, then to keep the lines' text and the image, and for nothing else; if it shows its content, it holds them
   pub keeps : List Keep
   pub kept_are : keeps ≡ (to.out, text_of_lines lines) ∷ image_kept to.image image
   pub asked : new.events ≡ old.events ++ (fetchings (table ∷ listing ∷ []) (table_text ∷ listing_text ∷ []) ++ keepings keeps)
@@ -80,7 +81,7 @@ pub record IsHeadline (table listing : List ℕ) (to : Destination) (old new : S
   -- the counts of replacements, of instructions before and after, and of the image's bytes were put, as one piece, and nothing else
   pub put : after.events ≡ before.events ++ Putting (report_of (length replacements) (instruction_count given) (instruction_count lines) ++ image_told image) (Ok tt) ∷ []
 
--- every call that ends done did so, for words that ask for it
+-- every call that ends as Done has done this, if the words ask for it
 abbrev pub RewritesAsPromised : Type 0
 RewritesAsPromised = (words : List (List ℕ)) (table listing out image : List ℕ) (base : ℕ) (old new : Seen) (before after : Sunk) → All IsUtf8 words → AskFor words (rewrite table listing out image base)
     → Peeps words old new before after status.Done → IsHeadline table listing (record { out = out; image = image; base = base }) old new before after

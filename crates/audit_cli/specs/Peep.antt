@@ -16,7 +16,7 @@ use Rattle.audit_cli.specs.Trim.{TrimComesTo}
 use Rattle.audit_cli.specs.Tidy.{TidyComesTo}
 use Rattle.audit_cli.specs.Generalise.{wanted, GeneraliseComesTo}
 
--- what a request fetches, and what comes of it
+-- the plan of a request: the names that it fetches, and the outcome of their texts
 abbrev pub plan_of : Request → Plan
 plan_of (rewrite table listing out image base) = record { names = table ∷ listing ∷ []; comes = RewriteComesTo (record { out = out; image = image; base = base }) }
 plan_of (audit table) = record { names = table ∷ []; comes = AuditComesTo }

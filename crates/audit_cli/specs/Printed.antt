@@ -1,4 +1,4 @@
--- What is printed, and how texts come to what a command tells.
+-- The lines that commands print, and the causes of the refusals that several commands share.
 use Rattle.std.specs.Prelude.{ℕ, List, [], ◌∷◌, ◌++◌, codes, ◌≡◌, Some}
 use Rattle.std.specs.Fmt.{decimal, signed_decimal}
 use Rattle.thumb_model.specs.Layout as layout
@@ -21,7 +21,7 @@ use Rattle.label_layout.specs.Refusals.{first_fault}
 use Rattle.thumb_assembler.specs.declared.errors.ImageError.TheVariants as image
 use Rattle.thumb_assembler.specs.Bytes.{IsRefusal}
 
--- The lines that are printed, and why runs are refused.
+-- The lines that are printed, those of refusals included.
 
 -- a line of words, with a newline
 abbrev pub printed : List ℕ → List ℕ
@@ -35,11 +35,11 @@ and_number n = 32 ∷ decimal n
 abbrev pub instructions_line : ℕ → ℕ → List ℕ
 instructions_line before after = printed (codes "instructions" ++ and_number before ++ and_number after)
 
--- `replaced R` and that line
+-- `replaced R` and an `instructions` line
 abbrev pub report_of : ℕ → ℕ → ℕ → List ℕ
 report_of replaced before after = printed (codes "replaced" ++ and_number replaced) ++ instructions_line before after
 
--- `tidied N` and that line
+-- `tidied N` and an `instructions` line
 abbrev pub tidied_report : ℕ → ℕ → ℕ → List ℕ
 tidied_report changes before after = printed (codes "tidied" ++ and_number changes) ++ instructions_line before after
 
@@ -79,7 +79,7 @@ kind_number kind.Twice = 2
 kind_number kind.Target = 3
 kind_number kind.Limit = 6
 
--- `1`, `2 LINE`, `3`, `4 SEQUENCE` and `5 SEQUENCE`, each behind a blank
+-- `1`, `2 LINE`, `3`, `4 SEQUENCE` and `5 SEQUENCE`, each after a blank
 abbrev pub fault_words : EntryFault → List ℕ
 fault_words fault.Sides = codes " 1"
 fault_words (fault.Proof line) = codes " 2" ++ and_number line
@@ -87,7 +87,7 @@ fault_words fault.Unfinished = codes " 3"
 fault_words (fault.Untold sequence) = codes " 4" ++ and_number sequence
 fault_words (fault.Open sequence) = codes " 5" ++ and_number sequence
 
--- `1`, `2 LINE` and `3`, each behind a blank
+-- `1`, `2 LINE` and `3`, each after a blank
 abbrev pub family_words : FamilyKind → List ℕ
 family_words family.Symbol = codes " 1"
 family_words (family.Proof line) = codes " 2" ++ and_number line
@@ -122,11 +122,11 @@ unlaid_refusal line (layout.Align address) = refusal.Align line address
 
 -- Why texts are refused in the steps that commands share: a table's text is read and audited, a listing's text is read, its lines are laid out and made an image.
 
--- a text is refused at the least line such that so many first lines begin no table
+-- a text is refused at the least n such that no table's text begins with the first n lines
 pub data IsUnlisted (text : List ℕ) : Refusal → Type 0 where
   unlisted : (line : ℕ) → IsRefusedTable text line → IsUnlisted text (refusal.Table line)
 
--- or it is a table that the audit refuses, by the first cause
+-- a text is no table, or it is one that the audit refuses, for the first cause that it finds
 pub data IsUnaudited (text : List ℕ) : Refusal → Type 0 where
   no_table : (r : Refusal) → IsUnlisted text r → IsUnaudited text r
   other_state : (t : Table) → IsText text t → (place : ℕ) → TableVerdict t (Some (audit.States place)) → IsUnaudited text (refusal.States place)
@@ -138,16 +138,16 @@ pub data IsUnaudited (text : List ℕ) : Refusal → Type 0 where
 pub data IsUnread (text : List ℕ) : Refusal → Type 0 where
   unread : (line : ℕ) (k : ListingFault) → IsRefused text line k → IsUnread text (refusal.Listing line k)
 
--- lines are refused at the first that can't be laid out from a base
+-- lines are refused at the first one that can't be laid out from a base
 pub data IsUnlaid (base : ℕ) (lines : List ListingLine) : Refusal → Type 0 where
   unlaid : (line : ℕ) (fault : Fault) → first_fault base lines ≡ Some (line, fault) → IsUnlaid base lines (unlaid_refusal line fault)
 
--- lines have no image because of the first that mentions in `b`, `bl` or `.word` a name with no address, or sets an address in the image
+-- lines have no image because of the first one that mentions in `b`, `bl` or `.word` a name with no address, or that sets an address inside the image
 pub data HasNoImage (base : ℕ) (lines : List ListingLine) : Refusal → Type 0 where
   no_address : (line : ℕ) → IsRefusal base lines (image.NoAddress line) → HasNoImage base lines (refusal.Address line)
   inside : (line : ℕ) → IsRefusal base lines (image.Inside line) → HasNoImage base lines (refusal.Inside line)
 
--- the text is that of an accepted table
+-- the text is that of a table that the audit accepts
 pub record IsAudited (text : List ℕ) (t : Table) : Type 0 where
   pub is : IsText text t
   pub accepted : IsAccepted t

@@ -1,4 +1,4 @@
--- What trimming a family's proof asks.
+-- What trimming a family's proof requires, which holds of each family of an accepted table.
 use Rattle.std.specs.Prelude.{◌≡◌, List, Some}
 use Rattle.clause_model.specs.Clauses.{codes_of}
 use Rattle.lrat_check.specs.Runs.{IsRefutation}
@@ -7,7 +7,7 @@ use Rattle.rule_table.specs.Table.{Rule, Family}
 use Rattle.table_audit.specs.Canonical.{HasFormula}
 use Rattle.table_audit.specs.Families.{entry_at, raised_formula, IsRaisable}
 
--- a family's entry has a formula, its number can be raised, and its proof refutes the formula of the two
+-- the family's entry has a formula, its number can be raised, and the family's proof refutes the raised formula of the two
 pub record IsRaised (h : Header) (rules : List Rule) (f : Family) : Type 0 where
   pub entry : Rule
   pub is_entry : entry_at rules f.entry ≡ Some entry

@@ -1,4 +1,4 @@
--- What the command `rewrite` comes to: the program's headline, but for its store and sink.
+-- The outcome of the command `rewrite`: the program's headline theorem, without the calls of the store and the sink.
 use Rattle.std.specs.Prelude.{◌≡◌, ◌≤◌, ◌+◌, ℕ, List, [], ◌∷◌, ◌++◌, None, length, codes, if◌then◌else◌}
 use Rattle.thumb_model.specs.Listing.{Name, ListingLine, code_of}
 use Rattle.thumb_model.specs.Layout.{Layable}
@@ -39,7 +39,7 @@ pub record Counts : Type 0 where
   pub before : ℕ
   pub after : ℕ
 
--- the listing is kept, and then its image if one is asked for, and the counts and the image's size are told; where it has no image, that is refused
+-- the listing is kept, then its image if one is asked for, and the counts and the image's size are printed; if it has no image, the command is refused
 pub data Leaves (to : Destination) (lines : List ListingLine) (c : Counts) : Outcome → Type 0 where
   alone : WantsNone to → Leaves to lines c (Does ((to.out, text_of_lines lines) ∷ []) (report_of c.replaced c.before c.after))
   pair : (WantsNone to → ⊥) → (bytes : List ℕ) → IsAssembled to.base lines bytes
@@ -50,49 +50,49 @@ pub data Leaves (to : Destination) (lines : List ListingLine) (c : Counts) : Out
 
 -- the run of an image of lines that were rewritten
 pub record RunsAsPromised (base : ℕ) (given lines : List ListingLine) (bytes : List ℕ) : Type 0 where
-  -- wherever the laid naming fits these lines, it meets their run
+  -- wherever the laid naming fits these lines, it reaches what their run reaches
   pub as_left : (set : Name → ℕ) → IsSetBy lines set → Fits (laid base set lines) (code_of lines) → ImageFollows base set lines bytes lines
-  -- and the given lines' run, wherever it fits those too
+  -- and what the given lines' run reaches, wherever the naming fits those too
   pub as_given : (set : Name → ℕ) → IsSetBy lines set → Fits (laid base set lines) (code_of lines) → Fits (laid base set lines) (code_of given) → ImageFollows base set lines bytes given
 
 -- a listing is rewritten by a table
 pub record IsRewriting (to : Destination) (t : Table) (given : List ListingLine) (o : Outcome) : Type 0 where
-  -- the one listing that is left: each replacement is the first that can be made
+  -- the rewritten listing, which is determined: each replacement is the first that can be made
   pub replacements : List Replacement
   pub lines : List ListingLine
   pub rewritten : AreRewritten (setting to.base t) given replacements lines
-  -- its text is read as these lines, which can be laid out, and are no more than before where the table has no costs
+  -- its text is read as these lines, which can be laid out, and which are no more than before if the table has no costs
   pub listed : IsListing (text_of_lines lines) lines
   pub no_longer : t.header.costs ≡ None → length lines ≤ length given
   pub layable : Layable to.base lines
   -- the same runs from every state, in no more steps
   pub same : Same (code_of given) (code_of lines)
-  -- no entry applies any more
+  -- no rule applies any more
   pub finished : NoneApplies (setting to.base t) lines
-  -- each replacement applied in the listing as it then was, and leaves the same live registers and flags; no shorter sequence of the entry's alphabet, or where the
-  -- table has costs no cheaper one that is as short as the left side, does, save those that it names open, each of which has its log
+  -- each replacement applied in the listing as it then was, and has the same effect on the live registers and flags; no shorter sequence of the entry's
+  -- alphabet has, or if the table has costs no cheaper one that is no longer than the left side, save those that the entry leaves open, each with its log
   pub applied : AllApplied (setting to.base t) given replacements
   pub sound : IsSound t
-  -- the run of each image of it meets both, wherever the laid naming fits
+  -- the run of each image of it reaches what both listings' runs reach, wherever the laid naming fits
   pub runs : (bytes : List ℕ) → IsAssembled to.base lines bytes → RunsAsPromised to.base given lines bytes
-  -- it is kept, and its image
+  -- it is kept, and its image, or the image is refused
   pub left : Leaves to lines (record { replaced = length replacements; before = instruction_count given; after = instruction_count lines }) o
 
--- what the lines of a listing come to by an accepted table: they are refused at the first that can't be laid out from the base, or rewritten
+-- the outcome for the lines of a listing, with an accepted table: they are refused at the first one that can't be laid out from the base, or rewritten
 pub data LinesRewrite (to : Destination) (t : Table) (given : List ListingLine) : Outcome → Type 0 where
   unlaid : (r : Refusal) → IsUnlaid to.base given r → LinesRewrite to t given (Refuses (refusal_line r))
   rewritten : Layable to.base given → (o : Outcome) → IsRewriting to t given o → LinesRewrite to t given o
 
--- what a text comes to by an accepted table: it is refused at the first line that makes it no listing, or its lines are rewritten
+-- the outcome for a listing's text, with an accepted table: it is refused at the first line that makes it no listing, or that of its lines
 pub data Rewrites (to : Destination) (t : Table) (text : List ℕ) : Outcome → Type 0 where
   unread : (r : Refusal) → IsUnread text r → Rewrites to t text (Refuses (refusal_line r))
   read : (given : List ListingLine) → IsListing text given → (o : Outcome) → LinesRewrite to t given o → Rewrites to t text o
 
--- what the texts of a table and a listing come to: the table is refused, or accepted, and then the listing is rewritten by it
+-- the outcome for the texts of a table and a listing: the table is refused, or it is accepted and the outcome is that of the listing's text
 pub data Comes (to : Destination) (table listing : List ℕ) : Outcome → Type 0 where
   unaudited : (r : Refusal) → IsUnaudited table r → Comes to table listing (Refuses (refusal_line r))
   audited : (t : Table) → IsAudited table t → (o : Outcome) → Rewrites to t listing o → Comes to table listing o
 
--- `rewrite` goes by two texts
+-- `rewrite` takes two texts
 abbrev pub RewriteComesTo : Destination → List (List ℕ) → Outcome → Type 0
 RewriteComesTo to texts o = (table : List ℕ) × (listing : List ℕ) × (texts ≡ table ∷ listing ∷ []) × Comes to table listing o

@@ -1,4 +1,4 @@
--- What `trace` comes to.
+-- The outcome of `trace`: the events of a run of a listing, from a fixed state and with fixed answers, so that the trace is determined.
 use Rattle.std.specs.Prelude.{ℕ, zero, suc, ◌+◌, ◌==◌, ◌||◌, nat_lt, List, [], ◌∷◌, if◌then◌else◌, ◌≡◌, ◌<◌, ◌≤◌, false, true, ◌++◌, Some, ◌/◌, ◌%◌, codes, None}
 use Rattle.thumb_model.specs.Effect.{Values, sp, lr}
 use Rattle.thumb_model.specs.Naming.{Naming}
@@ -29,7 +29,7 @@ start_values = λ x. if x == sp then 536875008 else if x == lr then 4294967295 e
 abbrev pub numbered_answer : ℕ → Answer
 numbered_answer n = record { values = λ x. if nat_lt x 4 || (x == 12) || (x == lr) then n else 0; bytes = [] }
 
--- so many answers, from the n-th on
+-- k answers, from the n-th on
 unfoldable pub answers_from : ℕ → ℕ → List Answer
 answers_from n zero = []
 answers_from n (suc k) = numbered_answer n ∷ answers_from (n + 1) k
@@ -39,18 +39,19 @@ start_world = record { values = start_values; memory = λ a. 0; answers = answer
 
 -- ---- a run of at most so many steps ----
 
--- a step can be taken: the run hasn't ended, and the step doesn't ask for more answers than are left
+-- a step can be taken: the run hasn't ended, and the step doesn't need more answers than are left
 pub record GoesOn (names : Naming) (code : Code) (s : State) : Type 0 where
   pub running : has_ended s.at ≡ false
   pub enough : next_at names code s.at s ≡ Stay → ⊥
 
--- how a run stands after n of at most so many steps: all were taken, or the next one asks for more answers, or the last one ended the run, by its last event
+-- how a run stands after n of at most `most` steps: all were taken, or the next one needs more answers than are left, or the last one ended the run, as
+-- its last event says
 pub data StandsAfter (names : Naming) (code : Code) (most n : ℕ) (s : State) : Stage → Type 0 where
   goes : has_ended s.at ≡ false → n ≡ most → StandsAfter names code most n s stage.Going
   wants : n < most → next_at names code s.at s ≡ Stay → StandsAfter names code most n s stage.Wants
   ended : has_ended s.at ≡ true → (front : List Event) (last : Event) (e : End) → s.events ≡ front ++ last ∷ [] → end_of last ≡ Some e → StandsAfter names code most n s (stage_of e)
 
--- a run takes n steps, at most so many: each where one can be taken, and no more
+-- a run takes n steps, at most `most`: each of them can be taken, and then it stands as `s` says
 pub record IsRun (names : Naming) (code : Code) (start : State) (most n : ℕ) (s : Stage) : Type 0 where
   pub within : n ≤ most
   pub goes_on : (k : ℕ) → k < n → GoesOn names code (times (step names code) k start)
@@ -107,12 +108,13 @@ steps_line n s = printed (codes "steps" ++ and_number n ++ (32 ∷ stage_word s)
 
 -- ---- the whole ----
 
--- what is asked for: the label where the run begins, and the most steps
+-- what is asked for: the label where the run begins, and the greatest number of steps
 pub record TraceArguments : Type 0 where
   pub label : Name
   pub most : ℕ
 
--- what lines come to: they are refused at the first that can't be laid out, or for want of the code label, or run from it under the naming that they are laid out with
+-- the outcome for lines: they are refused at the first one that can't be laid out, or because there is no such code label; or they run from it under the
+-- naming of their layout
 pub data LinesTrace (asked : TraceArguments) (lines : List ListingLine) : Outcome → Type 0 where
   unlaid : (r : Refusal) → IsUnlaid 0 lines r → LinesTrace asked lines (Refuses (refusal_line r))
   unlabelled : Layable 0 lines → place_of (code_of lines) asked.label ≡ None → LinesTrace asked lines (Refuses (refusal_line refusal.Label))
@@ -120,11 +122,11 @@ pub data LinesTrace (asked : TraceArguments) (lines : List ListingLine) : Outcom
       → (n : ℕ) (s : Stage) → IsRun names (code_of lines) (begun (code_of lines) asked.label start_world []) asked.most n s
       → LinesTrace asked lines (Does [] (event_lines (times (step names (code_of lines)) n (begun (code_of lines) asked.label start_world [])).events ++ steps_line n s))
 
--- what a text comes to: it is refused at the first line that makes it no listing, or its lines are traced
+-- the outcome for a text: it is refused at the first line that makes it no listing, or that of its lines
 pub data Traces (asked : TraceArguments) (text : List ℕ) : Outcome → Type 0 where
   unread : (r : Refusal) → IsUnread text r → Traces asked text (Refuses (refusal_line r))
   read : (lines : List ListingLine) → IsListing text lines → (o : Outcome) → LinesTrace asked lines o → Traces asked text o
 
--- `trace` goes by one text
+-- `trace` takes one text
 abbrev pub TraceComesTo : TraceArguments → List (List ℕ) → Outcome → Type 0
 TraceComesTo asked texts o = (text : List ℕ) × (texts ≡ text ∷ []) × Traces asked text o

@@ -1,4 +1,4 @@
-//! The command `audit`: what the text of a table comes to.
+//! The command `audit`: a table's text is read and audited, and its entries and open numbers are counted.
 ghost use Rattle.std.specs.Prelude.{◌≡◌, ◌<◌, ◌^◌, IfOk, length, map, sum_by};
 ghost use Rattle.command_runs.specs.Outcomes.{outcome_view};
 ghost use Rattle.rule_table.specs.Views.{rule_of, table_of};
@@ -18,7 +18,7 @@ use table_audit::Audited;
 #[derive(Drop)]
 pub(crate) struct Audit;
 
-/// How many numbers entries name open.
+/// How many open numbers the entries have in all.
 pub(crate) fn open_count(entries: &[Entry]) -> u64
     requires { sum_by open_count (map rule_of entries.now) < 2 ^ 63 }
     ensures { result ≡ sum_by open_count (map rule_of entries.now) }
@@ -30,7 +30,7 @@ pub(crate) fn open_count(entries: &[Entry]) -> u64
     count
 }
 
-/// What is printed of an accepted table: how many entries it has, and how many numbers these name open.
+/// What is printed of an accepted table: the counts of its entries and of their open numbers.
 pub(crate) fn audited_report(alloc: Global, audited: &Audited) -> Result<Vec<u8>, AllocError>
     requires { opens_of (table_of audited.now) < 2 ^ 63 }
     ensures { IfOk result (λ v. v.items ≡ entries_line (length (table_of audited.now).rules) (opens_of (table_of audited.now))) }
@@ -39,7 +39,7 @@ pub(crate) fn audited_report(alloc: Global, audited: &Audited) -> Result<Vec<u8>
     entries_report(alloc, entries.len() as u64, open_count(entries))
 }
 
-/// What a text comes to.
+/// The outcome for a table's text.
 fn outcome<L: Ledger>(
     alloc: Global,
     text: &[u8],

@@ -1,4 +1,5 @@
-//! The command `demo`: a listing is made, a table learnt from its windows and audited from its own text, the listing rewritten by it and assembled, and all that is told. Nothing is fetched or kept.
+//! The command `demo`: makes a listing, learns a table from its windows, audits the table from its own text, rewrites and assembles the listing, and prints
+//! the counts. Nothing is fetched or kept.
 ghost use Rattle.std.specs.Prelude.{◌≡◌, ◌≤◌, ◌∷◌, ◌++◌, None, IfOk, codes, string_bytes};
 ghost use Rattle.std.specs.Fmt.{decimal};
 ghost use Rattle.command_runs.specs.Outcomes.{outcome_view};
@@ -37,7 +38,7 @@ pub(crate) struct Demo {
     pub(crate) windows: Within<1, 20_001>,
 }
 
-/// A window of one of three kinds: two instructions in a register, and a `nop`.
+/// A window of one of three kinds: two instructions on register r`d`, and a `nop` that ends the window.
 fn window_in(alloc: Global, kind: u32, d: u32) -> Result<String, AllocError>
     ensures { IfOk result (λ t. string_bytes t ≡ pair kind (114 ∷ decimal d) ++ own (codes "nop")) }
 {
@@ -71,7 +72,7 @@ fn demo_text(alloc: Global, windows: u32) -> Result<Vec<u8>, AllocError>
     Ok(text)
 }
 
-/// The listing of so many windows.
+/// The listing with so many windows.
 fn demo_listing(alloc: Global, windows: u32) -> Result<Listing, AllocError>
     requires { windows ≤ 20000 }
     ensures { IfOk result (IsListing (demo_text windows)) }
@@ -83,7 +84,7 @@ fn demo_listing(alloc: Global, windows: u32) -> Result<Listing, AllocError>
     }
 }
 
-/// The numbers of the alphabet.
+/// The pool: the numbers that the instructions of the alphabet may have.
 static POOL: [u8; 2] = [1, 24];
 
 /// The settings that the table is learnt with.
@@ -134,7 +135,7 @@ fn image(alloc: Global, listing: &Listing) -> Result<Vec<u8>, AllocError>
     }
 }
 
-/// What is told of rewriting the listing by a table, and of its image.
+/// The lines that report the rewriting of the listing by a table, and its image.
 fn rewriting_report<L: Ledger>(
     alloc: Global,
     table: &Audited,
@@ -167,7 +168,7 @@ fn rewriting_report<L: Ledger>(
     }
 }
 
-/// All that is told, of a table that was learnt from the listing.
+/// All lines that are printed, for a table that was learnt from the listing.
 fn told<L: Ledger>(
     alloc: Global,
     windows: u32,
@@ -189,7 +190,7 @@ fn told<L: Ledger>(
     Ok(lines)
 }
 
-/// What so many windows come to.
+/// The outcome for so many windows.
 fn outcome<L: Ledger>(
     alloc: Global,
     windows: u32,

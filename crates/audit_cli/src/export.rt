@@ -1,4 +1,4 @@
-//! The command `export`: the formula of an entry or a family of a table, and its proof.
+//! The command `export`: writes the formula of an entry or a family as DIMACS and its proof as LRAT, for other solvers and checkers. Nothing is audited.
 ghost use Rattle.std.specs.Prelude.{◌≡◌, ◌<◌, ℕ, List, IfOk, length, map};
 ghost use Rattle.lrat_check.specs.Text.{content_of};
 ghost use Rattle.rule_table.specs.Refused.{IsText};
@@ -28,8 +28,8 @@ use table_audit::{
     is_raisable, sides_fit,
 };
 
-/// The command `export`, with the number of an entry or a family, from 1, families behind the entries, and the names that its formula and its proof are kept
-/// under.
+/// The command `export`, with the number of an entry or a family (counted from 1, the families after the entries), and the names that its formula and its
+/// proof are kept under.
 #[derive(Drop)]
 pub(crate) struct Export<'a> {
     pub(crate) entry: u32,
@@ -69,7 +69,7 @@ fn formula_outcome(
     keeps_two(alloc, to.cnf, cnf, to.lrat, lrat, lines)
 }
 
-/// What is kept and printed of an entry whose sides fit.
+/// What is kept and printed of an entry whose sides and mask the table's header allows.
 fn fit_entry(
     alloc: Global,
     to: &Export<'_>,
@@ -83,7 +83,7 @@ fn fit_entry(
     formula_outcome(alloc, to, &formula, &entry.proof)
 }
 
-/// What is kept and printed of a family whose entry's sides fit, and whose number can be raised.
+/// What is kept and printed of a family whose number can be raised, and whose entry's sides and mask the table's header allows.
 fn fit_family(
     alloc: Global,
     to: &Export<'_>,
@@ -99,7 +99,7 @@ fn fit_family(
     formula_outcome(alloc, to, &formula, &family.proof)
 }
 
-/// The refusal of an entry for its sides.
+/// The refusal of an entry whose sides or mask the table's header doesn't allow.
 fn unfit(alloc: Global, number: u32) -> Result<Outcome, AllocError>
     ensures { IfOk result (λ o. outcome_view o ≡ Refuses (refusal_line (Refusal.Entry number Sides))) }
 {
@@ -112,7 +112,7 @@ fn unfit(alloc: Global, number: u32) -> Result<Outcome, AllocError>
     )
 }
 
-/// What an entry comes to.
+/// The outcome for an entry.
 fn entry_outcome(
     alloc: Global,
     to: &Export<'_>,
@@ -141,7 +141,7 @@ fn unraisable(alloc: Global, to: &Export<'_>, table: &Table) -> Result<Outcome, 
     )
 }
 
-/// What a family comes to.
+/// The outcome for a family.
 fn family_outcome(
     alloc: Global,
     to: &Export<'_>,
@@ -163,7 +163,7 @@ fn family_outcome(
     fit_family(alloc, to, table, family, entry)
 }
 
-/// What a table comes to.
+/// The outcome for a table.
 fn table_outcome(alloc: Global, to: &Export<'_>, table: &Table) -> Result<Outcome, AllocError>
     ensures { (text : List ℕ) → IsText text (table_of table.now) → IfOk result (λ o. Exports (export_arguments_of to.now) text (outcome_view o)) }
 {
@@ -176,7 +176,7 @@ fn table_outcome(alloc: Global, to: &Export<'_>, table: &Table) -> Result<Outcom
     }
 }
 
-/// What a text comes to.
+/// The outcome for a table's text.
 fn outcome(alloc: Global, to: &Export<'_>, text: &[u8]) -> Result<Outcome, AllocError>
     ensures { IfOk result (λ o. Exports (export_arguments_of to.now) text.now (outcome_view o)) }
 {

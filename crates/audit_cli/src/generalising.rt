@@ -1,4 +1,4 @@
-//! The command `generalise`: an accepted table is kept with a family more, that of an entry for each value of a number.
+//! The command `generalise`: keeps an accepted table with one more family, which proves an entry for each value of a range in place of one of its numbers.
 ghost use Rattle.std.specs.Prelude.{◌≡◌, ◌+◌, ◌++◌, ◌∷◌, [], List, IfOk, length, map};
 ghost use Rattle.std.specs.Result.{result_map_both};
 ghost use Rattle.rule_table.specs.Table.{Table as Rules, Family as Raised, IsTable};
@@ -19,8 +19,8 @@ use std::alloc::{AllocError, Global};
 use step_ledger::{Ledger, Steps};
 use table_audit::Audited;
 
-/// The command `generalise`, with an entry, counted from 1, a number, the least and the greatest value that it shall have, and the name that the table is kept
-/// under.
+/// The command `generalise`, with an entry, counted from 1, the number of the pool to be raised, the least and the greatest value to take its place, and the
+/// name that the table is kept under.
 #[derive(Drop)]
 pub(crate) struct Generalise<'a> {
     pub(crate) entry: u32,
@@ -30,7 +30,7 @@ pub(crate) struct Generalise<'a> {
     pub(crate) out: &'a str,
 }
 
-/// The refusal of a table of this budget that gets no family.
+/// The refusal that a fault becomes, for a table with this budget; `Memory` stays an error.
 fn refusal_of(fault: FamilyFault, budget: u32) -> Result<Refusal, AllocError>
     ensures { (t : Rules) (f : Raised) → IsTable t → t.header.budget ≡ budget → FailsFor t f fault → IfOk result (IsUnraised t f) }
 {
@@ -46,7 +46,7 @@ fn refusal_of(fault: FamilyFault, budget: u32) -> Result<Refusal, AllocError>
     }
 }
 
-/// The table with the family, or why it gets none.
+/// The table with the family, or the refusal.
 fn raises<L: Ledger>(
     alloc: Global,
     to: &Generalise<'_>,
@@ -70,7 +70,7 @@ fn raises<L: Ledger>(
     }
 }
 
-/// How many lines the proof of the last family has.
+/// How many lines the proof of the last family has; 0 if there is no family.
 fn last_lines(families: &[Family]) -> u64
     ensures { (front : List Raised) (f : Raised) → map family_of families.now ≡ front ++ f ∷ [] → result ≡ length f.proof }
 {
@@ -88,7 +88,7 @@ fn last_report(alloc: Global, table: &Table) -> Result<Vec<u8>, AllocError>
     families_report(alloc, families.len() as u64, last_lines(families))
 }
 
-/// What a text comes to.
+/// The outcome for a table's text.
 fn outcome<L: Ledger>(
     alloc: Global,
     to: &Generalise<'_>,

@@ -2,14 +2,14 @@
 ghost use Rattle.audit_cli.specs.Complete.{IsComplete, IsCompleteButForFull};
 ghost use Rattle.audit_cli.specs.Headline.{RewritesAsPromised};
 
-/// Where the words ask for a command, neither the store nor the sink fails, each name that is fetched is held with a text within the limit, and the texts
-/// come to no refusal, the status is Done or Memory. Where `refused full` may stand, that is the one other answer.
+/// If the words ask for a command, neither the store nor the sink fails, each name to be fetched holds a text within the limit, and the texts can't be
+/// refused, then the status is Done or Memory. If `refused full` is the only possible refusal, it is the only other outcome.
 pub fn peep_is_complete()
     ensures complete { IsComplete }
     ensures full { IsCompleteButForFull }
 {}
 
-/// Whatever a call of `rewrite` that ends done has done, told in one record, in the order in which a user would say it.
+/// What a call of `rewrite` has done when its status is Done, as one record, in the order in which a user would say it.
 pub fn rewriting_is_as_promised()
     ensures { RewritesAsPromised }
 {}

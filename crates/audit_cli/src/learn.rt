@@ -1,4 +1,4 @@
-//! The command `learn`: the table that is learnt from the windows of a listing, by the costs of a second text where one is named.
+//! The command `learn`: learns a table from the windows of a listing, with the instruction costs of a second text if one is named.
 ghost use Rattle.std.specs.Prelude.{◌≡◌, ◌≤◌, IfOk};
 ghost use Rattle.command_runs.specs.Outcomes.{outcome_view};
 ghost use Rattle.rule_table.specs.Table.{IsTable};
@@ -19,7 +19,7 @@ use std::alloc::{AllocError, Global};
 use step_ledger::{Ledger, Steps};
 use table_learn::Settings;
 
-/// The command `learn`, with the name that the table is kept under, the options, and costs where there are some.
+/// The command `learn`, with the name that the table is kept under, the options, and the costs, which are present once their text is read.
 #[derive(Drop)]
 pub(crate) struct Learn<'a> {
     pub(crate) out: &'a str,
@@ -27,7 +27,7 @@ pub(crate) struct Learn<'a> {
     pub(crate) costs: Option<Costs>,
 }
 
-/// The command `learn --costs`: the settings have no costs before the text of these is read.
+/// The command `learn --costs`: `learn.costs` isn't used, since the costs are known only once their text is read.
 #[derive(Drop)]
 pub(crate) struct LearnByCosts<'a> {
     pub(crate) learn: Learn<'a>,
@@ -52,7 +52,7 @@ fn kept(alloc: Global, out: &str, table: &Table) -> Result<Outcome, AllocError>
     keeps_text(alloc, out, text, lines)
 }
 
-/// What a listing comes to.
+/// The outcome for a listing.
 fn listing_outcome<L: Ledger>(
     alloc: Global,
     to: &Learn<'_>,
@@ -68,7 +68,7 @@ fn listing_outcome<L: Ledger>(
     }
 }
 
-/// What a text comes to.
+/// The outcome for a listing's text.
 fn outcome<L: Ledger>(
     alloc: Global,
     to: &Learn<'_>,
@@ -94,7 +94,7 @@ fn with_costs<'a>(to: &LearnByCosts<'a>, costs: Costs) -> Learn<'a>
     }
 }
 
-/// What the texts of a listing and of costs come to.
+/// The outcome for the texts of a listing and of costs.
 fn outcome_by_costs<L: Ledger>(
     alloc: Global,
     to: &LearnByCosts<'_>,

@@ -1,4 +1,4 @@
-//! The commands: what the words ask for, what the texts come to, and what is kept and printed.
+//! The ten commands, a module each, and the top call `peep`, whose contract is the promise of the whole program.
 #![tactic(auto)]
 
 mod audit;

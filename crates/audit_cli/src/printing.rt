@@ -1,4 +1,4 @@
-//! What commands keep and print, as bytes: the one line or so by which a user learns what came of it.
+//! The report lines that commands print, and the outcomes that keep texts and print such lines. `docs/COMMANDS.md` shows the lines.
 ghost use Rattle.std.specs.Prelude.{◌≡◌, ◌∷◌, [], IfOk};
 ghost use Rattle.audit_cli.specs.Printed.{report_of, image_line, entries_line, learnt_line, demo_line, formula_line, trimmed_line, families_line, tidied_report};
 ghost use Rattle.command_runs.specs.Outcomes.{outcome_view};
@@ -23,7 +23,7 @@ pub fn image_report(alloc: Global, bytes: u64) -> Result<Vec<u8>, AllocError>
     Ok(text.into_bytes())
 }
 
-/// What is printed of an accepted table: how many entries it has, and how many numbers these name open.
+/// What is printed of an accepted table: the counts of its entries and of their open numbers.
 pub fn entries_report(alloc: Global, entries: u64, opens: u64) -> Result<Vec<u8>, AllocError>
     ensures { IfOk result (λ v. v.items ≡ entries_line entries opens) }
 {
@@ -31,7 +31,7 @@ pub fn entries_report(alloc: Global, entries: u64, opens: u64) -> Result<Vec<u8>
     Ok(text.into_bytes())
 }
 
-/// What is printed of a learnt table: how many entries it has, how many numbers these name open, and how many states it lists.
+/// What is printed of a learnt table: the counts of its entries, of their open numbers, and of the states that it lists.
 pub fn learnt_report(
     alloc: Global,
     entries: u64,
@@ -44,7 +44,7 @@ pub fn learnt_report(
     Ok(text.into_bytes())
 }
 
-/// What is printed of a demonstration before all else: how many windows it has.
+/// The first line that `demo` prints: how many windows the listing has.
 pub fn demo_report(alloc: Global, windows: u32) -> Result<Vec<u8>, AllocError>
     ensures { IfOk result (λ v. v.items ≡ demo_line windows) }
 {
@@ -73,7 +73,7 @@ pub fn trimmed_report(alloc: Global, before: u64, after: u64) -> Result<Vec<u8>,
     Ok(text.into_bytes())
 }
 
-/// What is printed of a table with a family more: how many families it has, and how many lines the proof of that one has.
+/// What is printed of a table that got one more family: how many families it has, and how many lines the new one's proof has.
 pub fn families_report(alloc: Global, families: u64, lines: u64) -> Result<Vec<u8>, AllocError>
     ensures { IfOk result (λ v. v.items ≡ families_line families lines) }
 {
@@ -94,7 +94,7 @@ pub fn tidied_report(
     Ok(text.into_bytes())
 }
 
-/// Nothing is kept, and lines are printed.
+/// The outcome that keeps nothing and prints the lines.
 pub fn prints(alloc: Global, lines: Vec<u8>) -> Outcome
     ensures { outcome_view result ≡ Does [] lines.items }
 {
@@ -104,7 +104,7 @@ pub fn prints(alloc: Global, lines: Vec<u8>) -> Outcome
     }
 }
 
-/// One text is kept.
+/// The outcome that keeps one text and then prints the lines.
 pub fn keeps_text(
     alloc: Global,
     name: &str,
@@ -119,7 +119,7 @@ pub fn keeps_text(
     Ok(Outcome::Does { keeps, lines })
 }
 
-/// A text is kept, and then another.
+/// The outcome that keeps a text, then another, and then prints the lines.
 pub fn keeps_two(
     alloc: Global,
     name: &str,

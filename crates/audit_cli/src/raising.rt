@@ -1,4 +1,4 @@
-//! A family of an entry for each value of a number: the solver's proof of it, or what stands against it.
+//! Adds a family to a table: an entry in which one number may take each value of a range. The solver proves it, or the fault says why there is none.
 ghost use Rattle.std.specs.Prelude.{◌≡◌, ◌<◌, ◌≤◌, ◌+◌, ◌*◌, ◌^◌, ◌↔◌, All, Err, IfErr, IfOk, OnOk, length, map};
 ghost use Rattle.cnf_gates.specs.Meaning.{IsModel};
 ghost use Rattle.lrat_check.specs.Text.{content_of, IsLine};
@@ -23,22 +23,22 @@ use table_audit::{Audited, alphabet_registers, entry_of, family_formula, is_rais
 use thiserror::Error;
 use window_exec::WState;
 
-/// Why a table gets no family, in the order in which the causes are looked for.
+/// Why a table gets no family, in the order in which the causes are tested.
 #[derive(Drop, Error)]
 pub enum FamilyFault {
     /// There is no such entry.
     #[error("there is no such entry")]
     Number,
-    /// The number isn't of the pool, or not in the range, or the left side doesn't have it in 8 bits.
+    /// The number isn't in the pool, or lies outside the range, or isn't an 8-bit operand in the left side; or the range goes beyond 255.
     #[error("the number can't be raised")]
     Symbol,
-    /// The state from which the sides with this value are told apart.
+    /// With this value in place of the number, the sides have different effects under the mask from this state.
     #[error("the sides differ with {value}")]
     Differ { state: WState, value: u8 },
     /// The log of the search that spent the budget.
     #[error("the solver spent its budget")]
     Spent(Vec<Line>),
-    /// The memory didn't suffice.
+    /// Memory ran out, or a number of entries or clauses doesn't fit in 32 bits.
     #[error("out of memory")]
     Memory,
 }
@@ -55,7 +55,7 @@ impl fmt::Debug for FamilyFault {
     }
 }
 
-/// What the solver finds of a family's formula by the table's budget.
+/// The solver's verdict on a family's formula, within the table's budget.
 fn search<L: Ledger>(
     alloc: Global,
     table: &Table,
@@ -77,7 +77,7 @@ fn search<L: Ledger>(
     Ok(verdict)
 }
 
-/// The fault of a family by a model of its formula: from the model's state the sides with the model's value are told apart.
+/// The fault that a model of a family's formula shows: the model has a value and a state from which the sides with that value differ.
 fn differing(table: &Table, family: &Family, entry: &Entry, model: &Model) -> FamilyFault
     requires entry { HasFormula (header_in table.now) (rule_of entry.now) }
     requires raisable { IsRaisableFor (table_of table.now) (family_of family.now) (rule_of entry.now) }
@@ -91,7 +91,7 @@ fn differing(table: &Table, family: &Family, entry: &Entry, model: &Model) -> Fa
     }
 }
 
-/// The solver's proof of a family, or what stands against it.
+/// The solver's proof of a family, or the fault.
 fn prove<L: Ledger>(
     alloc: Global,
     table: &Table,
@@ -114,7 +114,7 @@ fn prove<L: Ledger>(
     }
 }
 
-/// The table with a family more, behind all others, in version 3 or its own later one.
+/// The table with one more family, after all others, in version 3, or in its own version if that is later.
 fn with_family(mut table: Table, family: Family) -> Result<Table, AllocError>
     ensures { IfOk result (λ t. table_of t ≡ with_family (table_of table) (family_of family)) }
 {
@@ -123,7 +123,7 @@ fn with_family(mut table: Table, family: Family) -> Result<Table, AllocError>
     Ok(table)
 }
 
-/// The table with a family more that the solver proves, or why there is none.
+/// The table with one more family, which the solver proves, or the fault.
 fn raised<L: Ledger>(
     alloc: Global,
     table: Table,
@@ -165,11 +165,12 @@ fn raised<L: Ledger>(
     }
 }
 
-/// The table with one family more, behind all others: that of an entry, counted from 1, for each value from `low` to `high` of a number of the pool, where it stands
-/// in 8 bits. The audit accepts it, and nothing else of it is another, but that its version is 3 at least.
+/// The table with one more family, after all others: an entry, counted from 1, in which a number of the pool, where it is an 8-bit operand, may take each
+/// value from `low` to `high`. The audit accepts the table, and nothing else in it changes, except that its version becomes 3 if it was lower.
 ///
-/// The solver proves the family by the table's budget. The causes of a refusal are looked for in the order of `FamilyFault`: `Number` and `Symbol` come exactly where
-/// they hold, `Differ` has a state and a value of the range that tell the sides apart under the mask, and `Spent` a log that spends the budget.
+/// The solver proves the family within the table's budget. The causes of a refusal are tested in the order of `FamilyFault`: `Number`, and `Symbol` for an
+/// entry below 2^32, are returned exactly if they hold; `Differ` has a state and a value of the range for which the sides differ under the mask; `Spent` has
+/// a log that spends the budget.
 pub fn generalise<L: Ledger>(
     alloc: Global,
     audited: Audited,

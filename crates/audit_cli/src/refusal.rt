@@ -1,4 +1,4 @@
-//! Why a run is refused, and the one line that tells it.
+//! Why a run is refused, and the one line that is printed for it. `docs/COMMANDS.md` explains the numbers of kinds.
 ghost use Rattle.std.specs.Prelude.{◌≡◌, ◌++◌, IfOk};
 ghost use Rattle.command_runs.specs.Outcomes.{outcome_view};
 ghost use Rattle.command_runs.specs.Plans.{Refuses};
@@ -12,43 +12,43 @@ use table_audit::{EntryFault, FamilyKind};
 /// Why a run is refused. Lines are counted from 1.
 #[derive(Clone, Copy)]
 pub(crate) enum Refusal {
-    /// The line is the first that may not stand in a table.
+    /// This line is the first such that no table's text begins with the lines up to it.
     Table { line: u64 },
-    /// The state at that place, from 1, is missing or isn't the seed's.
+    /// The state at this place, counted from 1, is missing or isn't the one that the seed gives.
     States { place: u64 },
-    /// So many sequences that an entry may have to be told from are too many.
+    /// An entry may have to be distinguished from this many sequences, which are more than 5,000,000.
     Wide { count: u64 },
     /// The entry, counted from 1, has this fault.
     Entry { number: u64, fault: EntryFault },
-    /// The family, counted from 1, is refused for this.
+    /// The family, counted from 1, has this fault.
     Family { number: u64, kind: FamilyKind },
-    /// There is no such entry.
+    /// No entry, or for `export` neither an entry nor a family, has the number.
     Number,
-    /// The line is the first that makes a text no listing.
+    /// This line is the first that makes the text no listing.
     Listing { line: u64, kind: ListingFault },
-    /// The line is the first that cannot be laid out: what it mentions is that many bytes away.
+    /// This line is the first that can't be laid out: what it mentions is out of reach, this many bytes away.
     Range { line: u64, distance: i64 },
-    /// The line is the first that cannot be laid out: what it mentions lies at that address, which is no multiple of 4.
+    /// This line is the first that can't be laid out: what it mentions lies at this address, which is no multiple of 4.
     Align { line: u64, address: u64 },
     /// The label is no code label.
     Label,
-    /// The line mentions a name that has no address.
+    /// This line mentions a name that has no address.
     Address { line: u64 },
-    /// The line sets an address that lies in the image.
+    /// This line sets an address that lies inside the image.
     Inside { line: u64 },
-    /// The text of a table has so many bytes, which are too many.
+    /// The text of the table to be kept would have this many bytes, which are more than 67,108,864.
     Full { bytes: u64 },
-    /// The line is the first that may not stand in a text of costs.
+    /// This line is the first such that no text of costs begins with the lines up to it.
     Costs { line: u64 },
     /// The number of an entry can't be raised.
     Symbol,
-    /// The sides of an entry with this value aren't equal under the mask.
+    /// With this value the entry's sides differ under the mask.
     Differ { value: u8 },
-    /// The solver spent this budget.
+    /// The solver spent this budget without a decision.
     Spent { budget: u32 },
 }
 
-/// The number of a kind of refusal.
+/// The number that is printed for a kind of refusal.
 fn kind_number(kind: ListingFault) -> u8
     ensures { result ≡ kind_number kind }
 {
@@ -63,7 +63,7 @@ fn with_number(alloc: Global, words: &str, number: u64) -> Result<Vec<u8>, Alloc
     Ok(text.into_bytes())
 }
 
-/// These words, a number, what is told of it and a newline.
+/// The words, a number, the text of the fault and a newline.
 fn with_fault(alloc: Global, words: &str, number: u64, fault: &[u8]) -> Result<Vec<u8>, AllocError>
     ensures { IfOk result (λ v. v.items ≡ printed (words.now ++ and_number number ++ fault.now)) }
 {
@@ -74,7 +74,7 @@ fn with_fault(alloc: Global, words: &str, number: u64, fault: &[u8]) -> Result<V
     Ok(line)
 }
 
-/// The number of a fault, and what it tells: ` 1`, ` 2 LINE`, ` 3`, ` 4 SEQUENCE` or ` 5 SEQUENCE`.
+/// The number of an entry's fault, and its detail: ` 1`, ` 2 LINE`, ` 3`, ` 4 SEQUENCE` or ` 5 SEQUENCE`.
 fn fault_words(alloc: Global, fault: EntryFault) -> Result<Vec<u8>, AllocError>
     ensures { IfOk result (λ v. v.items ≡ fault_words fault) }
 {
@@ -88,7 +88,7 @@ fn fault_words(alloc: Global, fault: EntryFault) -> Result<Vec<u8>, AllocError>
     Ok(text.into_bytes())
 }
 
-/// The number of a kind, and what it tells: ` 1`, ` 2 LINE` or ` 3`.
+/// The number of a family's fault, and its detail: ` 1`, ` 2 LINE` or ` 3`.
 fn family_words(alloc: Global, kind: FamilyKind) -> Result<Vec<u8>, AllocError>
     ensures { IfOk result (λ v. v.items ≡ family_words kind) }
 {
@@ -125,7 +125,7 @@ fn align_line(alloc: Global, line: u64, address: u64) -> Result<Vec<u8>, AllocEr
     Ok(text.into_bytes())
 }
 
-/// The line that tells a refusal.
+/// The line that is printed for a refusal.
 fn refusal_line(alloc: Global, refusal: Refusal) -> Result<Vec<u8>, AllocError>
     ensures { IfOk result (λ v. v.items ≡ refusal_line refusal) }
 {
@@ -154,7 +154,7 @@ fn refusal_line(alloc: Global, refusal: Refusal) -> Result<Vec<u8>, AllocError>
     }
 }
 
-/// Nothing is kept, and the refusal's line is printed.
+/// The outcome that keeps nothing and prints the refusal's line.
 pub(crate) fn refused(alloc: Global, refusal: Refusal) -> Result<Outcome, AllocError>
     ensures { IfOk result (λ o. outcome_view o ≡ Refuses (refusal_line refusal)) }
 {

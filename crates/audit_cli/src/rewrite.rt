@@ -1,4 +1,4 @@
-//! The command `rewrite`: what the texts of a table and a listing come to.
+//! The command `rewrite`: audits a table, rewrites a listing by it, and keeps the listing and, where one is asked for, its image.
 ghost use Rattle.std.specs.Prelude.{◌≡◌, ◌∷◌, ◌++◌, ◌↔◌, [], length, codes, IfOk, IsTrue};
 ghost use Rattle.listing_parser.specs.Parsing.{IsListing, text_of_lines};
 ghost use Rattle.command_runs.specs.Outcomes.{outcome_view};
@@ -23,7 +23,7 @@ use step_ledger::{Ledger, Steps};
 use table_audit::Audited;
 use window_rewrite::{RewriteError, Rewritten};
 
-/// The command `rewrite`, with the names that it keeps and the base of its image.
+/// The command `rewrite`, with the names that the listing and its image are kept under, and the image's base.
 #[derive(Drop)]
 pub(crate) struct Rewrite<'a> {
     pub(crate) out: &'a str,
@@ -31,14 +31,14 @@ pub(crate) struct Rewrite<'a> {
     pub(crate) base: Base,
 }
 
-/// Whether IMAGE names no image.
+/// Whether the argument IMAGE is `-`, which asks for no image.
 fn is_no_image(image: &str) -> bool
     ensures { IsTrue result ↔ (image.now ≡ codes "-") }
 {
     image == "-"
 }
 
-/// A listing is kept.
+/// The outcome that keeps a listing.
 fn keeps_listing(
     alloc: Global,
     out: &str,
@@ -52,7 +52,7 @@ fn keeps_listing(
     keeps_text(alloc, out, text, lines)
 }
 
-/// A listing is kept, and then its image.
+/// The outcome that keeps a listing and then its image.
 fn keeps_both(
     alloc: Global,
     to: &Rewrite<'_>,
@@ -67,7 +67,7 @@ fn keeps_both(
     keeps_two(alloc, to.out, text, to.image, image, lines)
 }
 
-/// What a rewritten listing comes to.
+/// The outcome for a rewritten listing.
 fn left(
     alloc: Global,
     to: &Rewrite<'_>,
@@ -87,7 +87,7 @@ fn left(
     }
 }
 
-/// What the lines of a listing come to by an accepted table.
+/// The outcome for the lines of a listing, with an accepted table.
 fn lines_outcome<L: Ledger>(
     alloc: Global,
     to: &Rewrite<'_>,
@@ -119,7 +119,7 @@ fn lines_outcome<L: Ledger>(
     }
 }
 
-/// What the text of a listing comes to by an accepted table.
+/// The outcome for the text of a listing, with an accepted table.
 fn text_outcome<L: Ledger>(
     alloc: Global,
     to: &Rewrite<'_>,
@@ -136,7 +136,7 @@ fn text_outcome<L: Ledger>(
     }
 }
 
-/// What the texts of a table and a listing come to.
+/// The outcome for the texts of a table and a listing.
 fn outcome<L: Ledger>(
     alloc: Global,
     to: &Rewrite<'_>,

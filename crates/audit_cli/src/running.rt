@@ -1,4 +1,4 @@
-//! A machine's run of at most so many steps, for `trace`: it also ends where the outside has no more answers.
+//! A run of a machine for `trace`, of at most `most` steps: it also ends when a step needs more answers than the outside has left.
 ghost use Rattle.std.specs.Prelude.{◌≡◌, false, IfOk};
 ghost use Rattle.thumb_model.specs.Listing.{Code};
 ghost use Rattle.thumb_model.specs.Naming.{Naming};
@@ -11,7 +11,7 @@ ghost use Rattle.audit_cli.specs.Trace.{IsRun};
 use std::alloc::AllocError;
 use thumb_machine::{Answers, Machine, Stage};
 
-/// Runs a machine until so many steps were taken, or a step ended the run or asks for more answers. Answers how many were taken, and how the run then stands.
+/// Runs a machine until `most` steps were taken, a step ended the run, or a step needs more answers. Returns how many were taken and how the run then stands.
 pub(crate) fn run(
     machine: &mut Machine,
     answers: &mut Answers,

@@ -1,4 +1,4 @@
-//! The fixed state and answers from which `trace` runs a listing, so that one listing prints one trace wherever it is run.
+//! The fixed state and answers from which `trace` runs a listing, so that a listing always has the same trace.
 ghost use Rattle.std.specs.Prelude.{◌≡◌, [], IfOk};
 ghost use Rattle.thumb_machine.specs.Outside.{answer_of, answers_of};
 ghost use Rattle.thumb_machine.specs.Starting.{start_values as start_values_of};
@@ -10,7 +10,7 @@ use thumb_machine::{Answer, Bytes, State};
 /// How many answers of the outside there are.
 const ANSWERS: u32 = 256;
 
-/// The answer of this number: it in each word, flags 0 and no bytes.
+/// Answer number n: n in each word, the flags 0, and no bytes.
 fn numbered_answer(alloc: Global, n: u32) -> Answer
     ensures { answer_of result ≡ numbered_answer_of n }
 {
@@ -21,7 +21,7 @@ fn numbered_answer(alloc: Global, n: u32) -> Answer
     }
 }
 
-/// The answers that the outside has, by their numbers from 1.
+/// The answers that the outside has, with the numbers from 1 to `ANSWERS`.
 pub(crate) fn answers(alloc: Global) -> Result<Vec<Answer>, AllocError>
     ensures { IfOk result (λ v. answers_of v.items ≡ answers_from 1 256) }
 {

@@ -1,5 +1,5 @@
 //! The steps that commands share: reading a table's text and auditing it, reading a listing's text, laying it out and making its image, learning from
-//! its windows, and what is told of what was learnt or rewritten.
+//! its windows, and the reports of what was learnt or rewritten.
 ghost use Rattle.std.specs.Prelude.{◌≡◌, ◌≤◌, ◌%◌, ◌++◌, ℕ, List, IfOk, length, map};
 ghost use Rattle.std.specs.Result.{result_map_both};
 ghost use Rattle.thumb_model.specs.Layout.{Layable};
@@ -34,7 +34,7 @@ use thumb_assembler::{ImageError, assemble};
 use thumb_instr::{Mask, Seq};
 use window_harvest::windows;
 
-/// The table of a text, or why it is none.
+/// The table of a text, or the refusal if it is none.
 #[tactic(auto, using(crate::proofs::StepLemmas::is_unlisted))]
 pub(crate) fn read_rules(alloc: Global, text: &[u8]) -> Result<Result<Table, Refusal>, AllocError>
     ensures { IfOk result (λ r. ReadsTable text.now (result_map_both table_of (λ e. e) r)) }
@@ -46,7 +46,7 @@ pub(crate) fn read_rules(alloc: Global, text: &[u8]) -> Result<Result<Table, Ref
     }
 }
 
-/// The table, audited, or why it is refused.
+/// The table, audited, or the refusal.
 fn audited<L: Ledger>(
     alloc: Global,
     table: Table,
@@ -68,7 +68,7 @@ fn audited<L: Ledger>(
     }
 }
 
-/// The accepted table of a text, or why there is none.
+/// The accepted table of a text, or the refusal.
 pub(crate) fn read_audited<L: Ledger>(
     alloc: Global,
     text: &[u8],
@@ -82,7 +82,7 @@ pub(crate) fn read_audited<L: Ledger>(
     }
 }
 
-/// The listing of a text, or why it is none.
+/// The listing of a text, or the refusal if it is none.
 #[tactic(auto, using(crate::proofs::StepLemmas::is_unread))]
 pub(crate) fn read_listing(
     alloc: Global,
@@ -107,7 +107,7 @@ pub(crate) fn unlaid(line: u64, kind: LayoutFault) -> Refusal
     }
 }
 
-/// The layout of a listing from a base on, or why it has none.
+/// The layout of a listing from a base address on, or the refusal.
 #[tactic(auto, using(crate::proofs::StepLemmas::is_unlaid))]
 pub(crate) fn lay_out(
     alloc: Global,
@@ -123,7 +123,7 @@ pub(crate) fn lay_out(
     }
 }
 
-/// The image of a listing that can be laid out, or why it has none.
+/// The image of a listing that can be laid out, or the refusal if a name has no address or an address that is set lies inside the image.
 pub(crate) fn image_of(
     alloc: Global,
     listing: &Listing,
@@ -170,7 +170,7 @@ fn harvest<L: Ledger>(
     )
 }
 
-/// The table that is learnt from the windows of a listing, or why there is none.
+/// The table that is learnt from the windows of a listing, or the refusal.
 pub(crate) fn learnt<L: Ledger>(
     alloc: Global,
     listing: &Listing,

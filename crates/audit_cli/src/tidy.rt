@@ -1,4 +1,4 @@
-//! The command `tidy`: what the text of a listing comes to.
+//! The command `tidy`: redirects branches to the ends of their chains, removes idle branches and unreachable code, and keeps the listing. It needs no table.
 ghost use Rattle.std.specs.Prelude.{◌≡◌, ◌∷◌, [], IfOk};
 ghost use Rattle.thumb_model.specs.Listing.{code_of};
 ghost use Rattle.thumb_model.specs.Literals.{HasLiterals};
@@ -19,14 +19,14 @@ use listing_parser::{Listing, print};
 use std::alloc::{AllocError, Global};
 use step_ledger::{Ledger, Steps};
 
-/// The command `tidy`, with the name that the listing is kept under and the base that it is laid out from.
+/// The command `tidy`, with the name that the listing is kept under and the base address that it is laid out from.
 #[derive(Drop)]
 pub(crate) struct Tidy<'a> {
     pub(crate) out: &'a str,
     pub(crate) base: Base,
 }
 
-/// A listing is kept that so many changes left, of one with so many instructions.
+/// The outcome that keeps a tidied listing: `changes` were made, and there were `before` instructions before them.
 fn kept(
     alloc: Global,
     out: &str,
@@ -42,7 +42,7 @@ fn kept(
     keeps_text(alloc, out, text, lines)
 }
 
-/// What the lines of a listing come to.
+/// The outcome for the lines of a listing.
 fn lines_outcome<L: Ledger>(
     alloc: Global,
     to: &Tidy<'_>,
@@ -60,7 +60,7 @@ fn lines_outcome<L: Ledger>(
     }
 }
 
-/// What a text comes to.
+/// The outcome for a listing's text.
 fn outcome<L: Ledger>(
     alloc: Global,
     to: &Tidy<'_>,

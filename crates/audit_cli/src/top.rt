@@ -1,4 +1,4 @@
-//! The top call: all that the program does with its words, its files and its output. The headline is a clause of its contract.
+//! The top call: all that the program does with its words, its files and its output. The program's headline theorem is a clause of its contract.
 ghost use Rattle.std.specs.Prelude.{map, string_bytes};
 ghost use Rattle.outer_store.specs.Answers.{Grows, SinkGrows};
 ghost use Rattle.command_line.specs.Request.{request_of};
@@ -148,8 +148,9 @@ fn run_command<S: Store, O: Sink, L: Ledger>(
 
 /// Does what the words after the program's name ask for, over the texts of a store, and prints to a sink.
 ///
-/// The status is `Usage` exactly where the words are no command line. Else the command fetches its texts, keeps what they come to and puts its lines as one piece; what each status leaves of the store and the sink is
-/// `Runs`, and what `rewrite` comes to is `IsRewriting`, the program's headline.
+/// The status is `Usage` if and only if the words are no command line, unless memory runs out. Else the command fetches its texts, keeps what is to be kept,
+/// and puts its lines as one piece. `Runs` says for each status what was done to the store and the sink; `IsRewriting`, the program's headline, says what
+/// `rewrite` does.
 #[tactic(auto, using(crate::proofs::PeepLemmas::ran, crate::proofs::PeepLemmas::untouched))]
 pub fn peep<S: Store, O: Sink, L: Ledger>(
     alloc: Global,

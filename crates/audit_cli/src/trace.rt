@@ -1,4 +1,4 @@
-//! The command `trace`: what the text of a listing comes to.
+//! The command `trace`: runs a listing, laid out at address 0, from a code label, and prints the run's events.
 ghost use Rattle.std.specs.Prelude.{◌≡◌, IfOk, Some};
 ghost use Rattle.thumb_model.specs.Listing.{code_of, place_of};
 ghost use Rattle.thumb_model.specs.Layout.{Layable};
@@ -20,14 +20,14 @@ use std::alloc::{AllocError, Global};
 use step_ledger::{Ledger, Steps};
 use thumb_machine::{Answers, Machine, Naming};
 
-/// The command `trace`, with the label where its run begins and the most steps.
+/// The command `trace`, with the label where the run begins and the greatest number of steps.
 #[derive(Drop)]
 pub(crate) struct Trace<'a> {
     pub(crate) label: &'a str,
     pub(crate) most: u32,
 }
 
-/// What comes of the run of a listing from a place.
+/// The outcome of the run of a listing from a place.
 fn traced(
     alloc: Global,
     trace: &Trace<'_>,
@@ -52,7 +52,7 @@ fn traced(
     Ok(outcome)
 }
 
-/// What a listing comes to.
+/// The outcome for a listing.
 fn listing_outcome(
     alloc: Global,
     trace: &Trace<'_>,
@@ -69,7 +69,7 @@ fn listing_outcome(
     }
 }
 
-/// What a text comes to.
+/// The outcome for a listing's text.
 fn outcome(alloc: Global, trace: &Trace<'_>, text: &[u8]) -> Result<Outcome, AllocError>
     ensures { IfOk result (λ o. Traces (trace_arguments_of trace.now) text.now (outcome_view o)) }
 {

@@ -1,4 +1,4 @@
-//! The lines that `trace` prints, one for each event and one for how the run stands.
+//! The lines that `trace` prints: one for each event, and a last one for the number of steps and how the run stands.
 ghost use Rattle.std.specs.Prelude.{◌≡◌, ◌<◌, ◌+◌, ◌++◌, codes, IfOk, OnOk};
 ghost use Rattle.thumb_machine.specs.Outside.{event_of, events_of};
 ghost use Rattle.audit_cli.specs.Printed.{printed, and_number};
@@ -35,7 +35,7 @@ fn word_text(word: u32) -> [u8; 8]
     ]
 }
 
-/// Adds a word.
+/// Adds a blank and a word in hexadecimal.
 fn add_word(line: &mut Vec<u8>, word: u32) -> Result<(), AllocError>
     ensures { OnOk result (line.new.items ≡ line.old.items ++ and_word word) }
 {
@@ -45,7 +45,7 @@ fn add_word(line: &mut Vec<u8>, word: u32) -> Result<(), AllocError>
     Ok(())
 }
 
-/// Adds words.
+/// Adds words in hexadecimal, each after a blank.
 fn add_words(line: &mut Vec<u8>, words: &[u32]) -> Result<(), AllocError>
     ensures { OnOk result (line.new.items ≡ line.old.items ++ and_words words.now) }
 {
@@ -55,7 +55,7 @@ fn add_words(line: &mut Vec<u8>, words: &[u32]) -> Result<(), AllocError>
     Ok(())
 }
 
-/// Adds a number.
+/// Adds a blank and a decimal number.
 fn add_number(alloc: Global, line: &mut Vec<u8>, number: u32) -> Result<(), AllocError>
     ensures { OnOk result (line.new.items ≡ line.old.items ++ and_number number) }
 {

@@ -1,4 +1,4 @@
-//! The command `trim`: an accepted table is kept with proofs from which all is gone that they don't need.
+//! The command `trim`: keeps an accepted table, with its proofs reduced to the lines and hints that they need.
 ghost use Rattle.std.specs.Prelude.{◌≡◌, ◌<◌, ◌+◌, ◌^◌, All, IfOk, map, sum_by, length};
 ghost use Rattle.std.specs.List.{AllZip};
 ghost use Rattle.clause_model.specs.Clauses.{codes_of};
@@ -52,7 +52,7 @@ fn count_raised(families: &[Family]) -> u64
     count
 }
 
-/// How many lines the proofs of a table have.
+/// How many lines the proofs of a table's entries and families have.
 fn count_all(table: &Table) -> u64
     requires { lines_in (table_of table.now) < 2 ^ 63 }
     ensures { result ≡ lines_in (table_of table.now) }
@@ -168,7 +168,7 @@ fn kept(alloc: Global, out: &str, table: &Table, before: u64) -> Result<Outcome,
     keeps_text(alloc, out, text, lines)
 }
 
-/// What an accepted table comes to.
+/// The outcome for an accepted table.
 fn table_outcome<L: Ledger>(
     alloc: Global,
     out: &str,
@@ -184,7 +184,7 @@ fn table_outcome<L: Ledger>(
     kept(alloc, out, &trimmed, before)
 }
 
-/// What a text comes to.
+/// The outcome for a table's text.
 fn outcome<L: Ledger>(
     alloc: Global,
     out: &str,

@@ -1,4 +1,4 @@
-//! The command `upgrade`: an accepted table is kept in version 2, whose rules may use a scratch register, with the same entries.
+//! The command `upgrade`: keeps an accepted table of version 1 in version 2, the first whose rules may use a scratch register; later versions stay.
 ghost use Rattle.std.specs.Prelude.{◌≡◌, ◌<◌, IfOk};
 ghost use Rattle.command_runs.specs.Outcomes.{outcome_view};
 ghost use Rattle.rule_table.specs.Views.{table_of};
@@ -13,7 +13,7 @@ use rule_table::{Table, write_table};
 use std::alloc::{AllocError, Global};
 use step_ledger::{Ledger, Steps};
 
-/// The most bytes of a text that is read.
+/// The most bytes of a text that the program reads, and so of one that it keeps here.
 const TEXT_LIMIT: u64 = 67_108_864;
 
 /// The command `upgrade`, with the name that the table is kept under.
@@ -30,7 +30,7 @@ fn upgraded(mut table: Table) -> Table
     table
 }
 
-/// What is kept and printed of a table: its text and lines, unless the text has more bytes than one that is read may have.
+/// The outcome that keeps a table's text and prints lines, or the refusal `full` if the text would be too long to be read again.
 pub(crate) fn kept(
     alloc: Global,
     out: &str,
@@ -47,7 +47,7 @@ pub(crate) fn kept(
     keeps_text(alloc, out, text, lines)
 }
 
-/// What a text comes to.
+/// The outcome for a table's text.
 fn outcome<L: Ledger>(
     alloc: Global,
     out: &str,

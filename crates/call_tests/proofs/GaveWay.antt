@@ -1,4 +1,4 @@
--- What is asked of live sets that are brought up to date, where a window of two gave way to one instruction.
+-- What the update of live sets requires, for a window of two instructions that was replaced by one.
 use Rattle.std.proofs.Common.{◌≡◌, ◌∙◌, ℕ, ◌+◌, ◌<◌, ◌≤◌, ◌⊎◌, inl, List, [], ◌∷◌, true, false, Option, Some, length, take, drop, refl, ap, arith, sym, subst}
 use Rattle.std.specs.Prelude.{slice_get, IfSome}
 use Rattle.std.proofs.lemmas.Bool.{and_from}
@@ -29,7 +29,7 @@ run_of_two lines all rows place is e r f two =
     ap (take 2) (sym (f ∙ ap (λ (rs : List WindowPlace). run true 2 (drop place rs)) whole)) ∙ take_all 2 is (omega arith) in
     subst (λ (js : List Instr). IsWindow lines place js) same (run_window lines place 2 2 (subst (λ (js : List Instr). 1 ≤ length js) (sym same) (omega arith)))
 
--- instructions stand at a window's places
+-- there are instructions at a window's places
 pub window_ops : (lines : List ListingLine) (place : ℕ) (window : List Instr) → IsWindow lines place window → (k : ℕ) → k < length window → is_op_place (slice_get (places_of lines) (place + k)) ≡ true
 window_ops lines place window w k h =
     ap is_op_place (sym (get_drop place (places_of lines) k (place + k) refl) ∙ sym (get_take (length window) (drop place (places_of lines)) k h) ∙ ap (λ (ps : List Place). slice_get ps k) w.stands)
@@ -42,7 +42,7 @@ window_unlabelled lines place window n e w = subst (λ m. (k : ℕ) (l : Label) 
 pub window_joined : (lines : List ListingLine) (place : ℕ) (window : List Instr) (n : ℕ) → length window ≡ n → IsWindow lines place window → are_joined_from place n lines ≡ true
 window_joined lines place window n e w = subst (λ m. are_joined_from place m lines ≡ true) e w.joined
 
--- what is found gave way
+-- the changed listing is one in which the window was replaced
 pub found_gave_way : (before : List ListingLine) (place : ℕ) (instr : Instr) (found : Option (List ListingLine)) (lines : List ListingLine)
     → found ≡ Some lines → IfSome found (λ (changed : List ListingLine). GaveWay before place instr changed) → GaveWay before place instr lines
 found_gave_way before place instr found lines e w = subst (λ (o : Option (List ListingLine)). IfSome o (λ (changed : List ListingLine). GaveWay before place instr changed)) e w

@@ -1,4 +1,4 @@
-//! `Layout::change` asks how the lines changed, so it is run here, beside a layout of the changed lines from scratch.
+//! Tests `Layout::change`, whose contract requires that its arguments say how the lines changed: its result is compared with a layout from scratch.
 ghost use Rattle.std.specs.Prelude.{◌≡◌, length};
 ghost use Rattle.thumb_model.specs.Listing.{places_of};
 
@@ -8,7 +8,7 @@ use listing_parser::{Listing, ListingLine, parse};
 use std::alloc::Global;
 use std::test::Fail;
 
-/// Whether two layouts tell the same addresses of a line's labels.
+/// Whether two layouts have the same addresses for a line's labels.
 fn are_one_at(line: &ListingLine, laid: &Layout, other: &Layout) -> bool {
     for name in &line.names {
         if laid.find_label(name) != other.find_label(name) {
@@ -18,7 +18,7 @@ fn are_one_at(line: &ListingLine, laid: &Layout, other: &Layout) -> bool {
     true
 }
 
-/// Whether two layouts tell the same addresses of a listing's labels.
+/// Whether two layouts have the same addresses for a listing's labels.
 fn are_one_at_labels(listing: &Listing, laid: &Layout, other: &Layout) -> bool {
     for line in listing.lines() {
         if !are_one_at(line, laid, other) {
@@ -28,7 +28,7 @@ fn are_one_at_labels(listing: &Listing, laid: &Layout, other: &Layout) -> bool {
     true
 }
 
-/// Whether two layouts tell the same addresses of a listing's places.
+/// Whether two layouts have the same addresses for a listing's places.
 fn are_one_at_places(listing: &Listing, laid: &Layout, other: &Layout) -> bool
     requires laid { length laid.now.places ≡ length (places_of listing.now) }
     requires other { length other.now.places ≡ length (places_of listing.now) }
@@ -52,8 +52,8 @@ fn are_one(listing: &Listing, laid: &Layout, other: &Layout) -> bool
         && are_one_at_labels(listing, laid, other)
 }
 
-/// Where the text's listing ends, and whether it is laid out as `layout` does it, once it is brought up to date where `uxtb r0, r0` comes in place of two
-/// instructions from this place on. There is none where no window of two stands there.
+/// Replaces two instructions, from this place on, with `uxtb r0, r0` and updates the layout: where the listing then ends, and whether the layout is that of
+/// `layout`. None if there is no window of two instructions at the place.
 fn outcome(alloc: Global, text: &[u8], place: u32) -> Result<Option<(u32, bool)>, Fail> {
     let listing = parse(alloc, text)?;
     let mut laid = layout(alloc, &listing, 4096)?;
@@ -68,13 +68,13 @@ fn outcome(alloc: Global, text: &[u8], place: u32) -> Result<Option<(u32, bool)>
 #[test]
 fn layouts_are_brought_up_to_date(rt: HostRuntime) -> Result<(), Fail> {
     for (text, place, want) in [
-        // the label behind comes nearer by two bytes
+        // the label after the window moves forward by two bytes
         (
             "f: lsls r0, r0, #24\n lsrs r0, r0, #24\n g: b g\n",
             0,
             Some((4100, true)),
         ),
-        // the words stay where they are, behind two bytes of padding
+        // the data words stay where they are, after two bytes of padding
         (
             "ldr r1, w\nf: lsls r0, r0, #24\n lsrs r0, r0, #24\n bx lr\n .align 2\nw: .word 1, 2\nend:\n",
             1,

@@ -1,4 +1,5 @@
-//! Tests of calls that require facts of what they are given: sets and layouts brought up to date, clauses and their watches.
+//! Tests of functions whose contracts require facts about their arguments, such as updates of live sets and layouts, or propagation by watches. They are a
+//! crate of their own so that no other crate is proved a second time for them.
 #![tactic(auto)]
 
 #[cfg(test)]

@@ -1,4 +1,4 @@
-//! `Live::change` asks how the lines changed, so it is run here, beside the sets of the changed lines from scratch.
+//! Tests `Live::change`, whose contract requires that its arguments say how the lines changed: its result is compared with the sets from scratch.
 use crate::windows::{uxtb, with_one};
 use listing_parser::parse;
 use liveness::{Live, live};
@@ -6,25 +6,25 @@ use std::alloc::Global;
 use std::test::Fail;
 use step_ledger::{Counted, Steps};
 
-/// Whether two listings' sets are the same.
+/// Whether all sets, before and after each place, are the same.
 fn are_one(sets: &Live, other: &Live) -> bool {
     sets.before_sets() == other.before_sets() && sets.after_sets() == other.after_sets()
 }
 
-/// How the sets of a listing were brought up to date.
+/// How the sets of a listing were updated.
 #[derive(Clone, Copy, Debug, PartialEq, Eq)]
 enum Change {
-    /// There is no window of two.
+    /// There is no window of two instructions at the place.
     NoWindow,
-    /// They are those of the listing, and no place was visited.
+    /// They are right, and no place was visited.
     Kept,
-    /// They are those of the listing, and places were visited.
+    /// They are right, and places were visited.
     FoundAnew,
-    /// They are not those of the listing.
+    /// They are wrong.
     Wrong,
 }
 
-/// How the sets of the text's listing are brought up to date, where `uxtb r0, r0` comes in place of two instructions from this place on.
+/// How the sets of the listing are updated when `uxtb r0, r0` replaces two instructions, from this place on.
 fn outcome(alloc: Global, text: &[u8], place: u32) -> Result<Change, Fail> {
     let listing = parse(alloc, text)?;
     let mut steps = Steps::new(Counted::new());
@@ -54,13 +54,13 @@ fn sets_are_brought_up_to_date(rt: HostRuntime) -> Result<(), Fail> {
             0,
             Change::Kept,
         ),
-        // Z is live before the one, and was not before the two, which write it
+        // Z is live before the one new instruction, and wasn't before the two old ones, which write it
         (
             "f: nop\n lsls r0, r0, #24\n lsrs r0, r0, #24\n beq f\n bx lr\n",
             1,
             Change::FoundAnew,
         ),
-        // r1 was live for the first of the two alone
+        // r1 was live only because the first of the two old ones reads it
         (
             " nop\n nop\nf: lsls r0, r1, #24\n lsrs r0, r0, #24\n movs r1, #0\n bx lr\n",
             2,

@@ -1,4 +1,4 @@
-//! Propagation asks that watches stand as they should, so it is run here: units with their reasons, and a clause that becomes false.
+//! Tests propagation, which requires that the watches are consistent: units with their reasons, and a clause that becomes false.
 ghost use Rattle.std.specs.Prelude.{◌≡◌, ◌≢◌, ◌<◌, IfOk, All, length, get_or};
 ghost use Rattle.clause_arena.specs.Contents.{HasLiteral};
 ghost use Rattle.unit_propagation.specs.Watching.{IsAttached, IsKnown};
@@ -9,7 +9,7 @@ use std::alloc::Global;
 use std::test::Fail;
 use unit_propagation::{attach, propagate};
 
-/// No clause, and three variables.
+/// An arena with three variables and no clause.
 fn three_variables(alloc: Global) -> Result<Arena, Memory>
     ensures attached { IfOk result IsAttached }
     ensures known { IfOk result IsKnown }
@@ -18,7 +18,7 @@ fn three_variables(alloc: Global) -> Result<Arena, Memory>
     Arena::new(alloc, 3)
 }
 
-/// Adds a clause that watches its first two literals.
+/// Adds a clause, of which the first two literals are watched.
 fn add(arena: &mut Arena, literals: &[u32]) -> Result<Ref, Memory>
     requires attached { IsAttached arena.old }
     requires known { IsKnown arena.old }
@@ -33,7 +33,7 @@ fn add(arena: &mut Arena, literals: &[u32]) -> Result<Ref, Memory>
     Ok(at)
 }
 
-/// A literal is true, and what follows from it.
+/// Decides a literal and propagates: the clause that became false, if any, and the trail, each literal by its code and with its reason.
 fn follow(
     alloc: Global,
     arena: &mut Arena,
@@ -55,8 +55,8 @@ fn follow(
     Ok((conflict, found))
 }
 
-// The literals of the variables a, b and c are 0, 2 and 4, their contraries 1, 3 and 5. With a or b or c, and a or not c, it follows from not a that c is
-// false, and then that b is true.
+// The literals a, b and c have the codes 0, 2 and 4, their negations 1, 3 and 5. From the clauses (a or b or c) and (a or not c) it follows with not a that c
+// is false, and then that b is true.
 #[test]
 fn units_follow_with_their_reasons(rt: HostRuntime) -> Result<(), Fail> {
     let alloc = rt.alloc();
@@ -72,7 +72,7 @@ fn units_follow_with_their_reasons(rt: HostRuntime) -> Result<(), Fail> {
     Ok(())
 }
 
-// With not b or c, one of the clauses is false then.
+// With the further clause (not b or c) one of the clauses becomes false.
 #[test]
 fn a_false_clause_is_told(rt: HostRuntime) -> Result<(), Fail> {
     let alloc = rt.alloc();

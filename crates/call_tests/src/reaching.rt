@@ -1,11 +1,11 @@
-//! `Reached::at` asks for a place of the listing, so `reached` is run here.
+//! Tests `reached`, whose result is read by `Reached::at`, which requires a place of the listing.
 use code_flow::reached;
 use listing_parser::parse;
 use std::alloc::Global;
 use std::test::Fail;
 use step_ledger::{Counted, Steps};
 
-/// Which places of the text's listing are reached, and how many visits it took to tell.
+/// Which places of the listing are reachable, and how many visits that took to find out.
 fn marks(alloc: Global, text: &[u8]) -> Result<(Vec<bool>, u64), Fail> {
     let listing = parse(alloc, text)?;
     let mut steps = Steps::new(Counted::new());
@@ -23,7 +23,7 @@ fn places_are_reached_from_code_points(rt: HostRuntime) -> Result<(), Fail> {
     let (found, visits) = marks(rt.alloc(), b"nop\nw: .word 1\n")?;
     assert_eq!(rt; found.as_slice(), [false, false].as_slice());
     assert_eq!(rt; visits, 0);
-    // two labels, a return point and the place behind it
+    // two labels, a return point and the place after it
     let text = b"f: b g\nnop\n.word 1\ng: bl puts\nnop\nbx lr\n";
     let (found, visits) = marks(rt.alloc(), text)?;
     assert_eq!(rt;

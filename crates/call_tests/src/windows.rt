@@ -1,4 +1,4 @@
-//! One instruction in place of a window of two, as the tests of listings, live sets and layouts replace it.
+//! Replaces a window of two instructions with one, for the tests of layouts and live sets.
 ghost use Rattle.std.specs.Prelude.{◌≡◌, true, IfOk, IfSome};
 ghost use Rattle.thumb_instr.specs.Window.{is_in_window};
 ghost use Rattle.listing_parser.specs.Replacing.{names_no_label};
@@ -10,7 +10,7 @@ use thumb_instr::{Extension, Instr, Low};
 use window_runs::rows::rows;
 use window_runs::runs::run;
 
-/// The listing with one instruction in place of two, where a window of two stands from this place on.
+/// The listing with one instruction in place of the two from this place on; None if there is no window of two instructions there.
 pub(crate) fn with_one(
     alloc: Global,
     listing: &Listing,

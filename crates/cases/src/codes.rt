@@ -15,7 +15,7 @@ pub(crate) fn text(alloc: Global, arguments: Arguments<'_>, answer: &mut Answer)
     }
 }
 
-/// Adds the text of an instruction that mentions nothing.
+/// Adds the text of an instruction that mentions no label.
 pub(crate) fn add_text(alloc: Global, instr: Instr, answer: &mut Answer) -> Option<()> {
     let label = None;
     answer.bytes(&write_instr(alloc, &Parsed { instr, label }).ok()?)
@@ -34,7 +34,7 @@ pub(crate) fn code(alloc: Global, arguments: Arguments<'_>, answer: &mut Answer)
     add_code(&read_instr(&text)?.instr, answer)
 }
 
-/// A branch or a call over so many bytes in place of its own.
+/// The branch or call with this displacement in bytes in place of its own.
 fn with_distance(instr: Instr, bytes: i32) -> Option<Instr> {
     match instr {
         Instr::BranchIf { condition, .. } => Some(Instr::BranchIf {
@@ -51,7 +51,7 @@ fn with_distance(instr: Instr, bytes: i32) -> Option<Instr> {
     }
 }
 
-/// The code of the branch or call that a text is, over so many bytes.
+/// The code of the branch or call that a text is, with a given displacement in bytes.
 pub(crate) fn branch(
     alloc: Global,
     mut arguments: Arguments<'_>,
@@ -63,7 +63,7 @@ pub(crate) fn branch(
     add_code(&instr, answer)
 }
 
-/// The text of the instruction that two halfwords are: `no` where they are none.
+/// The text of the instruction that two halfwords encode; `no` if they encode none.
 pub(crate) fn decoded(
     alloc: Global,
     mut arguments: Arguments<'_>,
@@ -76,8 +76,8 @@ pub(crate) fn decoded(
     }
 }
 
-/// The first and the last of each run of halfwords that are instructions of their own, among those from one to another. A second halfword of 0 is of
-/// no instruction.
+/// The first and the last of each run of halfwords that are 16-bit instructions, within a range. The second halfword given to `decode` is 0, with which
+/// no 32-bit instruction ends.
 pub(crate) fn halfwords(mut arguments: Arguments<'_>, answer: &mut Answer) -> Option<()> {
     let first = arguments.halfword()?;
     let last = arguments.halfword()?;

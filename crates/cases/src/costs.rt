@@ -1,11 +1,11 @@
-//! Costs: their text, and the sequences that cost less than a limit.
+//! Cases of costs: reading the kept text as costs, and listing the sequences that cost less than a limit.
 use crate::reading::Arguments;
 use crate::rule_part::Given;
 use seq_enum::{Costs, Pool, cheaper, read_costs};
 use std::alloc::Global;
 use std::fmt::{Display, Write};
 
-/// Writes numbers on a line, parted by a blank.
+/// Writes numbers on a line, separated by blanks.
 fn list<T: Copy + Display + Drop>(out: &mut String, numbers: &[T]) -> Option<()> {
     for (place, number) in numbers.iter().enumerate() {
         let blank = if place == 0 { "" } else { " " };
@@ -14,7 +14,7 @@ fn list<T: Copy + Display + Drop>(out: &mut String, numbers: &[T]) -> Option<()>
     out.push('\n').ok()
 }
 
-/// Writes the numbers of the kept text of costs, or where it is refused.
+/// Writes the costs that the kept text gives, or the line at which it is refused.
 pub(crate) fn read(text: &str, out: &mut String) -> Option<()> {
     match read_costs(text.as_bytes()) {
         Ok(costs) => list(out, costs.numbers()),
@@ -22,7 +22,7 @@ pub(crate) fn read(text: &str, out: &mut String) -> Option<()> {
     }
 }
 
-/// The pool of these numbers.
+/// The pool of the numbers of the next argument.
 fn pool(alloc: Global, arguments: &mut Arguments<'_>) -> Option<Pool> {
     let mut numbers = Vec::new(alloc);
     for number in &arguments.numbers(alloc)? {
@@ -31,7 +31,7 @@ fn pool(alloc: Global, arguments: &mut Arguments<'_>) -> Option<Pool> {
     Pool::new(&numbers)
 }
 
-/// Writes the numbers of the sequences of at most so many instructions that cost less than a limit by the kept text: `cheaper REGISTERS POOL LONGEST LIMIT`.
+/// `cheaper REGISTERS POOL LONGEST LIMIT`: writes the numbers of the sequences of at most LONGEST instructions that cost less than LIMIT by the kept text.
 pub(crate) fn lighter(given: &Given, rest: &str, out: &mut String) -> Option<()> {
     let mut arguments = Arguments::of(rest);
     let (k, pool) = (arguments.byte()?, pool(given.alloc, &mut arguments)?);

@@ -1,8 +1,8 @@
-//! Texts on a line: `\n`, `\r`, `\t` and `\s` (a blank), `\x` before two hexadecimal digits of any other byte, `\*128;` where the last line goes on
-//! to be 128 of it, and `''` for no byte. Each other byte stands for itself.
+//! How a text is written on a line: `\n`, `\r`, `\t` and `\s` (a blank), `\x` and two hexadecimal digits for any byte, `\*128;` to have the last
+//! line 128 times in all, and `''` for the empty text. Each other byte stands for itself.
 use std::alloc::Global;
 
-/// Lengthens the last line to so many of it.
+/// Repeats the last line until it is there `count` times.
 fn repeat_last_line(bytes: &mut Vec<u8>, count: usize) -> Option<()> {
     let before = bytes.len().checked_sub(1)?;
     let front = bytes.iter().take(before).rposition(|byte| *byte == b'\n');
@@ -14,7 +14,7 @@ fn repeat_last_line(bytes: &mut Vec<u8>, count: usize) -> Option<()> {
     Some(())
 }
 
-/// Adds what stands behind a backslash.
+/// Adds what a piece after a backslash stands for.
 fn add_escaped(bytes: &mut Vec<u8>, piece: &str) -> Option<()> {
     let (letter, rest) = piece.split_at_checked(1)?;
     let mut rest = rest;

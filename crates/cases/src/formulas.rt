@@ -1,4 +1,4 @@
-//! Formulas: of clauses, and of the entries of tables.
+//! Cases of formulas: they are made of given clauses, or are that of a table's last entry, and are kept for later cases.
 use crate::rule_part::Given;
 use crate::tables::read;
 use cnf_gates::{Bit, Builder, write_dimacs};
@@ -7,7 +7,7 @@ use std::alloc::Global;
 use std::fmt::Write;
 use table_audit::{entry_formula, sides_fit};
 
-/// The literals of a clause, where false stands first and the variables behind it.
+/// The literals of a clause, given by DIMACS numbers. `bits` has the constant false at 0, and the variables after it.
 fn literals(alloc: Global, bits: &[Bit], clause: &str) -> Option<Vec<Bit>> {
     let mut literals = Vec::new(alloc);
     for word in clause.split(" ") {
@@ -37,7 +37,7 @@ pub(crate) fn push_empty(given: &mut Given) -> Option<()> {
     given.formula.push_clause(Vec::new(given.alloc)).ok()
 }
 
-/// A number that depends on every byte and its place.
+/// A checksum of a text.
 fn digest(text: &[u8]) -> u32 {
     let mut digest = 0u32;
     for byte in text {

@@ -1,4 +1,4 @@
-//! Cases of the learner: what it makes of one window that is given, without a listing around it.
+//! Cases of the learner: what it learns from one given window, without a listing around it.
 ghost use Rattle.std.specs.Prelude.{◌≢◌, ◌↔◌, IsTrue};
 ghost use Rattle.rule_table.specs.Views.{table_of};
 ghost use Rattle.rule_table.specs.Table.{IsTable};
@@ -12,14 +12,14 @@ use step_ledger::{Counted, Steps};
 use table_audit::sides_fit;
 use table_learn::{LearnError, learn};
 
-/// Whether tables of a version are learnt, with costs in version 4 and without before version 3.
+/// Whether the learner can be given a header of this version: 1 and 2 without costs, 4 with them.
 fn is_learnt(version: u8) -> bool
     ensures { IsTrue result ↔ (version ≢ 3) }
 {
     version != 3
 }
 
-/// What is learnt from the left side and the mask of a table's last entry, with the settings of its header, which is of a version that is learnt.
+/// The table that is learnt from the left side and the mask of a table's last entry, with that table's header as settings.
 fn learnt_table(given: &Given, mut table: Table) -> Option<Result<Table, LearnError>>
     requires { IsTable (table_of table) }
 {

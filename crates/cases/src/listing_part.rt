@@ -1,19 +1,19 @@
-//! What reads, lays out and runs listings: a case a line, and a line or a few of what is answered.
+//! The cases about what reads, lays out and runs listings: each line is a case, and is answered by one line or a few.
 //!
-//! A line is blank, a comment from `#` on, or a case: a word that says what is asked, and its arguments, parted by a blank each. The last
-//! argument may be a text, which goes on to the line's end (`escapes` tells its spelling). Words of the machine are hexadecimal, and other numbers
+//! A line is blank, a comment that begins with `#`, or a case: a word that says what is asked, and its arguments, separated by single blanks. The
+//! last argument may be a text, which goes on to the line's end, in the spelling of `escapes`. The machine's words are hexadecimal, other numbers
 //! decimal.
 use crate::printing::Answer;
 use crate::reading::Arguments;
 use crate::{arithmetic, codes, listings, living, machines, stepping, tidying};
 use std::alloc::Global;
 
-/// Whether a line asks for something.
+/// Whether a line is a case.
 fn is_case(line: &str) -> bool {
     !line.is_empty() && !line.starts_with('#')
 }
 
-/// Answers a case. None where it can't be read, or memory is wanting.
+/// Answers a case; None if it can't be read, or memory runs out.
 fn answer_case(
     alloc: Global,
     kind: &str,
@@ -45,7 +45,7 @@ fn answer_case(
     }
 }
 
-/// What a line is answered by: a line or a few, and nothing where it asks for nothing.
+/// The answer to a line: one line or a few, and nothing if it isn't a case.
 pub(crate) fn answer_line(alloc: Global, line: &str) -> Option<Vec<u8>> {
     if !is_case(line) {
         return Some(Vec::new(alloc));

@@ -1,4 +1,4 @@
-//! Cases of listings and where they lie: `printed TEXT`, `refused TEXT`, `laid BASE TEXT` and `addresses BASE TEXT`.
+//! Cases of listings and their layout: `printed TEXT`, `refused TEXT`, `laid BASE TEXT` and `addresses BASE TEXT`.
 use crate::printing::Answer;
 use crate::reading::Arguments;
 use label_layout::{Layout, LayoutError, LayoutFault, layout};
@@ -11,13 +11,13 @@ pub(crate) fn listing_of(alloc: Global, arguments: Arguments<'_>) -> Option<List
     parse(alloc, &text).ok()
 }
 
-/// The listing's text again.
+/// The text of the listing, printed again.
 pub(crate) fn printed(alloc: Global, arguments: Arguments<'_>, answer: &mut Answer) -> Option<()> {
     let listing = listing_of(alloc, arguments)?;
     answer.bytes(&print(alloc, &listing).ok()?)
 }
 
-/// The line by which a text is no listing, and the number of the kind of refusal: `no` where it is one.
+/// The line because of which a text is no listing, and the number of the kind of refusal; `no` if it is one.
 pub(crate) fn refused(alloc: Global, arguments: Arguments<'_>, answer: &mut Answer) -> Option<()> {
     let text = arguments.text(alloc)?;
     match parse(alloc, &text) {
@@ -30,7 +30,7 @@ pub(crate) fn refused(alloc: Global, arguments: Arguments<'_>, answer: &mut Answ
     }
 }
 
-/// Adds why a line can't be laid out.
+/// Adds the reason why a line can't be laid out.
 pub(crate) fn add_kind(kind: LayoutFault, answer: &mut Answer) -> Option<()> {
     match kind {
         LayoutFault::Range(distance) => {
@@ -44,7 +44,7 @@ pub(crate) fn add_kind(kind: LayoutFault, answer: &mut Answer) -> Option<()> {
     }
 }
 
-/// Where a listing ends, or the line by which it can't be laid out, and why: `full` where the memory's region of code is.
+/// The address where a listing ends, or the line because of which it can't be laid out and the reason; `full` if the Code region has no room for it.
 pub(crate) fn laid(alloc: Global, mut arguments: Arguments<'_>, answer: &mut Answer) -> Option<()> {
     let base = arguments.hex()?;
     let listing = listing_of(alloc, arguments)?;
@@ -66,7 +66,7 @@ fn add_labels(laid: &Layout, names: &[Vec<u8>], answer: &mut Answer) -> Option<(
     Some(())
 }
 
-/// The addresses of a listing's places, and the names of its labels with theirs.
+/// The addresses of a listing's places, and the names of its labels with their addresses.
 pub(crate) fn addresses(
     alloc: Global,
     mut arguments: Arguments<'_>,

@@ -8,13 +8,13 @@ use std::marker::Brand;
 use step_ledger::{Counted, Free, Steps};
 use thumb_instr::Items;
 
-/// The items by number.
+/// The names of the items, in the order of their numbers.
 const ITEMS: [&str; 19] = [
     "r0", "r1", "r2", "r3", "r4", "r5", "r6", "r7", "r8", "r9", "r10", "r11", "r12", "sp", "lr",
     "n", "z", "c", "v",
 ];
 
-/// Adds the items of a set: `none` where there is none.
+/// Adds the items of a set; `none` if it is empty.
 fn add_items(items: Items, answer: &mut Answer) -> Option<()> {
     if items.bits == 0 {
         return answer.word("none");
@@ -41,7 +41,7 @@ pub(crate) fn after(
     add_items(*sets.after_sets().get(place)?, answer)
 }
 
-/// How many bytes a ledger has whose count contracts alone see.
+/// The size in bytes of a ledger whose count only contracts see: it has to be 0.
 pub(crate) fn ledger(answer: &mut Answer) -> Option<()> {
     answer.number(i64::try_from(size_of::<Free<Brand>>()).ok()?)
 }

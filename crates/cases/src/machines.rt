@@ -7,7 +7,7 @@ use label_layout::layout;
 use std::alloc::Global;
 use thumb_machine::{Answer, Answers, Bytes, Event, Machine, Naming, Stage, State};
 
-/// Whether a listing fits the naming that it is laid out with from a base.
+/// Whether the naming that a layout from a base gives fits the listing.
 pub(crate) fn named(alloc: Global, mut arguments: Arguments<'_>, sheet: &mut Sheet) -> Option<()> {
     let base = arguments.hex()?;
     let listing = listing_of(alloc, arguments)?;
@@ -16,7 +16,7 @@ pub(crate) fn named(alloc: Global, mut arguments: Arguments<'_>, sheet: &mut She
     sheet.bit(naming.fits(&listing))
 }
 
-/// The naming of words for names, as `f=1,g=5`, and for return points, as `7,9`, with a range of code from 0 to below an address.
+/// The naming with these words for names, as `f=1,g=5`, and for return points, as `7,9`, and a code range from 0 up to but not including an address.
 fn naming_of(alloc: Global, arguments: &mut Arguments<'_>) -> Option<Naming> {
     let mut words = IndexMap::new(alloc);
     for pair in arguments.word().split(',') {
@@ -30,14 +30,14 @@ fn naming_of(alloc: Global, arguments: &mut Arguments<'_>) -> Option<Naming> {
     Some(Naming::new(words, returns, 0, arguments.number()?))
 }
 
-/// Whether a listing fits a naming.
+/// Whether a naming fits a listing.
 pub(crate) fn fits(alloc: Global, mut arguments: Arguments<'_>, sheet: &mut Sheet) -> Option<()> {
     let naming = naming_of(alloc, &mut arguments)?;
     let listing = listing_of(alloc, arguments)?;
     sheet.bit(naming.fits(&listing))
 }
 
-/// Answers of these words, each with one word in all registers and a byte.
+/// An answer for each word: the word in all registers, and one byte.
 fn answers_of(alloc: Global, words: &[u32]) -> Option<Answers> {
     let mut list = Vec::new(alloc);
     for word in words {
@@ -53,7 +53,7 @@ fn answers_of(alloc: Global, words: &[u32]) -> Option<Answers> {
     Some(Answers::new(list))
 }
 
-/// Zeros, sp 0x20001000 and lr 0xffffffff, at the place 0.
+/// The state in which runs start, at place 0: all zero but sp, 0x20001000, and lr, 0xffffffff.
 fn start(alloc: Global) -> State {
     State {
         r: [0; 13],
@@ -109,7 +109,7 @@ fn add_event(event: &Event, sheet: &mut Sheet) -> Option<()> {
     }
 }
 
-/// Adds a step: what it came to, and the events that came.
+/// Takes a step and adds how the run stands then, and the events of the step.
 fn add_step(machine: &mut Machine, answers: &mut Answers, sheet: &mut Sheet) -> Option<()> {
     let before = machine.events().len();
     let stage = machine.step(answers).ok()?;

@@ -1,7 +1,7 @@
-//! Calls what the crates offer by cases from standard input, and prints what they answer.
+//! Calls the crates' functions by cases from standard input, and prints their answers. The gate compares these with `stdout`.
 //!
-//! A line `==== NAME` begins a part, and the module of the part tells what its lines may be: `listings` (`listing_part`) or `rules` (`rule_part`). A line that
-//! can't be read, or for which memory is wanting, is answered by `?`.
+//! A line `==== NAME` begins a part, whose module says what its lines may be: `listings` (`listing_part`) or `rules` (`rule_part`). A line that can't be
+//! read, or for which memory runs out, is answered by `?`.
 #![tactic(auto)]
 
 mod arithmetic;
@@ -27,14 +27,14 @@ use crate::rule_part::Given;
 use outer_store::{RealSink, Sink};
 use std::io;
 
-/// What the lines behind a name are about.
+/// What the lines after a name are about.
 #[derive(Clone, Copy)]
 enum Part {
     Listings,
     Rules,
 }
 
-/// The part of a name.
+/// The part that has this name.
 fn part_of(name: &str) -> Part {
     match name {
         "rules" => Part::Rules,

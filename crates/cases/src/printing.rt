@@ -1,7 +1,7 @@
 //! The answer to a case, item by item with one blank between, so that all cases answer in one form.
 use std::alloc::Global;
 
-/// The items of an answer, parted by a blank each, on a line or a few.
+/// The items of an answer, separated by single blanks, on one line or a few.
 #[derive(Drop)]
 pub(crate) struct Answer {
     text: String,
@@ -18,7 +18,7 @@ impl Answer {
         self.text
     }
 
-    /// Parts what comes from what stands on the line.
+    /// Adds a blank, unless a line begins.
     fn part(&mut self) -> Option<()> {
         if self.text.is_empty() || self.text.ends_with('\n') {
             Some(())

@@ -1,4 +1,4 @@
-//! Cases of proofs: lines that a checker takes or refuses, and formulas that the solver is given.
+//! Cases of proofs: lines that the checker accepts or refuses, and formulas that the solver is given.
 use crate::rule_part::Given;
 use crate::texts::tell;
 use cdcl_core::Verdict;
@@ -6,7 +6,7 @@ use lrat_check::{Checker, check_proof, read_line};
 use std::alloc::Global;
 use step_ledger::{Counted, Steps};
 
-/// Writes what a checker answers to a line, and where its formula is refuted then.
+/// Writes what the checker answers to a line, and whether its formula is refuted by then.
 fn step(alloc: Global, checker: &mut Checker, text: &str, out: &mut String) -> Option<()> {
     match read_line(alloc, text.as_bytes()).ok()? {
         None => out.push_str("none\n").ok()?,

@@ -2,7 +2,7 @@
 use crate::escapes::bytes_of;
 use std::alloc::Global;
 
-/// The arguments of a case that are yet to be read.
+/// The arguments of a case that haven't been read yet.
 #[derive(Clone, Copy)]
 pub(crate) struct Arguments<'a> {
     rest: &'a str,
@@ -40,12 +40,12 @@ impl<'a> Arguments<'a> {
         self.word().parse().ok()
     }
 
-    /// `1` or `0`.
+    /// `1` is true, any other number up to 255 false.
     pub(crate) fn bit(&mut self) -> Option<bool> {
         Some(self.byte()? == 1)
     }
 
-    /// Decimal numbers that are parted by commas; `-` has none.
+    /// Decimal numbers, separated by commas; `-` stands for none.
     pub(crate) fn numbers(&mut self, alloc: Global) -> Option<Vec<u32>> {
         let mut numbers = Vec::new(alloc);
         for number in self.word().split(',') {

@@ -1,9 +1,9 @@
-//! What makes and checks rules: a line a case, about the formula and the text that those before it kept.
+//! The cases about what makes and checks rules: each line is a case, about the formula and the text that earlier cases kept.
 use crate::{costs, formulas, learning, proofs, tables, texts};
 use cnf_gates::Formula;
 use std::alloc::Global;
 
-/// What cases are about: the formula and the text that those before kept.
+/// What a case is about: the formula and the text that earlier cases kept.
 #[derive(Drop)]
 pub(crate) struct Given {
     pub(crate) alloc: Global,
@@ -22,7 +22,7 @@ impl Given {
     }
 }
 
-/// Does what a line says, and writes what comes of it. None where the line can't be read, or memory runs out.
+/// Carries out a line and writes its answer; None if the line can't be read, or memory runs out.
 fn answer(given: &mut Given, line: &str, out: &mut String) -> Option<()> {
     let (word, rest) = line.split_once(" ").unwrap_or((line, ""));
     match word {
@@ -45,7 +45,7 @@ fn answer(given: &mut Given, line: &str, out: &mut String) -> Option<()> {
     }
 }
 
-/// What a line is answered by; one that can't be read, or for which memory is wanting, by `?` behind what was answered before that.
+/// The answer to a line. If the line can't be read, or memory runs out, `?` follows what was answered before that.
 pub(crate) fn answer_line(given: &mut Given, line: &str) -> Option<Vec<u8>> {
     let mut out = String::new(given.alloc);
     if answer(given, line, &mut out).is_none() {

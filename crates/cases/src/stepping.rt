@@ -8,7 +8,7 @@ use thumb_instr::{Instr, Low, in_window, registers_of};
 use thumb_table::decode;
 use window_exec::{WState, step};
 
-/// Whether all are of r0 to r3.
+/// Whether all registers are among r0 to r3.
 fn are_first_four(registers: &[Low]) -> bool
     ensures { IsTrue result → AreBelow 4 (map (λ r. r.number) registers.now) }
 {
@@ -20,7 +20,7 @@ fn are_first_four(registers: &[Low]) -> bool
     }
 }
 
-/// The instruction of a halfword, where it may stand in a window over r0 to r3.
+/// The instruction that a halfword encodes, if it may stand in a window and names only r0 to r3.
 fn window_instr(halfword: u16) -> Option<Instr>
     ensures window { IfSome result (λ i. is_in_window i ≡ true) }
     ensures registers { IfSome result (λ i. AreBelow 4 (named i)) }

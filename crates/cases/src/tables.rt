@@ -1,4 +1,4 @@
-//! Cases of tables: whether the kept text is one or where it is refused, and what its audit says.
+//! Cases of tables: whether the kept text is a table, or at which line it is refused, and what the audit says of it.
 ghost use Rattle.std.specs.Prelude.{IfSome};
 ghost use Rattle.rule_table.specs.Views.{table_of};
 ghost use Rattle.rule_table.specs.Table.{IsTable};
@@ -10,7 +10,7 @@ use std::alloc::Global;
 use step_ledger::{Counted, Steps};
 use table_audit::audit;
 
-/// The table of the kept text with more lines and the last line of a table.
+/// The table whose text is the kept one, some more lines, and the line `end`.
 pub(crate) fn read(given: &Given, lines: &str) -> Option<Table>
     ensures { IfSome result (λ t. IsTable (table_of t)) }
 {
@@ -23,7 +23,7 @@ pub(crate) fn read(given: &Given, lines: &str) -> Option<Table>
     }
 }
 
-/// Writes whether a text is a table's, or where it is refused.
+/// Writes whether a text is a table, or at which line it is refused.
 pub(crate) fn judge(alloc: Global, text: &str, out: &mut String) -> Option<()> {
     tell(out, read_table(alloc, text.as_bytes()))
 }

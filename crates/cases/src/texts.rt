@@ -1,9 +1,9 @@
-//! The text that one case keeps for the next: put together from lines, changed in a part, or shown without its states and proofs.
+//! The text that cases keep for later ones: it is put together from lines, changed in a part, or shown without its states and proofs.
 use crate::rule_part::Given;
 use std::alloc::Global;
 use std::fmt::{Debug, Write};
 
-/// Writes what a call answers that may fail.
+/// Writes the result of a call: `ok` or the error.
 pub(crate) fn tell<T: Drop, E: Debug + Drop>(out: &mut String, answer: Result<T, E>) -> Option<()> {
     match answer {
         Ok(_) => out.push_str("ok\n").ok(),
@@ -11,7 +11,7 @@ pub(crate) fn tell<T: Drop, E: Debug + Drop>(out: &mut String, answer: Result<T,
     }
 }
 
-/// Puts a text without its escapes behind another.
+/// Appends a text, with its escapes `\n`, `\r` and `\s` (a blank) resolved.
 pub(crate) fn push_unescaped(alloc: Global, out: &mut String, text: &str) -> Option<()> {
     let lines = text.replace(alloc, "\\n", "\n").ok()?;
     let returns = lines.as_str().replace(alloc, "\\r", "\r").ok()?;
@@ -36,7 +36,7 @@ pub(crate) fn begin(given: &mut Given) -> Option<()> {
     Some(())
 }
 
-/// Writes the lines of the text but for those of states and of proofs.
+/// Writes the lines of a text that begin with a letter from a to r, so without states, proofs, `seed` and `scratch`.
 pub(crate) fn show(text: &str, out: &mut String) -> Option<()> {
     for line in text.split("\n") {
         if let [b'a'..=b'r', ..] = line.as_bytes() {

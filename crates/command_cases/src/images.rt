@@ -1,10 +1,10 @@
-//! Runs of images given as bytes, with answers of the outside: where such a run ends and what is seen of it.
+//! Runs images that are given as bytes, with answers of the outside, and shows how the run stands at the end and its events.
 use ascii_scan::number;
 use std::alloc::{AllocError, Global};
 use thumb_assembler::ImageMachine;
 use thumb_machine::{Answer, Answers, Bytes, Event, Stage, State};
 
-/// Zeros, sp 0x20001000 and lr 0xffffffff.
+/// The state in which an image starts: all zero but sp, 0x20001000, and lr, 0xffffffff.
 fn start(alloc: Global) -> State {
     State {
         r: [0; 13],
@@ -16,7 +16,7 @@ fn start(alloc: Global) -> State {
     }
 }
 
-/// Answers of these words, without flags and bytes.
+/// An answer for each word: the word in each register, the flags 0, and no bytes.
 fn answers(alloc: Global, words: &[String]) -> Option<Answers> {
     let mut list = Vec::new(alloc);
     for word in words {
@@ -56,7 +56,7 @@ fn event_word(event: &Event) -> &'static str {
     }
 }
 
-/// The stage of a run, and its events.
+/// The line that shows how a run stands, and its events.
 fn told(alloc: Global, stage: Stage, events: &[Event]) -> Result<Vec<u8>, AllocError> {
     let mut out = stage_word(stage).as_bytes().to_vec(alloc)?;
     out.push(b':')?;
@@ -67,7 +67,7 @@ fn told(alloc: Global, stage: Stage, events: &[Event]) -> Result<Vec<u8>, AllocE
     Ok(out)
 }
 
-/// The last stage and the events of a run of an image.
+/// Runs the image that the words of a script's line give, and shows how the run stands and its events; None if a word can't be read.
 pub(crate) fn image(alloc: Global, words: &[String]) -> Option<Vec<u8>> {
     let [digits, end, steps, given @ ..] = words else {
         return None;

@@ -1,6 +1,6 @@
-//! Runs the commands by a script from standard input, and prints how each ends, what it prints and what it keeps.
+//! Runs the commands by a script from standard input, and shows of each its status, what it prints and what it keeps. The gate compares this with `stdout`.
 //!
-//! `script` tells what a line may be. A line that can't be read, or for which memory is wanting, is answered by `?`.
+//! `script` says what a line may be. A line that can't be carried out, or for which memory runs out, is answered by `?`.
 #![tactic(auto)]
 
 mod images;

@@ -1,11 +1,11 @@
-//! Cases, and runs of the top call over their stores.
+//! Cases: each has a store, over which the top call is run, and remembers which texts were shown, so that only new ones are shown again.
 use crate::shown::show;
 use audit_cli::peep;
 use outer_store::{MemSink, MemStore, Sink, Store, StoreError};
 use std::alloc::{AllocError, Global};
 use step_ledger::{Counted, Steps};
 
-/// What was put under names or shown of them, and what is sought in the next run.
+/// The texts under names that the case put there or has shown, and the pieces that are sought in the next run.
 #[derive(Drop)]
 pub(crate) struct Notes {
     alloc: Global,
@@ -13,7 +13,7 @@ pub(crate) struct Notes {
     pub(crate) sought: MemStore,
 }
 
-/// A case: its store, what is noted of it, and which call of each sink fails.
+/// A case: its store, its notes, and the number, from 1, of the call that fails of each sink; 0 if none does.
 #[derive(Drop)]
 pub(crate) struct Case {
     store: MemStore,
@@ -21,12 +21,12 @@ pub(crate) struct Case {
     pub(crate) sink: u64,
 }
 
-/// A store without texts, of which no call fails.
+/// A store without texts that never fails.
 pub(crate) fn empty(alloc: Global) -> MemStore {
     MemStore::new(alloc, Vec::new(alloc), Vec::new(alloc))
 }
 
-/// The words of a line.
+/// The words of a line, one blank apart; `''` is the empty word.
 pub(crate) fn words_of(alloc: Global, line: &str) -> Result<Vec<String>, AllocError> {
     let mut words = Vec::new(alloc);
     if line.is_empty() {
@@ -39,7 +39,7 @@ pub(crate) fn words_of(alloc: Global, line: &str) -> Result<Vec<String>, AllocEr
     Ok(words)
 }
 
-/// A line of words, and how it ended.
+/// The line that shows the words of a run and its status.
 fn ending(alloc: Global, line: &str, code: u8) -> Result<Vec<u8>, AllocError> {
     let mut out = line.as_bytes().to_vec(alloc)?;
     out.extend_from_slice(b": status ")?;
@@ -49,7 +49,7 @@ fn ending(alloc: Global, line: &str, code: u8) -> Result<Vec<u8>, AllocError> {
 }
 
 impl Notes {
-    /// Shows what is held under a word, unless that is known.
+    /// Shows the text under a word, unless it is the known one, and notes it as known.
     fn show_new(
         &mut self,
         out: &mut Vec<u8>,
@@ -64,7 +64,7 @@ impl Notes {
         self.known.keep(word, text).ok()
     }
 
-    /// Runs the words of a line, and shows how it ends and what is then held under them.
+    /// Runs the words of a line, and shows the status and the new texts under those words that name one.
     fn run<S: Store, O: Sink>(
         &mut self,
         line: &str,
@@ -97,13 +97,13 @@ impl Case {
         }
     }
 
-    /// Holds a text from now on.
+    /// Puts a text into the case's store, and notes it as known.
     pub(crate) fn hold(&mut self, name: &str, text: &[u8]) -> Result<(), StoreError> {
         self.store.keep(name, text)?;
         self.notes.known.keep(name, text)
     }
 
-    /// Runs the words of a line over the case's store, and gives what is printed.
+    /// Runs the words of a line over the case's store and a new sink, and returns what is to be shown.
     pub(crate) fn run(&mut self, alloc: Global, line: &str) -> Option<Vec<u8>> {
         let words = words_of(alloc, line).ok()?;
         let mut sink = MemSink::new(alloc, [self.sink].to_vec(alloc).ok()?);
@@ -115,7 +115,7 @@ impl Case {
         Some(out)
     }
 
-    /// Runs the words of a line over another store and sink, the store holding under them what the case knows of, and gives what is printed.
+    /// Runs the words of a line over another store and sink, after the texts that the case knows under these words are put there. Returns what is to be shown.
     pub(crate) fn run_elsewhere<S: Store, O: Sink>(
         &mut self,
         alloc: Global,

@@ -1,23 +1,24 @@
-//! The commands over stores in memory and over files: how each ends, what it prints and what it keeps; the lines of such a script, and what they leave for those behind them.
+//! Carries out a script of command runs, over stores in memory or over files, line by line.
 //!
-//! A line is blank, a comment behind `#` and a blank, or one of these, in which words stand one blank apart and `''` is an empty word:
+//! A line is blank, a comment after `#` and a blank, or one of these, in which words stand one blank apart and `''` is an empty word:
 //!
 //! | line | what it does |
 //! |---|---|
-//! | `text NAME TEXT ..` | begins a text that all later cases may use, with what stands in other such texts |
+//! | `text NAME TEXT ..` | begins a text that all later cases may use, with the content of other such texts |
 //! | `case NAME` | begins a case, whose store holds nothing and never fails |
 //! | `file NAME TEXT ..` | begins a text that the case's store holds |
-//! | `piece NAME TEXT ..` | begins a text that is sought in what the next run keeps under the name, or in what it prints, where the name is `put` |
-//! | `\|LINE` | a line of the text begun last, with its newline |
-//! | `use TEXT ..` | what stands in these texts |
-//! | `times COUNT TEXT` | so many times what stands in this one |
-//! | `bytes DIGITS` | bytes by their hexadecimal digits |
-//! | `bare` | takes back the last byte |
-//! | `store NUMBER`, `sink NUMBER` | that call of the case's store, of which `file` makes one, or of the sink of each run fails |
-//! | `run WORD ..` | runs the words over the case's store, and shows the status, what is new under the words, and what is printed, as `put` |
-//! | `files WORD ..` | the same over the files of the folder, into which what the case holds is put first, and over standard output |
+//! | `piece NAME TEXT ..` | begins a text that is sought in what the next run keeps under the name, or, if the name is `put`, in what it prints |
+//! | `\|LINE` | appends a line to the text begun last, with its newline |
+//! | `use TEXT ..` | appends the content of these texts |
+//! | `times COUNT TEXT` | appends the content of this text so many times |
+//! | `bytes DIGITS` | appends bytes, given by their hexadecimal digits |
+//! | `bare` | removes the last byte |
+//! | `store NUMBER` | begins the case anew, with a store whose call of this number fails; each `file` is a call |
+//! | `sink NUMBER` | makes the call of this number fail in the sink of each run |
+//! | `run WORD ..` | runs the words over the case's store, and shows the status, the new texts under the words, and what is printed, as `put` |
+//! | `files WORD ..` | the same over the files of the working directory, after the case's texts are put there, and over standard output |
 //! | `remove NAME` | removes a file |
-//! | `image DIGITS END STEPS ANSWER ..` | runs an image that lies at 0 and whose code ends at END for so many steps, with answers of these words, and shows the stage and the events |
+//! | `image DIGITS END STEPS ANSWER ..` | runs an image at 0, whose code ends at END, with answers of these words, and shows stage and events |
 use crate::images::image;
 use crate::runs::{Case, empty, words_of};
 use crate::shown::title;
@@ -33,7 +34,7 @@ enum Purpose {
     Sought,
 }
 
-/// The texts that all cases may use, the case begun last, and the text begun last.
+/// The texts that all cases may use, the case begun last, and the text begun last with its purpose and name.
 #[derive(Drop)]
 pub(crate) struct Script {
     alloc: Global,
@@ -56,7 +57,7 @@ impl Script {
         }
     }
 
-    /// Ends the text begun last.
+    /// Ends the text begun last: puts it where its purpose says.
     fn end(&mut self) -> Result<(), StoreError> {
         let name = self.name.as_str();
         match self.purpose {
@@ -66,7 +67,7 @@ impl Script {
         }
     }
 
-    /// Begins a text with a name, and the shared texts that it begins with.
+    /// Ends the text begun last and begins another: `rest` has its name and the shared texts that it begins with.
     fn begin(&mut self, purpose: Purpose, rest: &str) -> Option<()> {
         self.end().ok()?;
         let (name, texts) = rest.split_once(' ').unwrap_or((rest, ""));
@@ -95,7 +96,7 @@ impl Script {
         Some(())
     }
 
-    /// Adds what a line says to the text begun last, and tells whether it says so.
+    /// Carries out a line that changes the text begun last; false if the line is of another kind.
     fn build(&mut self, word: &str, rest: &str) -> Option<bool> {
         match word {
             "use" => self.add_all(rest)?,
@@ -113,7 +114,7 @@ impl Script {
         Some(true)
     }
 
-    /// Does what a line says that adds to no text, and gives what is printed.
+    /// Carries out a line that doesn't change the text begun last, and returns what is to be shown.
     fn act<S: Store, O: Sink>(
         &mut self,
         word: &str,
@@ -144,7 +145,7 @@ impl Script {
         Some(Vec::new(alloc))
     }
 
-    /// Does what a line says, with the files and the standard output at hand, and gives what is printed.
+    /// Carries out a line, with the real files and standard output for `files`, and returns what is to be shown.
     pub(crate) fn obey<S: Store, O: Sink>(
         &mut self,
         line: &str,

@@ -1,4 +1,4 @@
-//! How a case shows the texts that a command leaves: in full, or by the name of a text that the case knows already, so that outputs stay short.
+//! How a case shows the texts that a command keeps or prints: in full, or by the name of a text that the case knows already, so that outputs stay short.
 use crate::runs::Notes;
 use std::alloc::{AllocError, Global};
 
@@ -10,7 +10,7 @@ pub(crate) fn title(alloc: Global, name: &str) -> Result<Vec<u8>, AllocError> {
     Ok(line)
 }
 
-/// Whether bytes are those of lines without control characters other than tabs.
+/// Whether the bytes are printable ASCII, tabs and newlines.
 fn is_plain(text: &[u8]) -> bool {
     for byte in text {
         if !matches!(*byte, b'\n' | b'\t' | b' '..=b'~') {
@@ -20,7 +20,7 @@ fn is_plain(text: &[u8]) -> bool {
     true
 }
 
-/// Shows the lines of a text as a case writes them.
+/// Shows the lines of a text as a script writes them.
 fn show_lines(out: &mut Vec<u8>, text: &[u8]) -> Result<(), AllocError> {
     let mut begins = true;
     for byte in text {
@@ -36,7 +36,7 @@ fn show_lines(out: &mut Vec<u8>, text: &[u8]) -> Result<(), AllocError> {
     Ok(())
 }
 
-/// Whether a piece stands in a text.
+/// Whether a text contains a piece.
 fn has_piece(text: &[u8], piece: &[u8]) -> bool {
     for at in 0..text.len() {
         if text[at..].starts_with(piece) {
@@ -46,7 +46,7 @@ fn has_piece(text: &[u8], piece: &[u8]) -> bool {
     false
 }
 
-/// The first of the words under which a text is known.
+/// The first of the words under which this text is known, if any.
 fn name_of<'a>(notes: &Notes, words: &'a [String], text: &[u8]) -> Option<&'a str> {
     for word in words {
         if notes.known.held(word.as_str()) == Some(text) {
@@ -56,7 +56,7 @@ fn name_of<'a>(notes: &Notes, words: &'a [String], text: &[u8]) -> Option<&'a st
     None
 }
 
-/// Shows a text and its name: whether it has the piece that is sought there, or under which of the words it is known, or else all of it.
+/// Shows a name and its text: whether the text has the piece that is sought there, or under which of the words it is known, or else all of it.
 pub(crate) fn show(
     alloc: Global,
     out: &mut Vec<u8>,

@@ -1,4 +1,5 @@
--- Lines that have an address for each name that needs one, and set none inside their image, keep this when they are rewritten: no label goes, and the end comes no later.
+-- Lines that have an address for each name that needs one, and set none inside their image, keep this when they are rewritten: no label is lost, and
+-- the end lies no later.
 use Rattle.std.proofs.Common.{◌≡◌, ◌∙◌, inl, inr, ◌⊎◌, ℕ, zero, suc, ◌+◌, ◌-◌, ◌*◌, ◌/◌, ◌%◌, ◌<◌, ◌≤◌, ◌==◌, ◌&&◌, ◌||◌, not, Bool, true, false, List, [], ◌∷◌, ◌++◌, length, map, take, drop, refl, sym, ap, subst, arith, true≢false, Option, Some, None, ne_eqb, if◌then◌else◌}
 use Rattle.std.specs.Prelude.{is_some, nat_le, nat_lt}
 use Rattle.std.specs.Str.{bytes_eq}
@@ -30,7 +31,7 @@ use Rattle.kept_layout.proofs.SetsKept.{op_sets_none, without_sets, labels_set_n
 
 -- ---- paddings ----
 
--- it ends at a multiple, and is below one size
+-- the padded place is a multiple of the size, and the padding is less than the size
 record Near (size at : ℕ) : Type 0 where
   number : ℕ
   ends : at + need size at ≡ number * size
@@ -60,7 +61,7 @@ near size at some =
           )
     ]
 
--- so far before a multiple just that is needed
+-- at a distance of less than the size before a multiple, exactly that distance is needed
 need_is : (size at number d : ℕ) → 0 < d → d < size → at + d ≡ number * size → need size at ≡ d
 need_is size at zero d some less e = absurd (let z : zero * size ≡ 0 = zero-mul size in omega (arith, e, z, some))
 need_is size at (suc k) d some less e =
@@ -81,7 +82,7 @@ no_size most at = go (nat_le (need 0 at) most) where
   go true = none
   go false = refl
 
--- a later place is padded to no earlier one
+-- padding is monotone: a later place is not padded to an earlier one
 grown : (size most x y : ℕ) → x ≤ y → x + padding size most x ≤ y + padding size most y
 grown zero most x y l = let a = no_size most x in let b = no_size most y in omega (arith, a, b, l)
 grown (suc n) most x y l = elim (cases_Bool (nat_le (need (suc n) x) most)) [
@@ -119,7 +120,7 @@ end_later : (ls : List ListingLine) (x y : ℕ) → x ≤ y → end_of x ls ≤ 
 end_later [] x y l = l
 end_later (k ∷ ks) x y l = end_later ks (x + size_at k.statement x) (y + size_at k.statement y) (size_later k.statement x y l)
 
--- where n instructions go, none of which an alignment line stands between, the end comes 2 * n bytes earlier at least
+-- if n instructions are removed, with no alignment line between them, the end lies at least 2 * n bytes earlier
 WithoutRec : ℕ → List ListingLine → Type 0
 WithoutRec n ls = (x y : ℕ) → AreOps n (places_of ls) → are_joined n ls ≡ true → x ≤ y + 2 * n → end_of x (without n ls) ≤ end_of y ls
 
@@ -263,7 +264,7 @@ lies_told base ls name =
     some_else (label_address name base ls) (cleared (set_address name ls))
     ∙ (ap (λ (b : Bool). b || is_some (cleared (set_address name ls))) (sym (labelled name 0 base ls)) ∙ ap (λ (b : Bool). has_label name (labels_from 0 ls) || b) (some_cleared (set_address name ls)))
 
--- a name lies somewhere as before
+-- whether a name lies somewhere doesn't change
 lies_after : (s : Setting) (r : Replacement) (ls : List ListingLine) (base : ℕ) (name : Name) → AreSound s.table → AppliesIn s r ls → lies_nowhere base (lines_after s r ls) name ≡ lies_nowhere base ls name
 lies_after s r ls base name sound a =
     let new = lines_after s r ls in
@@ -274,7 +275,7 @@ lies_after s r ls base name sound a =
 
 -- ---- flaws ----
 
--- what a flaw is has no name outside its crate
+-- the type of flaws, which has no name outside its crate
 abbrev Flawed : {A : Type 0} → (ℕ → List ListingLine → Statement → Option A) → Type 0
 Flawed {A} told = A
 
@@ -284,7 +285,7 @@ Flaw = Flawed flaw_of
 none_as_before : {A : Type 0} (f : A) (new old : Bool) → new ≡ old → (if old then Some f else None) ≡ None → (if new then Some f else None) ≡ None
 none_as_before {A} f new old e h = ap (λ (b : Bool). if b then Some f else None) e ∙ h
 
--- a statement has none in lines by which as many names lie somewhere, and which end no later
+-- a statement without a flaw has none in other lines in which the same names lie somewhere and which end no later
 module _ (base : ℕ) (old new : List ListingLine) (lies : (name : Name) → lies_nowhere base new name ≡ lies_nowhere base old name) (ends : end_of base new ≤ end_of base old) where
   branch_stays : (i : Instr) (mention : Option Mention) → branch_lost base new i mention ≡ branch_lost base old i mention
   branch_stays i None = refl
@@ -316,7 +317,7 @@ module _ (base : ℕ) (old new : List ListingLine) (lies : (name : Name) → lie
   flaw_stays (Aligns size most) h = refl
   flaw_stays (Sets name address) h = outside_stays _ address (nat_le base address) refl h
 
--- each statement of lines has none
+-- no statement of the lines has a flaw
 AreFlawless : ℕ → List ListingLine → List ListingLine → Type 0
 AreFlawless base all [] = Unit {0}
 AreFlawless base all (l ∷ ls) = (flaw_of base all l.statement ≡ None) × AreFlawless base all ls

@@ -1,4 +1,4 @@
--- Each status but Done and Memory has its cause, and none comes where the texts that were read are fit.
+-- Each status but Done and Memory has a cause, and no cause is possible if nothing fails and the texts that were read are fit.
 use Rattle.std.proofs.Common.{◌≡◌, inr, ℕ, List, [], refl, subst}
 use Rattle.std.specs.Prelude.{All}
 use Rattle.std.specs.Str.{IsUtf8}

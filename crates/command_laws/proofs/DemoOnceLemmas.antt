@@ -1,4 +1,4 @@
--- What `demo` tells is fixed by the table that is learnt.
+-- What `demo` prints is determined by the table that is learnt.
 use Rattle.std.proofs.Common.{◌≡◌, ◌∙◌, ℕ, List, ◌++◌, length, sym, ap, subst}
 use Rattle.thumb_model.specs.Listing.{ListingLine}
 use Rattle.rule_model.specs.Rewriting.{Replacement}

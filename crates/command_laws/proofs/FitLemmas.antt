@@ -1,4 +1,4 @@
--- Fit texts come to no refusal, but that a learnt table's text is too long.
+-- Commands with fit texts aren't refused, except that the text of a table which is learnt or gets a family may be too long.
 use Rattle.std.proofs.Common.{◌≡◌, ◌∙◌, ◌≤◌, ◌⊎◌, inl, inr, ℕ, List, [], ◌∷◌, true≢false, refl, sym, subst, arith, Option, Some, None, length}
 use Rattle.std.specs.Prelude.{IsSome}
 use Rattle.thumb_model.specs.Listing.{ListingLine, code_of, place_of}
@@ -44,7 +44,7 @@ use Rattle.audit_cli.proofs.DemoLemmas.{never_unaudited, none_some, never_withou
 use Rattle.command_laws.proofs.OnceLemmas.{Cause, one_audited, never_unlisted, first_same, second_same, never_unread_listing, never_unlaid, apart, entry_moved, family_moved}
 use Rattle.std.proofs.lemmas.Option.{same_Some}
 
--- it refuses
+-- the outcome is a refusal
 IsRefusing : Outcome → Type 0
 IsRefusing (Refuses line) = Unit {0}
 IsRefusing (Does keeps lines) = ⊥
@@ -190,7 +190,7 @@ never_refuses r texts line plain fit h = fit_unrefused r texts (Refuses line) pl
 
 -- ---- where a table is learnt ----
 
--- a refusal is that of a text that is too long
+-- if the outcome is a refusal, it is that of a text that is too long
 TellsFullIf : Outcome → Type 0
 TellsFullIf (Refuses line) = TellsFull line
 TellsFullIf (Does keeps lines) = Unit {0}

@@ -1,4 +1,4 @@
--- What `generalise` makes of a text is one outcome, but where the solver is asked.
+-- A text determines the outcome of `generalise`, except where the solver is asked.
 use Rattle.std.proofs.Common.{◌≡◌, ◌∙◌, ◌⊎◌, inl, inr, ℕ, List, [], ◌∷◌, refl, sym, subst}
 use Rattle.rule_table.specs.Table.{Rule, Family, Table}
 use Rattle.command_runs.specs.Plans.{Outcome}
@@ -8,7 +8,7 @@ use Rattle.audit_cli.proofs.GeneraliseLemmas.{not_none, not_unraisable}
 use Rattle.command_laws.specs.Once.{AreOfOneFamily, GeneralisingIsOneButForSearches}
 use Rattle.command_laws.proofs.OnceLemmas.{Cause, refuses_same, unaudited_once, one_audited, first_same}
 
--- a table gets no family for one cause, or has an entry that can be raised
+-- the cause for which a table gets no family is determined, or the table has an entry that can be raised
 unraised_once : (t : Table) (f : Family) (r s : Cause) → IsUnraised t f r → IsUnraised t f s → (r ≡ s) ⊎ ((e : Rule) × IsRaisableFor t f e)
 unraised_once t f _ _ (no_entry a) (no_entry b) = inl refl
 unraised_once t f _ _ (no_entry a) (unraisable b) = absurd (not_none t f b.0 b.1 a)

@@ -33,7 +33,7 @@ apart : {X : Type 0} (m n : ℕ) → pos m ≡ negsuc n → X
 unfolding is_pos
 apart m n e = absurd (true≢false (ap is_pos e))
 
--- a distance has one field
+-- a distance has one encoding as a field of bits
 field_once : (half x y : ℕ) → x < 2 * half → y < 2 * half → bytes_of half x ≡ bytes_of half y → x ≡ y
 unfolding magnitude
 field_once half x y k l e = elim (cases_Bool (nat_lt x half)) [

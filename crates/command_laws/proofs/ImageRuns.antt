@@ -1,4 +1,4 @@
--- The laid naming fits the lines that are left, and so the given ones where it tells their code points apart.
+-- The laid naming fits the rewritten lines, and the given ones too if it gives their code points different words.
 use Rattle.thumb_model.specs.Listing.{code_of}
 use Rattle.thumb_model.specs.Naming.{Fits, laid}
 use Rattle.rule_model.proofs.Given.{left_namings_fit}

@@ -1,4 +1,4 @@
--- Why texts come to one outcome: tables, listings, layouts, rewritings and images are each determined, and so is the first cause by which one is refused.
+-- Texts determine outcomes, since tables, listings, layouts, rewritings and images are each determined, and so is the first cause for which one is refused.
 use Rattle.std.proofs.Common.{◌≡◌, ◌∙◌, ◌≤◌, ◌<◌, ◌⊎◌, inl, inr, ℕ, zero, suc, List, [], ◌∷◌, ◌++◌, length, refl, sym, ap, subst, arith, Option, Some, None}
 use Rattle.std.specs.Prelude.{nat_le, nat_lt, false}
 use Rattle.std.proofs.lemmas.Bool.{cases_Bool, leb-true, leb-false, le-ltb}
@@ -41,7 +41,7 @@ use Rattle.command_laws.specs.Once.{IsOne, AreOfOneListing, LearningIsOneButForT
 use Rattle.audit_cli.proofs.DemoLemmas.{never_unaudited, none_some, never_without_image}
 use Rattle.command_laws.proofs.ImageLemmas.{image_once}
 
--- what a family goes over; a cause of refusal has no name outside its crate
+-- the domain of a predicate: a way to name the type of refusals, which has no name outside its crate
 abbrev pub Domain : {A : Type 0} → (A → Type 0) → Type 0
 Domain {A} P = A
 
@@ -179,7 +179,7 @@ second_same a b c d xs ys e = ap (λ (l : List (List ℕ)). second l) e where
   second (x ∷ []) = b
   second (x ∷ (y ∷ rest)) = y
 
--- what one text comes to once, texts come to once
+-- if one text has at most one outcome, so has a list of one text
 pub one_text : (Comes : List ℕ → Outcome → Type 0) → ((text : List ℕ) (o p : Outcome) → Comes text o → Comes text p → o ≡ p) → IsOne (λ texts o. (text : List ℕ) × (texts ≡ text ∷ []) × Comes text o)
 one_text Comes once texts o p (text, is, h) (other, are, k) =
     let same : other ≡ text = first_same other text [] [] (sym are ∙ is) in
@@ -203,7 +203,7 @@ audits_once text _ _ (tables.accepted t is) (tables.accepted u are) = ap (λ (x 
 pub audit_once : IsOne tables.AuditComesTo
 audit_once = one_text tables.Audits audits_once
 
--- a number is that of an entry or of a family
+-- no number is both that of an entry and that of a family
 pub apart : (t : Table) (n : ℕ) (e : Rule) (f : Family) → entry_at t.rules n ≡ Some e → family_at t n ≡ Some f → ⊥
 apart t zero e f h k = none_some (entry_at t.rules zero) e refl h
 apart t (suc n) e f h k =
@@ -240,7 +240,7 @@ families_once to t f _ _ (tables.raised e h r n) (tables.raises_unfit x k m) = a
 families_once to t f _ _ (tables.raised e h r n) (tables.unraisable x k s m) = absurd (m (subst (λ (y : Rule). IsRaisable t.header.pool f y.left) (raised_same t f e x h k) n))
 families_once to t f _ _ (tables.raised e h r n) (tables.raised x k s m) = ap (λ (y : Rule). exported to (raised_formula t.header f y) f.proof) (raised_same t f e x h k)
 
--- what is said of one table of a text is so of the other
+-- two tables of one text have the same entry with a number
 pub entry_moved : (to : ExportArguments) (text : List ℕ) (t u : Table) (o : Option Rule) → IsText text t → IsText text u → entry_at t.rules to.entry ≡ o → entry_at u.rules to.entry ≡ o
 entry_moved to text t u o is are h = subst (λ (x : Table). entry_at x.rules to.entry ≡ o) (one_table text t u is are) h
 
@@ -310,13 +310,13 @@ trim_once out = one_text (trimming.Trims out) (trims_once out)
 
 -- ---- `learn` ----
 
--- the audit accepts no table with more sequences
+-- a table that is learnt has no more than 5,000,000 sequences below its longest windows, since the audit accepts it
 narrow_learnt : (s : Settings) (windows : List Window) (t : Table) → Learnt s windows t → width_of s ≤ 5000000
 narrow_learnt s windows t h =
     let width : width_of t.header ≤ 5000000 = h.accepted.1.0 in
     subst (λ (x : Settings). width_of x ≤ 5000000) h.header width
 
--- with many sequences lines are refused for that
+-- if there are more, that is the only cause of a refusal
 wide_causes : (s : Settings) (lines : List ListingLine) (r q : Cause) → 5000000 < width_of s → IsUnlearnt s lines r → IsUnlearnt s lines q → r ≡ q
 wide_causes s lines _ _ many (learning.too_wide w) (learning.too_wide v) = refl
 wide_causes s lines _ q many (learning.too_long windows are t bytes full) k = absurd (let few = narrow_learnt s _ t full.learnt in omega (arith, few, many))
@@ -348,7 +348,7 @@ learning_once to texts o p (text, is, h) (other, are, k) =
       | inr tables ↦ inr (text, is, tables)
     ]
 
--- by costs: a text is one of costs and says what they are, or it is refused at one line
+-- with costs: their text determines them, or the line at which it is refused
 by_costs_once : (to : LearnArguments) (texts : List (List ℕ)) (text costs : List ℕ) (o p : Outcome) → texts ≡ text ∷ costs ∷ [] → LearnsByCosts to text costs o → LearnsByCosts to text costs p
     → (o ≡ p) ⊎ ((t bytes cs : List ℕ) × (texts ≡ t ∷ bytes ∷ []) × IsCostText bytes cs × AreOfOneListing (priced cs to) t o p)
 by_costs_once to texts text costs _ _ are (learning.unpriced n h) (learning.unpriced m k) = inl (ap unpriced_at (cost.refused_once costs n m h k))

@@ -1,4 +1,4 @@
--- Of each request by which the solver isn't asked, texts come to one outcome.
+-- Texts have at most one outcome for each request that doesn't ask the solver: all commands together.
 use Rattle.command_line.specs.CommandLine.{rewrite, audit, learn, export, trace, demo, upgrade, trim, tidy, generalise}
 use Rattle.command_laws.specs.Once.{TextsComeToOne}
 use Rattle.command_laws.proofs.OnceLemmas.{rewrite_once, audit_once, export_once, upgrade_once, trim_once}

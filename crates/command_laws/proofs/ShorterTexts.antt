@@ -1,4 +1,4 @@
--- Trimmed lines have no longer text: they are some of the given ones, in order, each with the first of its hints.
+-- The text of trimmed proof lines is no longer: they are some of the given lines, in order, each with a prefix of its hints.
 use Rattle.std.proofs.Common.{◌≡◌, ◌∙◌, ◌⊎◌, inl, inr, ℕ, ℤ, zero, suc, ◌+◌, ◌<◌, ◌≤◌, List, [], ◌∷◌, ◌++◌, length, map, take, refl, sym, ap, subst, arith, length-append}
 use Rattle.std.specs.Prelude.{All, AllPairs, Contains, decimal}
 use Rattle.std.specs.Fmt.{signed_decimal}
@@ -59,7 +59,7 @@ abbrev pub bytes_of : List Content → ℕ
 bytes_of [] = 0
 bytes_of (line ∷ lines) = length (text_of line) + 1 + bytes_of lines
 
--- an addition of the lines with the first of its hints
+-- an addition among the lines, with a prefix of its hints
 IsPart : List Content → Content → Type 0
 IsPart lines (addition id literals hints) = (all : List ℤ) × (n : ℕ) × Contains lines (addition id literals all) × (hints ≡ take n all)
 IsPart lines (deletion id ids) = ⊥
@@ -68,7 +68,7 @@ Parts : List Content → List Content → Type 0
 Parts lines [] = Unit {0}
 Parts lines (x ∷ xs) = IsPart lines x × Parts lines xs
 
--- ids go up
+-- the ids are in ascending order
 Up : ℕ → List Content → Type 0
 Up last [] = Unit {0}
 Up last (x ∷ xs) = (last < id_of x) × Up (id_of x) xs

@@ -1,4 +1,4 @@
--- What `tidy` makes of a text is one outcome: the changes and the lines that are left are determined.
+-- A text determines the outcome of `tidy`: the changes and the tidied lines are determined.
 use Rattle.std.proofs.Common.{◌≡◌, ◌∙◌, ℕ, List, length, sym, ap, subst}
 use Rattle.thumb_model.specs.Listing.{ListingLine}
 use Rattle.listing_parser.proofs.MadeLemmas.{one_listing}

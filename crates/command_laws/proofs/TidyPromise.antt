@@ -1,4 +1,4 @@
--- A done run of `tidy` has done what its theorem says, field by field.
+-- A run of `tidy` that ends as Done has done what its theorem says, field by field.
 use Rattle.std.proofs.Common.{◌≡◌, ◌∙◌, ℕ, List, [], ◌∷◌, ◌++◌, length, ap, subst}
 use Rattle.std.specs.Prelude.{Ok}
 use Rattle.thumb_model.specs.Listing.{ListingLine}

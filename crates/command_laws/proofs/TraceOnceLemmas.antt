@@ -1,4 +1,4 @@
--- Why what `trace` comes to is one: two laid namings of lines differ in nothing that a run asks for, and a run of at most so many steps has one end.
+-- A text determines the outcome of `trace`: two namings of a layout agree in all that a run uses, and a run of at most so many steps has one end.
 use Rattle.std.proofs.Common.{◌≡◌, ◌∙◌, ◌<◌, inl, inr, ℕ, zero, suc, ◌+◌, true, false, List, [], ◌∷◌, ◌++◌, take, refl, sym, ap, subst, arith, true≢false, Option, Some, None}
 use Rattle.std.specs.Prelude.{slice_get, nat_lt}
 use Rattle.std.proofs.lemmas.Bool.{cases_Bool, ltb-true, ltb-false}
@@ -25,7 +25,7 @@ use Rattle.std.proofs.lemmas.Option.{same_Some}
 
 -- ---- namings that agree ----
 
--- they have the same words and range, and the same return words of so many calls
+-- the namings have the same words and range, and the same return words for the first `calls` calls
 record Agree (calls : ℕ) (a b : Naming) : Type 0 where
   words : a.word_of ≡ b.word_of
   low : a.low ≡ b.low
@@ -62,13 +62,13 @@ returns_same a b (x ∷ xs) k p h = elim (cases_Bool (is_call x)) [
       )
 ]
 
--- the link counts for calls alone
+-- the link matters for calls alone
 link_free : (around : Around) (link other : ℕ) (i : Instr) (w : World) → is_call_instr i ≡ false → act (record around { link = link }) i w ≡ act (record around { link = other }) i w
 link_free around link other (instr.Blx m) w e = absurd (true≢false e)
 link_free around link other (instr.Call d) w e = absurd (true≢false e)
 link_free around link other i w e = refl
 
--- as many calls stand before a call as its number says, which is less than there are
+-- the number of calls before a call is less than the number of calls in all
 call_before : (places : List Place) (p : ℕ) (x : Place) → slice_get places p ≡ Some x → is_call x ≡ true → call_count (take p places) < call_count places
 call_before [] p x e c = absurd (cc)
 call_before (y ∷ ys) zero x e c =
@@ -101,7 +101,7 @@ module _ (code : Code) (a b : Naming) (agree : Agree (call_count code.places) a 
   lands_same : (w : ℕ) → landing mid w (point_among w (points mid code)) ≡ landing b w (point_among w (points b code))
   lands_same w = ap (λ (ps : List (ℕ × ℕ)). landing b w (point_among w ps)) points_same
 
-  -- what an instruction stands in, but for its link
+  -- the surroundings of an instruction are the same, except for its link
   linked : (p : ℕ) (i : Instr) (mention : Option Mention) → around_of mid code p i mention ≡ record (around_of b code p i mention) { link = mid.return_word (call_count (take p code.places)) }
   linked p i mention = λ j. record {
     target = target_at b mention (aim_of code mention);
@@ -175,7 +175,7 @@ last_same (u ∷ (w ∷ xs)) [] x y e = absurd (cc)
 last_same (u ∷ xs) (v ∷ ys) x y e = last_same xs ys x y (cc)
 
 module _ (names : Naming) (code : Code) (most : ℕ) where
-  -- a run that stands so after n steps goes no further
+  -- a run that stands in this way after n steps takes no further step
   stops : (n : ℕ) (s : State) (x : Stage) → StandsAfter names code most n s x → n < most → GoesOn names code s → ⊥
   stops n s _ (goes running all) less on = omega (arith, all, less)
   stops n s _ (wants fewer stay) less on = on.enough stay
@@ -216,7 +216,7 @@ module _ (names : Naming) (code : Code) (most : ℕ) where
 
 -- ---- `trace` ----
 
--- what is told of a run
+-- the outcome that prints a run
 abbrev told : TraceArguments → List ListingLine → Naming → ℕ → Stage → Outcome
 told asked lines names n s = Does [] (event_lines (times (step names (code_of lines)) n (begun (code_of lines) asked.label start_world [])).events ++ steps_line n s)
 

@@ -1,4 +1,4 @@
--- What is left of an accepted table when its proofs are trimmed.
+-- A table with trimmed proofs: the audit accepts it, its text is no longer, it is determined, and trimming it again changes nothing.
 use Rattle.std.proofs.Common.{◌≡◌, ◌∙◌, inl, inr, ℕ, zero, suc, ℤ, ◌+◌, ◌≤◌, List, [], ◌∷◌, ◌++◌, Option, Some, None, length, map, refl, sym, ap, ap₂, subst, take, arith, length-append}
 use Rattle.std.specs.Prelude.{All}
 use Rattle.std.specs.List.{AllZip, flat_map}
@@ -44,7 +44,7 @@ raising f proof = record f { proof = proof }
 abbrev holding : Table → List Rule → List Family → Table
 holding t rules families = record t { rules = rules; families = families }
 
--- the table is the given one with its own entries and families
+-- the trimmed table is the given one with the trimmed table's entries and families
 its_own : (t u : Table) → IsTrimmedTable t u → u ≡ holding t u.rules u.families
 its_own t u h = λ i. record { header = h.header i; states = h.states i; rules = u.rules; families = u.families }
 
@@ -199,7 +199,7 @@ room_logged (line ∷ lines) =
     let c = room_logged lines in
     omega arith
 
--- what the lines of an entry take but those of its proof
+-- how many bytes the lines of an entry take, without those of its proof
 apart : Rule → ℕ
 apart e = room (Entry ∷ map Left e.left) + (room (map Right e.right) + (room (Mask e.mask ∷ Proof ∷ []) + room (flat_map open_items e.opens)))
 
@@ -272,7 +272,7 @@ whole_room : (t : Table) → text_length t ≡ room (items_of t)
 unfolding room
 whole_room t = refl
 
--- what all lines of a table take
+-- how many bytes all lines of a table take
 table_room : (t : Table) → text_length t ≡ room (header_items t.header) + (room (map State t.states) + (room (flat_map rule_items t.rules) + (room (flat_map family_items t.families) + room (End ∷ []))))
 table_room t =
     let families : List Item = flat_map family_items t.families in
@@ -329,7 +329,7 @@ trimming_once t a b y z =
     let families = families_once t t.families a.families b.families y.families z.families in
     its_own t a y ∙ (ap₂ (holding t) rules families ∙ sym (its_own t b z))
 
--- trimmed again it stays as it is
+-- a trimmed entry, trimmed again, stays as it is
 rule_again : (h : Header) (e f : Rule) → IsReady h e → IsTrimmedRule h e f → IsTrimmedRule h f f
 rule_again h e f ready z =
     let again = trimmed_again (codes_of (formula_of h e).clauses) e.proof f.proof ready.refutes z.proof in
@@ -376,7 +376,7 @@ rewriting_alike h [] (f ∷ fs) z = absurd z
 rewriting_alike h (e ∷ es) [] z = absurd z
 rewriting_alike h (e ∷ es) (f ∷ fs) z = ap₂ (λ (r : model.Rule) (rs : List model.Rule). r ∷ rs) (ap rewriting_rule z.0.same) (rewriting_alike h es fs z.1)
 
--- a family's instances go by its entry's sides
+-- a family's instances depend only on its entry's sides
 instances_alike : (t u : Table) → IsTrimmedTable t u → (f g : Family) → IsTrimmedFamily t.header t.rules f g → instances_of g (entry_at u.rules g.entry) ≡ instances_of f (entry_at t.rules f.entry)
 instances_alike t u h f g z =
     let own = trimmed_at t.header t.rules u.rules f.entry z.entry h.rules z.is_entry in

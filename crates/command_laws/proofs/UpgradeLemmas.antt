@@ -1,4 +1,4 @@
--- Nothing that the audit says looks at a table's version.
+-- The audit's verdict doesn't depend on a table's version, so that a table and its upgrade have the same.
 use Rattle.std.proofs.Common.{◌≡◌, ◌∙◌, inl, inr, ℕ, ◌≤◌, [], false, refl, ap, arith, max, leb-false}
 use Rattle.std.proofs.lemmas.Bool.{cases_Bool, leb-true}
 use Rattle.rule_table.specs.Header.{has_families}

@@ -1,4 +1,4 @@
--- Fit texts are carried out: what a text must be that nothing in it stands in the way of a command.
+-- Commands with fit texts are carried out: which texts are fit, in that nothing in them lets the command be refused.
 use Rattle.std.specs.Prelude.{◌≡◌, ◌≤◌, ◌⊎◌, ℕ, All, List, [], ◌∷◌, ◌++◌, Some, None, IsSome, codes}
 use Rattle.std.specs.Str.{IsUtf8}
 use Rattle.thumb_model.specs.Listing.{ListingLine, code_of, place_of}
@@ -27,7 +27,7 @@ use Rattle.command_laws.specs.Once.{AsksSolver}
 
 -- ---- what is fit ----
 
--- an accepted table, and a well-formed listing that can be laid out, where an image is asked for with an address for each external name and none in the image
+-- an accepted table, and a well-formed listing that can be laid out; if an image is asked for, each external name has an address, and none lies in the image
 pub record FitRewriting (image : List ℕ) (base : ℕ) (texts : List (List ℕ)) : Type 0 where
   pub table_text : List ℕ
   pub listing_text : List ℕ
@@ -38,7 +38,7 @@ pub record FitRewriting (image : List ℕ) (base : ℕ) (texts : List (List ℕ)
   pub given : List ListingLine
   pub is_listing : IsListing listing_text given
   pub layable : Layable base given
-  -- each name that `b`, `bl` or `.word` mentions has a label or an address that a line sets, and no address that is set lies in the image
+  -- if an image is asked for: each name that `b`, `bl` or `.word` mentions has a label or an address that a line sets, and no set address lies in the image
   pub addresses : (image ≡ codes "-" → ⊥) → first_flaw base given ≡ None
 
 -- an accepted table
@@ -49,7 +49,7 @@ pub record FitAudit (texts : List (List ℕ)) : Type 0 where
   pub is_table : IsTableText text rules
   pub accepted : IsAccepted rules
 
--- an accepted table whose text in the version that is kept is not too long
+-- an accepted table whose text isn't too long in the version in which it is kept
 pub record FitUpgrade (texts : List (List ℕ)) : Type 0 where
   pub text : List ℕ
   pub is_text : texts ≡ text ∷ []
@@ -58,13 +58,13 @@ pub record FitUpgrade (texts : List (List ℕ)) : Type 0 where
   pub accepted : IsAccepted rules
   pub short : text_length (upgraded rules) ≤ text_limit
 
--- the table has an entry of this number, whose sides are what its header allows
+-- the table has an entry with this number, whose sides and mask the header allows
 pub record HasFitEntry (rules : Table) (number : ℕ) : Type 0 where
   pub entry : Rule
   pub is_entry : entry_at rules.rules number ≡ Some entry
   pub fit : SidesFit rules entry
 
--- the table has a family of this number behind its entries, of such an entry, whose number can be raised so
+-- the table has a family with this number after its entries, which raises such an entry, and whose number can be raised
 pub record HasFitFamily (rules : Table) (number : ℕ) : Type 0 where
   pub family : Family
   pub is_family : family_at rules number ≡ Some family
@@ -73,7 +73,7 @@ pub record HasFitFamily (rules : Table) (number : ℕ) : Type 0 where
   pub fit : SidesFit rules entry
   pub raisable : IsRaisable rules.header.pool family entry.left
 
--- a table with the one or the other
+-- a table, which need not be accepted, with such an entry or such a family
 pub record FitExport (number : ℕ) (texts : List (List ℕ)) : Type 0 where
   pub text : List ℕ
   pub is_text : texts ≡ text ∷ []
@@ -106,7 +106,7 @@ pub record FitLearning (s : Settings) (texts : List (List ℕ)) : Type 0 where
   pub is_listing : IsListing text lines
   pub narrow : width_of s ≤ 5000000
 
--- a well-formed listing and a text of costs, with which the settings have no more such sequences
+-- a well-formed listing, and a text of costs with which the settings have no more such sequences than that
 pub record FitLearningByCosts (s : Settings) (texts : List (List ℕ)) : Type 0 where
   pub text : List ℕ
   pub cost_text : List ℕ
@@ -117,7 +117,7 @@ pub record FitLearningByCosts (s : Settings) (texts : List (List ℕ)) : Type 0 
   pub are_costs : IsCostText cost_text costs
   pub narrow : width_of (record s { version = 4; costs = Some costs }) ≤ 5000000
 
--- an accepted table with an entry whose number can be raised so, whose sides with each value are equal under the mask, and no log spends the budget on the family
+-- an accepted table with an entry whose number can be raised in this way and whose sides with each value are equal under the mask, if no log spends the budget
 pub record FitGeneralising (f : Family) (texts : List (List ℕ)) : Type 0 where
   pub text : List ℕ
   pub is_text : texts ≡ text ∷ []
@@ -129,7 +129,7 @@ pub record FitGeneralising (f : Family) (texts : List (List ℕ)) : Type 0 where
   pub equal : AreEqualWithEach f entry (items_in entry.mask)
   pub unspent : (log : List Content) → IsSpentOn rules f log → ⊥
 
--- the texts are what a request needs
+-- the texts are fit for a request
 abbrev pub AreFit : Request → List (List ℕ) → Type 0
 AreFit (rewrite table listing out image base) texts = FitRewriting image base texts
 AreFit (audit table) texts = FitAudit texts
@@ -145,17 +145,17 @@ AreFit (generalise table entry number low high out) texts = FitGeneralising (wan
 
 -- ---- the laws ----
 
--- these are the texts that a call read under the names: those held, where the store tells, and those that its fetches answered
+-- these are the texts that a call read under the names: those that its fetches returned, and if the store shows its content, those that it held
 pub record WereRead (old new : Seen) (names texts : List (List ℕ)) : Type 0 where
   pub are : AreTexts old names texts
   pub later : List Event
   pub answered : new.events ≡ old.events ++ (fetchings names texts ++ later)
 
--- the texts that the call read are
+-- the texts that the call read are fit
 abbrev pub ReadsFit : Request → Seen → Seen → Type 0
 ReadsFit r old new = (texts : List (List ℕ)) → WereRead old new (plan_of r).names texts → AreFit r texts
 
--- where fit texts are read, what the words ask for is carried out; where the solver is asked, or the table's text is too long
+-- if fit texts are read, what the words ask for is carried out; where the solver is asked, the table's text may also be too long
 abbrev pub FitTextsAreCarriedOut : Type 0
 FitTextsAreCarriedOut = (words : List (List ℕ)) (r : Request) (old new : Seen) (before after : Sunk) (s : Status) → All IsUtf8 words → AskFor words r → Peeps words old new before after s
     → IsUnhindered (plan_of r) old new before after → ReadsFit r old new → (AsksSolver r → ⊥) → IsCarriedOut s

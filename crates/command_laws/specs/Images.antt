@@ -1,4 +1,4 @@
--- The run of the image that `rewrite` keeps, with nothing asked of a naming but what the given listing needs.
+-- The run of the image that `rewrite` keeps, with requirements on the naming that can be read off the listings.
 use Rattle.std.specs.Prelude.{ℕ, List}
 use Rattle.thumb_model.specs.Listing.{Name, ListingLine, code_of}
 use Rattle.thumb_model.specs.Naming.{laid}
@@ -9,7 +9,8 @@ use Rattle.listing_laws.specs.Assembled.{IsOutside}
 use Rattle.command_runs.specs.Plans.{Outcome}
 use Rattle.audit_cli.specs.Rewrite.{Destination, IsRewriting}
 
--- an image of the lines that are left meets their run; and the given lines' run, where no two of their code points at different places came to one address
+-- the run of an image of the rewritten lines reaches what theirs does, and what the given lines' run does if none of their code points at different places
+-- got the same address
 abbrev pub KeptImagesFollow : Type 0
 KeptImagesFollow =
     (to : Destination) (t : Table) (given : List ListingLine) (o : Outcome) (h : IsRewriting to t given o) (bytes : List ℕ) → IsAssembled to.base h.lines bytes

@@ -1,4 +1,4 @@
--- Texts come to one outcome: what a request is to do with them is fixed, but for what the solver's searches give where a table is learnt or a family added.
+-- Texts determine the outcome of a request, except for what the solver's searches find where a table is learnt or a family added.
 use Rattle.std.specs.Prelude.{◌≡◌, ◌≤◌, ◌⊎◌, ℕ, List, [], ◌∷◌}
 use Rattle.thumb_model.specs.Listing.{ListingLine}
 use Rattle.listing_parser.specs.Parsing.{IsListing}
@@ -13,11 +13,11 @@ use Rattle.audit_cli.specs.Printed.{IsAudited}
 use Rattle.audit_cli.specs.Generalise.{IsRaisableFor, Generalises, GeneraliseComesTo}
 use Rattle.audit_cli.specs.Peep.{plan_of}
 
--- texts come to at most one outcome
+-- texts have at most one outcome
 abbrev pub IsOne : (List (List ℕ) → Outcome → Type 0) → Type 0
 IsOne comes = (texts : List (List ℕ)) (o p : Outcome) → comes texts o → comes texts p → o ≡ p
 
--- the solver is asked: a table is learnt, or a family added
+-- the request asks the solver: a table is learnt, or a family added
 abbrev pub AsksSolver : Request → Type 0
 AsksSolver (rewrite table listing out image base) = ⊥
 AsksSolver (audit table) = ⊥
@@ -30,11 +30,11 @@ AsksSolver (trim table out) = ⊥
 AsksSolver (tidy listing out base) = ⊥
 AsksSolver (generalise table entry number low high out) = Unit {0}
 
--- so it is with each request by which it isn't
+-- texts have at most one outcome for each request that doesn't ask the solver
 abbrev pub TextsComeToOne : Type 0
 TextsComeToOne = (r : Request) → (AsksSolver r → ⊥) → IsOne (plan_of r).comes
 
--- a table was learnt from the lines of the one listing, and kept, or its text is too long
+-- both outcomes are of learning from the lines of the same listing: a table is kept, or its text is too long
 pub record AreOfOneListing (to : LearnArguments) (text : List ℕ) (o p : Outcome) : Type 0 where
   pub lines : List ListingLine
   pub listing : IsListing text lines
@@ -42,21 +42,21 @@ pub record AreOfOneListing (to : LearnArguments) (text : List ℕ) (o p : Outcom
   pub first : LinesLearn to lines o
   pub second : LinesLearn to lines p
 
--- and so with `learn`, but for which table that is
+-- the same for `learn`, except for which table is learnt
 abbrev pub LearningIsOneButForTables : Type 0
 LearningIsOneButForTables = (to : LearnArguments) (texts : List (List ℕ)) (o p : Outcome) → LearnComesTo to texts o → LearnComesTo to texts p
     → (o ≡ p) ⊎ ((text : List ℕ) × (texts ≡ text ∷ []) × AreOfOneListing to text o p)
 
--- also by the one costs of a text
+-- the same for `learn --costs`, with the costs that its text gives
 abbrev pub LearningByCostsIsOneButForTables : Type 0
 LearningByCostsIsOneButForTables = (to : LearnArguments) (texts : List (List ℕ)) (o p : Outcome) → LearnByCostsComesTo to texts o → LearnByCostsComesTo to texts p
     → (o ≡ p) ⊎ ((text costs cs : List ℕ) × (texts ≡ text ∷ costs ∷ []) × IsCostText costs cs × AreOfOneListing (priced cs to) text o p)
 
--- and with `demo`: by one table so many windows come to one thing
+-- for `demo`: the number of windows and the table determine what is printed
 abbrev pub DemosOfOneTableAreOne : Type 0
 DemosOfOneTableAreOne = (n : ℕ) (told other : List ℕ) (h : IsDemo n told) (k : IsDemo n other) → h.table ≡ k.table → told ≡ other
 
--- the one table is accepted and has an entry whose number can be raised so, and the solver was asked for the family
+-- both outcomes are of the same accepted table, which has an entry whose number can be raised in this way, so that the solver was asked for the family
 pub record AreOfOneFamily (out : List ℕ) (f : Family) (texts : List (List ℕ)) (o p : Outcome) : Type 0 where
   pub text : List ℕ
   pub is_text : texts ≡ text ∷ []
@@ -67,7 +67,7 @@ pub record AreOfOneFamily (out : List ℕ) (f : Family) (texts : List (List ℕ)
   pub first : Generalises out f text o
   pub second : Generalises out f text p
 
--- and with `generalise`, but for what the solver then finds
+-- the same for `generalise`, except for what the solver then finds
 abbrev pub GeneralisingIsOneButForSearches : Type 0
 GeneralisingIsOneButForSearches =
     (out : List ℕ) (f : Family) (texts : List (List ℕ)) (o p : Outcome) → GeneraliseComesTo out f texts o → GeneraliseComesTo out f texts p → (o ≡ p) ⊎ AreOfOneFamily out f texts o p

@@ -14,16 +14,16 @@ use Rattle.audit_cli.specs.Printed.{tidied_report}
 use Rattle.audit_cli.specs.Rewrite.{instruction_count}
 use Rattle.audit_cli.specs.Peep.{Peeps}
 
--- what a done call of `tidy LISTING OUT --base N` has done
+-- what a call of `tidy LISTING OUT --base N` that ended as Done has done
 pub record HasTidied (listing out : List ℕ) (base : ℕ) (old new : Seen) (before after : Sunk) : Type 0 where
-  -- the text under the name was read, which is that held there, where the store tells what it holds
+  -- the text under the name was read; if the store shows its content, it is the one held there
   pub text : List ℕ
   pub text_held : Gave old listing text
   -- it is a well-formed listing, which can be laid out
   pub given : List ListingLine
   pub is_listing : IsListing text given
   pub given_layable : Layable base given
-  -- lines are left: while some change is possible, it is made at the first place where one is, first that which is tried first
+  -- the tidied lines: while some change is possible, one is made at the first place where one is: the first in the order in which they are tried
   pub lines : List ListingLine
   pub changes : List Change
   pub tidied : AreTidied (setting base) given changes lines
@@ -33,18 +33,18 @@ pub record HasTidied (listing out : List ℕ) (base : ℕ) (old new : Seen) (bef
   pub finished : NonePossible (setting base) lines
   -- each change was possible in the lines as they then were
   pub possible : AllPossible (setting base) given changes
-  -- there are at most n * (n + 1) of them for n places, and no more places are left
+  -- there are at most n * (n + 1) changes for n places, and no more places than before
   pub few : length changes ≤ length (places_of given) * (length (places_of given) + 1)
   pub no_more : length (places_of lines) ≤ length (places_of given)
   -- the lines can be laid out
   pub layable : Layable base lines
-  -- the store was asked for the text, then to keep that of the lines, and for nothing else; it holds that, where it tells
+  -- the store was asked for the text, then to keep that of the lines, and for nothing else; if it shows its content, it holds that
   pub asked : new.events ≡ old.events ++ (fetchings (listing ∷ []) (text ∷ []) ++ keepings ((out, text_of_lines lines) ∷ []))
   pub held : Kept ((out, text_of_lines lines) ∷ []) old new
   -- the counts of changes, and of instructions before and after, were put, as one piece, and nothing else
   pub put : after.events ≡ before.events ++ Putting (tidied_report (length changes) (instruction_count given) (instruction_count lines)) (Ok tt) ∷ []
 
--- every call that ends done did so, for words that ask for it
+-- every call that ends as Done has done this, if the words ask for it
 abbrev pub TidiesAsPromised : Type 0
 TidiesAsPromised = (words : List (List ℕ)) (listing out : List ℕ) (base : ℕ) (old new : Seen) (before after : Sunk) → All IsUtf8 words → AskFor words (tidy listing out base)
     → Peeps words old new before after status.Done → HasTidied listing out base old new before after

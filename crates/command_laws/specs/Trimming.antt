@@ -1,4 +1,4 @@
--- A table and what `trim` keeps of it: the audit accepts both, rewriting by them is one, and the kept text is no longer.
+-- A table and what `trim` keeps of it: the audit accepts both, rewriting by them is the same, and the kept text is no longer.
 use Rattle.std.specs.Prelude.{◌≡◌, ◌≤◌, ℕ}
 use Rattle.rule_table.specs.Table.{Table, IsTable}
 use Rattle.table_audit.specs.Acceptance.{IsAccepted}
@@ -15,7 +15,7 @@ TrimmedTablesRewriteAlike = (t trimmed : Table) (base : ℕ) → IsTrimmedTable 
 abbrev pub TrimmedTextsAreNoLonger : Type 0
 TrimmedTextsAreNoLonger = (t trimmed : Table) → IsAccepted t → IsTrimmedTable t trimmed → text_length trimmed ≤ text_length t
 
--- one table is left, which stays as it is when it is trimmed again
+-- the trimmed table is determined, and stays the same when it is trimmed again
 abbrev pub TrimmingIsOne : Type 0
 TrimmingIsOne = (t a b : Table) → IsTrimmedTable t a → IsTrimmedTable t b → a ≡ b
 

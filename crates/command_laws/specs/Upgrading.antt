@@ -1,4 +1,4 @@
--- A table and its upgrade: the audit says the same of both, and rewriting by them is one.
+-- A table and its upgrade: the audit has the same verdict on both, and rewriting by them is the same.
 use Rattle.std.specs.Prelude.{◌≡◌, ◌≤◌, ◌↔◌, ℕ, List, Option}
 use Rattle.rule_table.specs.Table.{Table, IsTable}
 use Rattle.rule_table.specs.Refused.{IsText}

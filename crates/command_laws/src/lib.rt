@@ -1,4 +1,4 @@
-//! What follows from the definitions of the commands alone: texts come to one outcome, and fit texts are carried out.
+//! What follows from the definitions of the commands alone, without their code: texts determine the outcome, and commands with fit texts are carried out.
 #![tactic(auto)]
 
 pub mod laws;

@@ -1,4 +1,4 @@
--- A command added to the program, as clap's definitions see it.
+-- Adding a command to the program, in the sense of clap's definitions.
 use Rattle.std.proofs.Common.{◌≡◌, ◌∙◌, ap, subst, Result}
 use Rattle.std.specs.Prelude.{IfOk}
 use Rattle.clap.specs.Words.{App, app_of, with_subcommand}

@@ -1,4 +1,4 @@
--- At each command clap takes the words, and finds the values, exactly where they are that command.
+-- For each command, clap accepts words, and finds the values, if and only if the words are that command in the sense of `IsCommand`.
 use Rattle.std.proofs.Common.{◌≡◌, ◌∙◌, ◌<◌, true, List, [], ◌∷◌, length, map, Some, refl, sym, ap, true≢false}
 use Rattle.std.specs.List.{list_all}
 use Rattle.clap.specs.Words.{fault_of, subcommand_of}

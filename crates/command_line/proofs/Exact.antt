@@ -1,4 +1,4 @@
--- A command's words and options are read exactly: what the reading takes is a command, and each command is taken.
+-- The reading of `Reading` is exact: the words that it accepts are a command, and it accepts each command.
 use Rattle.std.proofs.Common.{◌≡◌, ◌∙◌, inl, inr, ◌+◌, ◌≤◌, ◌&&◌, ◌==◌, ℕ, zero, suc, Bool, true, false, not, List, [], ◌∷◌, length, map, Option, Some, None, refl, sym, ap, arith, true≢false, eq-eqb, eqb-true}
 use Rattle.std.specs.Prelude.{slice_get}
 use Rattle.std.specs.List.{list_all}

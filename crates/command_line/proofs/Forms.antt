@@ -1,4 +1,4 @@
--- The words and options of each command, and what they ask for.
+-- What clap finds for each command is what its definition asks for, and the reverse; one case for each form.
 use Rattle.std.proofs.Common.{◌≡◌, ◌∙◌, ◌<◌, true, List, [], ◌∷◌, length, map, Option, Some, None, refl, sym, ap, ap₂, arith, codes, option_map}
 use Rattle.std.specs.Prelude.{option_and_then}
 use Rattle.std.specs.List.{list_all}
@@ -28,7 +28,7 @@ pub record IsForm (form : Form) : Type 0 where
   -- its options are names, and no word is named as another or as an option
   pub names : list_all is_name (options_of form) ≡ true
   pub apart : are_apart (words_for form) (options_of form) ≡ true
-  -- its name tells it
+  -- the form is found by its name
   pub named : form_of (name_of form) ≡ Some form
 
 is_form : (form : Form) → IsForm form
@@ -43,7 +43,7 @@ is_form trims = record { few = omega arith; names = refl; apart = refl; named = 
 is_form tidies = record { few = omega arith; names = refl; apart = refl; named = refl }
 is_form generalises = record { few = omega arith; names = refl; apart = refl; named = refl }
 
--- the settings are told by the values of their options
+-- the settings depend only on the values of their options
 same_settings : (f g : Text → Option Text) → ((n : Text) → is_one_of (options_of learns) n ≡ true → f n ≡ g n) → settings_of f ≡ settings_of g
 same_settings f g e =
     let regs : f (codes "regs") ≡ g (codes "regs") = e (codes "regs") refl in
@@ -55,7 +55,7 @@ same_settings f g e =
     let costs : f (codes "costs") ≡ g (codes "costs") = e (codes "costs") refl in
     λ i. settings_by (version_with (costs i)) (number_from 1 4 3 (regs i)) (number_from 1 5 3 (left i)) (number_from 1 1000000 20000 (budget i)) (number_from 0 4294967295 42 (seed i)) (number_from 0 1 0 (scratch i)) (pool_of (pool i))
 
--- only the values of the options are looked at
+-- the request depends only on the values of the form's options
 pub same_options : (form : Form) (ps : List Text) (f g : Text → Option Text) → ((n : Text) → is_one_of (options_of form) n ≡ true → f n ≡ g n)
     → request_by form ps f ≡ request_by form ps g
 same_options rewrites (t ∷ l ∷ o ∷ i ∷ []) f g e = ap (λ (v : Option Text). option_map (λ base. rewrite t l o i base) (base_of v)) (e (codes "base") refl)
@@ -108,7 +108,7 @@ row_values : (ids : List Text) (us : List Given) → map (λ id. first_of id (ro
 row_values [] us = refl
 row_values (id ∷ ids) us = ap₂ (λ (v : Option Text) (vs : List (Option Text)). v ∷ vs) (first_row id us) (row_values ids us)
 
--- what is asked for, by the uses that the words and options are
+-- the request, by the uses that the words and options make
 asked_is : (form : Form) (us gs : List Given) (ps : List Text) → values (words_for form) us ≡ map (λ p. Some p) ps
     → ((n : Text) → is_one_of (options_of form) n ≡ true → value_of n us ≡ value_of n gs) → asked_by form (λ id. first_of id (rows us)) ≡ request_by form ps (λ n. value_of n gs)
 asked_is form us gs ps words options =
@@ -118,7 +118,7 @@ asked_is form us gs ps words options =
 pub asked_named : (form : Form) (rs : List Row) → asked (name_of form, rs) ≡ asked_by form (λ id. first_of id rs)
 asked_named form rs = ap (option_and_then (λ f. asked_by f (λ id. first_of id rs))) (is_form form).named
 
--- what clap takes and finds is asked for
+-- what clap accepts and finds is what the words ask for
 pub form_sound : (form : Form) (ws : List Text) → AreTexts ws → fault_of peep_app (name_of form ∷ ws) ≡ [] → (r : Request) → meaning (name_of form ∷ ws) ≡ Some r
     → AskFor (name_of form ∷ ws) r
 form_sound form ws texts fine r e = go (finds_command (name_of form) (words_for form) (options_of form) (is_form form).few (is_form form).names (is_form form).apart (enters form) ws texts fine) where
@@ -133,7 +133,7 @@ form_sound form ws texts fine r e = go (finds_command (name_of form) (words_for 
     asks = sym (asked_is form us gs ps f.in_order f.options) ∙ sym (asked_named form (rows us)) ∙ sym (ap (option_and_then asked) f.found) ∙ e;
   }
 
--- and what is asked for is taken and found
+-- what the words ask for is accepted and found by clap
 pub form_complete : (form : Form) (ws : List Text) → AreTexts ws → (r : Request) (ps : List Text) (gs : List Given)
     → IsCommand (name_of form) (options_of form) (name_of form ∷ ws) ps gs → request_by form ps (λ n. value_of n gs) ≡ Some r
     → (fault_of peep_app (name_of form ∷ ws) ≡ []) × (meaning (name_of form ∷ ws) ≡ Some r)
@@ -141,7 +141,7 @@ form_complete form ws texts r ps gs c e =
     let f = command_finds (name_of form) (words_for form) (options_of form) (is_form form).few (is_form form).names (is_form form).apart (enters form) ws texts ps gs c (counted form ps (λ n. value_of n gs) r e) in
     (f.1.fine, ap (option_and_then asked) f.1.found ∙ asked_named form (rows f.0) ∙ asked_is form f.0 gs ps f.1.in_order f.1.options ∙ e)
 
--- what is asked for is told by the values alone
+-- what is asked for depends only on the values
 pub same_asked : (form : Form) (f g : Text → Option Text) → ((id : Text) → f id ≡ g id) → asked_by form f ≡ asked_by form g
 same_asked form f g e = ap (option_and_then (λ ws. request_by form ws f)) (ap all_given (mapped (words_for form))) ∙ go (all_given (map g (words_for form))) where
   mapped : (ids : List Text) → map f ids ≡ map g ids

@@ -1,4 +1,4 @@
--- The reading of the words finds the items that spell them.
+-- The reading of words finds the items that they spell.
 use Rattle.std.proofs.Common.{◌≡◌, ◌∙◌, ◌⊎◌, inl, inr, ◌+◌, ◌++◌, ◌&&◌, ℕ, suc, Bool, true, false, not, List, [], ◌∷◌, Option, Some, None, refl, sym, ap, ap₂, arith, subst, true≢false, append_assoc, codes}
 use Rattle.std.specs.Prelude.{slice_get}
 use Rattle.std.specs.List.{flat_map, list_all}
@@ -11,7 +11,7 @@ use Rattle.command_line.proofs.Bytes.{same_text, joined_text, joined_word, apart
 use Rattle.command_line.proofs.BoolLemmas.{both, either}
 use Rattle.std.proofs.lemmas.Bool.{not-true}
 
--- each of these words goes to the next name
+-- the uses by which each of these words goes to the next name
 abbrev pub tail_uses : List Text → List Text → Option (List Given)
 tail_uses ids [] = Some []
 tail_uses [] (w ∷ ws) = None
@@ -41,7 +41,7 @@ name_of (o ∷ os) names n e = let p = both (is_name o) (list_all is_name os) na
   | inr other ↦ name_of os p.1 n (rw other at e)
 ]
 
--- the words of these items, of what is left to read
+-- the words that these items and the rest spell
 abbrev pub line_of : List Item → Option (List Text) → List Text
 line_of items rest = flat_map spelled items ++ ending rest
 
@@ -69,7 +69,7 @@ module _ (opts : List Text) (names : list_all is_name opts ≡ true) (at : ℕ �
   tail_is (w ∷ ws) [] i left = use_at w ws tail i ∙ ap (λ o. to_positional o w (uses at (is_one_of opts) ws tail (i + 1))) (here i [] left)
   tail_is (w ∷ ws) (id ∷ ids) i left = use_at w ws tail i ∙ ap₂ (λ o u. to_positional o w u) (here i (id ∷ ids) left) (tail_is ws ids (i + 1) (after i id ids left))
 
-  -- the reading of what items spell is what they make
+  -- reading the words of items gives the uses that the items make
   pub line_uses : (items : List Item) (rest : Option (List Text)) (ids : List Text) (i : ℕ) → Left i ids → list_all (is_allowed opts) items ≡ true
       → uses at (is_one_of opts) (line_of items rest) free i ≡ item_uses ids items rest
   line_uses [] None ids i left fine = use_end free i
@@ -104,7 +104,7 @@ module _ (opts : List Text) (names : list_all is_name opts ≡ true) (at : ℕ �
     pub allowed : list_all (is_allowed opts) items ≡ true
     pub made : item_uses ids items rest ≡ Some us
 
-  -- what the words are, by what is awaited
+  -- what accepted words are, for each mode of the reading
   abbrev Sound : Mode → List Text → List Text → List Given → Type 0
   Sound free ids ws us = Itemised ids ws us
   Sound (opened n) ids ws us = (y : Text) × (ys : List Text) × (vs : List Given) × (ws ≡ y ∷ ys) × (is_dashed y ≡ false) × (us ≡ (n, y) ∷ vs) × Itemised ids ys vs

@@ -1,4 +1,4 @@
--- clap's walk over the words of a command is the reading of its uses.
+-- clap's walk over the words of a command finds the uses that `Reading` reads, or a fault if that reads none.
 use Rattle.std.proofs.Common.{◌≡◌, ◌∙◌, ◌⊎◌, inl, inr, ◌+◌, ◌++◌, ◌&&◌, ◌||◌, ℕ, Bool, true, false, not, List, [], ◌∷◌, map, Option, Some, None, refl, sym, ap, ap₂, cond, append_assoc, append-nil, subst, option_map, true≢false, eq-eqb}
 use Rattle.std.proofs.lemmas.List.{map-append}
 use Rattle.std.specs.Prelude.{fold, min, nat_lt, slice_get}
@@ -69,7 +69,7 @@ module _ (name : Text) (c : List Rule) where
   unfolding walk_fault
   step w x xs = or_else_assoc (turn_fault (leaf name c) [] w x) (walk_fault (leaf name c) [] (walked c [] w x) xs) _
 
-  -- a turn that finds no fault
+  -- a turn of the walk that finds no fault
   step_to : (w v : Walk) (x : Text) (xs : List Text) → turn_fault (leaf name c) [] w x ≡ [] → walked c [] w x ≡ v → outcome w (x ∷ xs) ≡ outcome v xs
   step_to w v x xs none to = step w x xs ∙ rw (none, to) refl
 
@@ -110,7 +110,7 @@ module _ (name : Text) (c : List Rule) (at : ℕ → Option Text) (is_option is_
   settled_is : (r : List Row) (id v : Text) → is_known id ≡ true → has_row id r ≡ false → settled c (held r (Some (id, v ∷ []))) ≡ held (r ++ row (id, v) ∷ []) None
   settled_is r id v known none = let a = by_id id known in rw a.1 (ap (λ rs. held rs None) (a.2.used_as v r ∙ used_fresh id v r none))
 
-  -- what a word finds and does, by what it is
+  -- which fault a word gives and what it does to the walk, by its kind
   dashes_fault : (r : List Row) (p : Option (Text × List Text)) (w : Waiting) (i : ℕ) (x : Text) → bytes_eq x (45 ∷ 45 ∷ []) ≡ true → turn_fault (leaf name c) [] (between r p idle i false) x ≡ []
   dashes_fault r p w i x dd = rw dd refl
 
@@ -315,7 +315,7 @@ module _ (name : Text) (c : List Rule) (at : ℕ → Option Text) (is_option is_
 
   -- ---- the rows at the end
 
-  -- what the matches are in the end
+  -- the matches at the end
   abbrev pub fin : Walk → List Text → List Row
   fin w ws = finished c (fold (walked c []) w ws).held
 

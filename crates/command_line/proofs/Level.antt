@@ -30,7 +30,7 @@ or_else_assoc (x ∷ xs) b c = refl
 abbrev pub held : List Row → Option (Text × List Text) → Held
 held r p = record { rows = r; pending = p; skip = 0 }
 
--- between two words
+-- the state of the walk between two words
 abbrev pub between : List Row → Option (Text × List Text) → Waiting → ℕ → Bool → Walk
 between r p w i t = record { held = held r p; waiting = w; position = i; is_trailing = t; stopped = None }
 

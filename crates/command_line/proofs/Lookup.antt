@@ -1,4 +1,4 @@
--- The look-ups of a command with these words and options.
+-- The look-ups that clap makes of a command with these words and options, and what they give for the walk over its words.
 use Rattle.std.proofs.Common.{◌≡◌, ◌∙◌, inl, inr, ◌+◌, ◌<◌, ◌++◌, ◌&&◌, ◌||◌, ◌==◌, ℕ, Bool, true, false, not, List, [], ◌∷◌, map, length, Option, Some, None, refl, sym, ap, subst, arith, cond, option_map, true≢false, eqb-true}
 use Rattle.std.specs.Prelude.{find, min}
 use Rattle.std.specs.List.{list_any}
@@ -97,7 +97,7 @@ given_use : (id : Text) (us : List Given) → is_given id (rows us) ≡ is_named
 given_use id [] = refl
 given_use id (u ∷ us) = elim (either (bytes_eq u.0 id)) [ inl same ↦ rw same refl | inr other ↦ rw other (given_use id us) ]
 
--- a word that wasn't given
+-- one of the positional words wasn't given
 abbrev pub lacks : List Text → List Given → Bool
 lacks ids us = list_any (λ id. not (is_named id us)) ids
 
@@ -143,7 +143,7 @@ final_is name ids opts us =
       go true = refl
       go false = refl
 
--- clap finds no fault exactly where the words are read, each name is used once and no word lacks
+-- clap finds no fault if and only if the words can be read, each name is used once and no positional word is missing
 pub command_reads : (name : Text) (ids opts : List Text) → length ids < 1000 → (ws : List Text) → Each (is_one_of opts) ws
     → clean (outcome name (words_from 1 ids (options opts)) (between [] None idle 1 false) ws) ≡ verdict_by (λ us. not (lacks ids us)) [] (uses (at_from 1 ids) (is_one_of opts) ws free 1)
 command_reads name ids opts few ws vs = reads name (words_from 1 ids (options opts)) (at_from 1 ids) (is_one_of opts) (is_one_of (ids ++ opts))
@@ -155,7 +155,7 @@ pub level_reads : (name : Text) (ids opts : List Text) → length ids < 1000 →
     → clean (level_fault (leaf name (words_from 1 ids (options opts))) [] nothing_held ws false []) ≡ verdict_by (λ us. not (lacks ids us)) [] (uses (at_from 1 ids) (is_one_of opts) ws free 1)
 level_reads name ids opts few ws vs = command_reads name ids opts few ws vs
 
--- and then the matches are the uses, in order
+-- if so, the matches are the uses, in order
 pub command_rows : (name : Text) (ids opts : List Text) → length ids < 1000 → (ws : List Text) → Each (is_one_of opts) ws → (us : List Given)
     → uses (at_from 1 ids) (is_one_of opts) ws free 1 ≡ Some us → once_after [] us ≡ true → rows_after (words_from 1 ids (options opts)) [] ws ≡ rows us
 command_rows name ids opts few ws vs us e o = reads_rows name (words_from 1 ids (options opts)) (at_from 1 ids) (is_one_of opts) (is_one_of (ids ++ opts))

@@ -1,4 +1,4 @@
--- What the uses of items say of each name: the positional words in order, and the options.
+-- The values that the uses of items give each name: the positional words in order, and the options.
 use Rattle.std.proofs.Common.{◌≡◌, ◌∙◌, inl, inr, ◌≤◌, ◌++◌, ◌&&◌, ◌||◌, Bool, true, false, not, List, [], ◌∷◌, length, map, Option, Some, None, refl, sym, ap, ap₂, arith, cond, true≢false, is_some, option_map}
 use Rattle.std.specs.Prelude.{find, unwrap_or}
 use Rattle.std.specs.List.{flat_map, list_all, list_any}
@@ -15,7 +15,7 @@ use Rattle.command_line.proofs.BoolLemmas.{both, either}
 use Rattle.std.proofs.lemmas.Bool.{not-true, or_parts}
 use Rattle.common_lemmas.proofs.Booleans.{or_false}
 
--- the names of the positional words, each another than the later ones and than every option
+-- the names of the positional words are different from each other and from every option
 abbrev pub are_apart : List Text → List Text → Bool
 are_apart [] opts = true
 are_apart (id ∷ ids) opts = not (is_one_of (ids ++ opts) id) && are_apart ids opts
@@ -147,7 +147,7 @@ module _ (opts : List Text) where
       let q = more_is (m, v) us (item_uses ids is rest) made in
       rw (q.2, other_name ids m n e g.0) (unnamed is rest ids q.0 n f.1 e q.1)
 
-  -- the options are what the items give
+  -- the values of the options are those that the items give
   tail_options : (ids ws : List Text) (us : List Given) (n : Text) → are_apart ids opts ≡ true → is_one_of opts n ≡ true → tail_uses ids ws ≡ Some us → value_of n us ≡ None
   tail_options ids [] us n e ours made = rw (nothing us made) refl
   tail_options [] (w ∷ ws) us n e ours made = absurd (let bad : None ≡ Some us = made in cc)
@@ -174,7 +174,7 @@ module _ (opts : List Text) where
       let q = more_is (m, v) us (item_uses ids is rest) made in
       ap (value_of n) q.2 ∙ value_more m v n q.0 (options_of is) (option_values is rest ids q.0 n e ours q.1)
 
-  -- each option once is each name once
+  -- if each option is used once, each name is
   tail_distinct : (ids ws : List Text) (us : List Given) → are_apart ids opts ≡ true → tail_uses ids ws ≡ Some us → are_distinct us ≡ true
   tail_distinct ids [] us e made = rw (nothing us made) refl
   tail_distinct [] (w ∷ ws) us e made = absurd (let bad : None ≡ Some us = made in cc)
@@ -252,7 +252,7 @@ pub full_has_none : (ps : List Text) → has_none (map (λ p. Some p) ps) ≡ fa
 full_has_none [] = refl
 full_has_none (p ∷ ps) = full_has_none ps
 
--- where no name lacks a word, there are as many words as names
+-- if each name has a word, there are at least as many words as names
 pub padded_length : (ids ps : List Text) → has_none (padded ids ps) ≡ false → length ids ≤ length ps
 padded_length [] ps e = omega arith
 padded_length (id ∷ ids) [] e = absurd (true≢false e)

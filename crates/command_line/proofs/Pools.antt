@@ -1,4 +1,4 @@
--- The numbers of a pool's text.
+-- Reading the text of a pool: what is accepted is a pool, and each pool is accepted.
 use Rattle.std.proofs.Common.{Bor, ◌≡◌, ◌∙◌, ◌↔◌, ◌⊎◌, inl, inr, ◌≤◌, ◌<◌, ℕ, zero, suc, true, false, List, [], ◌∷◌, length, map, Option, Some, None, refl, sym, ap, arith, subst, if◌then◌else◌, option_map, get_or, IsTrue, true≢false}
 use Rattle.std.specs.Prelude.{All, IfSome, IsSome, option_and_then}
 use Rattle.std.specs.List.{list_all}
@@ -18,7 +18,7 @@ stops [] i d all lt e none = absurd (omega arith)
 stops (n ∷ ns) zero d all lt e none = none n (All-head (λ m. m ≤ 255) n ns all) (sym e)
 stops (n ∷ ns) (suc i) d all lt e none = stops ns i d (All-tail (λ m. m ≤ 255) n ns all) (omega arith) e none
 
--- one that is no byte stops the reading
+-- a part that is no byte ends the reading
 pub no_byte : (ns : List ℕ) (ds : List (Option ℕ)) (i : ℕ) (d : Option ℕ) → i < length ds → get_or ds i d ≡ d → ((n : ℕ) → n ≤ 255 → d ≡ Some n → ⊥)
     → All (λ n. n ≤ 255) ns → map (λ n. Some n) ns ≡ ds → ⊥
 no_byte ns ds i d lt here none all e =

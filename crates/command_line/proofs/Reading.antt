@@ -1,4 +1,4 @@
--- The words after a command, as positional words and options.
+-- A reading of the words after a command as positional words and options: the common ground of our definition and clap's.
 use Rattle.std.specs.Prelude.{ℕ, ◌+◌, ◌++◌, ◌&&◌, Bool, true, not, List, [], ◌∷◌, Option, Some, None, if◌then◌else◌, option_map, option_and_then}
 use Rattle.std.specs.Str.{bytes_eq}
 use Rattle.clap.specs.Lexer.{long_of, short_of}
@@ -24,7 +24,7 @@ word_by is_option None None = plain
 abbrev pub word_of : (Text → Bool) → Text → WordKind
 word_of is_option x = if bytes_eq x (45 ∷ 45 ∷ []) then dashes else word_by is_option (long_of x) (short_of x)
 
--- nothing waits; an option waits for its value; only positional words come
+-- no option is waiting; an option is waiting for its value; only positional words follow
 pub data Mode : Type 0 where
   free : Mode
   opened : Text → Mode
@@ -56,7 +56,7 @@ unfoldable pub uses : (ℕ → Option Text) → (Text → Bool) → List Text �
 uses at is_option [] m i = at_end m
 uses at is_option (x ∷ xs) m i = use_word (word_of is_option x) m i x (at i) (uses at is_option xs)
 
--- each is used once
+-- each name is used once
 abbrev pub once_after : List Given → List Given → Bool
 once_after before [] = true
 once_after before (u ∷ us) = not (is_named u.0 before) && once_after (before ++ u ∷ []) us

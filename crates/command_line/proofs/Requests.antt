@@ -1,4 +1,4 @@
--- Every command line: what clap takes is asked for, what is asked for is taken, and words ask for one thing.
+-- All command lines: clap accepts exactly the words that ask for something, and words ask for at most one thing.
 use Rattle.std.proofs.Common.{◌≡◌, ◌∙◌, inl, inr, true, false, List, [], ◌∷◌, Some, sym, ap, subst, true≢false}
 use Rattle.std.specs.Str.{bytes_eq}
 use Rattle.clap.specs.Words.{fault_of}

@@ -1,4 +1,4 @@
--- The program is a simple command, of which clap tells all.
+-- The program is a simple command, for which clap's contract says exactly what is accepted and found.
 use Rattle.std.proofs.Common.{◌≡◌, ◌≢◌, inl, inr, true, List, [], refl, subst, Result, Ok, Err}
 use Rattle.clap.specs.Words.{App, Text, fault_of, is_simple_and_free, subcommand_of, subcommand_rows_of}
 use Rattle.clap.specs.Simple.{HasMatchesOf, is_simple}
@@ -22,11 +22,11 @@ found_by a words m e has = (subst (λ (b : App). HasMatchesOf b words m) e has p
 fails_by : (a : App) (words : List Text) (r : Result ArgMatches Error) → a ≡ peep_app → (is_simple_and_free a ≡ true → FailsBy (fault_of a words) r) → FailsBy (fault_of peep_app words) r
 fails_by a words r e fails = subst (λ (b : App). is_simple_and_free b ≡ true → FailsBy (fault_of b words) r) e fails peep_is_free
 
--- the words that it takes
+-- the words that it accepts
 pub taken_by : (a : App) (words : List Text) (m : ArgMatches) → a ≡ peep_app → (is_simple_and_free a ≡ true → FailsBy (fault_of a words) (Ok m)) → fault_of peep_app words ≡ []
 taken_by a words m e fails = fails_by a words (Ok m) e fails
 
--- and those that it refuses
+-- the words that it refuses
 pub refused_by : (a : App) (words : List Text) (error : Error) → a ≡ peep_app → (is_simple_and_free a ≡ true → FailsBy {T = ArgMatches} (fault_of a words) (Err error)) → kind_of error ≢ kind.OutOfMemory
     → fault_of peep_app words ≢ []
 refused_by a words error e fails other none = elim (fails_by a words (Err error) e fails) [

@@ -1,4 +1,4 @@
--- clap at the first word: it names a command, or is refused.
+-- clap at the first word: it names a command, to which the other words go, or it is refused.
 use Rattle.std.proofs.Common.{◌≡◌, ◌∙◌, ◌⊎◌, inl, inr, ◌++◌, ℕ, true, false, List, [], ◌∷◌, map, Option, Some, None, refl, sym, ap, ap₂, codes, append_assoc, append-nil, is_some, true≢false}
 use Rattle.std.specs.Prelude.{find, fold, slice_get}
 use Rattle.std.specs.Str.{bytes_eq, chars}
@@ -18,7 +18,7 @@ use Rattle.command_line.proofs.Lookup.{options, words_from}
 use Rattle.command_line.proofs.Bytes.{same_text}
 use Rattle.command_line.proofs.BoolLemmas.{either}
 
--- once a command was met, the words go to it
+-- after a command was found, the words go to it
 stopped_walk : (c : List Rule) (names : Names) (w : Walk) (name : Text) (rest words : List Text)
     → fold (walked c names) (record w { stopped = Some (name, rest) }) words ≡ record w { stopped = Some (name, rest ++ words) }
 unfolding walked
@@ -55,7 +55,7 @@ fault_is w ws = refl
 
 -- ---- a word that names a command: its own words decide
 
--- clap at this command is clap at its own level
+-- what clap does from this command on is what it does on the command's own level
 pub record Enters (name : Text) (words opts : List Text) : Type 0 where
   pub fault : (ws : List Text) → fault_of peep_app (name ∷ ws) ≡ level_fault (leaf name (words_from 1 words (options opts))) [] nothing_held ws false []
   pub found : (ws : List Text) → subcommand_of peep_app (name ∷ ws) ≡ Some (name, rows_after (words_from 1 words (options opts)) [] ws)

@@ -1,4 +1,4 @@
--- From what clap promises to what the words ask for.
+-- From clap's contract to the contract of `usage_of`.
 use Rattle.std.proofs.Common.{◌≡◌, ◌≢◌, ◌∙◌, suc, List, [], ◌∷◌, map, Option, Some, None, sym, ap, ap₂, arith, Bor, option_map, subst}
 use Rattle.std.specs.Prelude.{All, MatchOption, option_and_then}
 use Rattle.std.specs.Box.{box_value}
@@ -26,7 +26,7 @@ are_all_texts : (ws : List Text) → All IsUtf8 ws → AreTexts ws
 are_all_texts [] all = tt
 are_all_texts (w ∷ ws) all = (all 0 w (omega arith), are_all_texts ws (λ k d lt. all (suc k) d (omega arith)))
 
--- all that the words ask for is what clap's matches say
+-- words ask for at most one thing, namely what clap's matches say
 pub asks_once : AskOnce
 asks_once ws all r s a b =
     let texts = are_all_texts ws all in
@@ -55,7 +55,7 @@ taken_asks texts slice ws same are all m (fine, found) o e =
       go None e = λ r asks. let bad : None ≡ Some r = e ∙ (complete ws utf8 r asks).1 in absurd (cc)
       go (Some c) e = sound ws utf8 (sym (ap (fault_of peep_app) words) ∙ fine) (request_of c) (sym e)
 
--- what clap finds is told by its rows
+-- what clap finds is determined by its rows
 found_asked : (form : Form) (f : Found) → asked_by form (first_value f) ≡ asked_by form (λ id. first_of id (rows_of f))
 found_asked form f = same_asked form (first_value f) (λ id. first_of id (rows_of f)) (first_value-rows f)
 
@@ -65,7 +65,7 @@ paired : {X : Type 0} (o : Option X) (pair : X → Text × List Row) (n : Text) 
 paired None pair n rs en er = absurd (let bad : None ≡ Some n = en in cc)
 paired (Some x) pair n rs en er = let a : (pair x).0 ≡ n = cc in let b : (pair x).1 ≡ rs = cc in ap₂ (λ (t : Text) (l : List Row). Some (t, l)) a b
 
--- the subcommand that was met, from its name and its rows
+-- the subcommand that was found, from its name and its rows
 met_is : (m : ArgMatches) (n : Text) (rs : List Row) → Some n ≡ subcommand_name_of m → Some rs ≡ option_map (λ p. p.1) (subcommand_rows_of m) → subcommand_rows_of m ≡ Some (n, rs)
 met_is m n rs en er = paired (out-ArgMatches m).subcommand (λ b. ((out-SubCommand (box_value b)).name.now, rows_of (found_of (out-SubCommand (box_value b)).matches))) n rs (sym en) (sym er)
 

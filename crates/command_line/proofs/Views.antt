@@ -1,4 +1,4 @@
--- What a word is, for words in UTF-8.
+-- The kind of a word, by the tests that clap makes, for words in UTF-8.
 use Rattle.std.proofs.Common.{◌≡◌, ◌∙◌, inl, inr, ◌==◌, ℕ, Bool, true, false, List, [], ◌∷◌, Option, Some, None, refl, sym, ap, eqb-true, subst}
 use Rattle.std.specs.Prelude.{slice_get}
 use Rattle.std.specs.Char.{encode_utf8}

@@ -1,4 +1,4 @@
--- The program and its commands, as clap's definitions see them.
+-- The program and its commands, as an application in the sense of clap's definitions.
 use Rattle.std.specs.Prelude.{Bool, true, false, List, [], ◌∷◌, Option, Some, codes, find, fold, map, option_and_then}
 use Rattle.std.specs.Str.{bytes_eq}
 use Rattle.clap.specs.Words.{App, Row, first_of, Rule, Text, new_app, new_rule, with_rule, with_subcommand}
@@ -12,12 +12,12 @@ positional id = record (new_rule id) { required = true }
 abbrev pub option : Text → Rule
 option id = record (new_rule id) { long = Some id }
 
--- an option, or else a positional word
+-- an option if true, a positional word if false
 abbrev pub argument : Bool → Text → Rule
 argument true = option
 argument false = positional
 
--- a command with one more such argument for each of these names
+-- a command with one more argument, made by the rule, for each of these names
 abbrev pub with_all : (Text → Rule) → App → List Text → App
 with_all rule command ids = fold (λ a id. with_rule a (rule id)) command ids
 
@@ -62,10 +62,10 @@ peep_app = fold (λ a form. with_subcommand a (app_for form).top) bare_app forms
 abbrev pub asked_by : Form → (Text → Option Text) → Option Request
 asked_by form value = option_and_then (λ ws. request_by form ws value) (all_given (map value (words_for form)))
 
--- the command of this name
+-- the form of the command with this name
 abbrev pub form_of : Text → Option Form
 form_of n = find (λ form. bytes_eq n (name_of form)) forms
 
--- what the command of this name, with these rows, asks for
+-- what the command with this name and clap's rows of values asks for
 abbrev pub asked : Text × List Row → Option Request
 asked c = option_and_then (λ form. asked_by form (λ id. first_of id c.1)) (form_of c.0)

@@ -1,4 +1,4 @@
--- Command lines: what the words after the program's name ask for.
+-- Command lines: what the words after the program's name ask for, defined without reference to clap.
 use Rattle.std.specs.Prelude.{◌≡◌, ◌&&◌, ◌==◌, ◌%◌, ℕ, Bool, All, List, [], ◌∷◌, Option, Some, None, if◌then◌else◌, codes, map, nat_le, option_and_then, option_map}
 use Rattle.std.specs.List.{slice_split}
 use Rattle.std.specs.Str.{IsUtf8}
@@ -11,7 +11,7 @@ use Rattle.command_line.specs.Words.{Text, Given, IsCommand, value_of}
 abbrev pub is_base : ℕ → Bool
 is_base b = b % 4 == 0 && nat_le b 268435456
 
--- the base of a given value, and 0 without one
+-- the base that an option's value gives, and 0 without one
 abbrev pub base_of : Option Text → Option ℕ
 base_of None = Some 0
 base_of (Some v) = option_and_then (λ b. if is_base b then Some b else None) (numeral v)
@@ -28,12 +28,12 @@ byte_of v = option_and_then (λ n. if nat_le n 255 then Some n else None) (numer
 abbrev pub windows_of : Text → Option ℕ
 windows_of v = option_and_then (λ n. if nat_le 1 n && nat_le n 20000 then Some n else None) (numeral v)
 
--- all of these values, or none where one of them is none
+-- the list of all these values, or none if one of them is none
 abbrev pub all_given : {A : Type 0} → List (Option A) → Option (List A)
 all_given [] = Some []
 all_given (v ∷ vs) = option_and_then (λ w. option_map (λ ws. w ∷ ws) (all_given vs)) v
 
--- a number from a least to a greatest, as a given value, and another without one
+-- the number from `least` to `greatest` that an option's value gives, and `other` without one
 abbrev pub number_from : (least greatest other : ℕ) → Option Text → Option ℕ
 number_from least greatest other None = Some other
 number_from least greatest other (Some v) = option_and_then (λ n. if nat_le least n && nat_le n greatest then Some n else None) (numeral v)
@@ -42,12 +42,12 @@ number_from least greatest other (Some v) = option_and_then (λ n. if nat_le lea
 abbrev pub between_commas : Text → List Text
 between_commas v = slice_split (λ b. b == 44) v
 
--- a pool is decimal numerals joined by single commas
+-- a pool is decimal numerals, separated by single commas; without a value it is the default one
 abbrev pub pool_of : Option Text → Option (List ℕ)
 pool_of None = Some (0 ∷ 1 ∷ 2 ∷ 4 ∷ 8 ∷ 16 ∷ 24 ∷ 31 ∷ 255 ∷ [])
 pool_of (Some v) = option_and_then (λ ns. if is_pool ns then Some ns else None) (all_given (map decimal (between_commas v)))
 
--- a learner's settings of these parts, which are the header of its table before costs are read, or none where one of them is none
+-- the learner's settings from these parts, which are the header of its table before costs are read; none if one of the parts is none
 abbrev pub settings_by : (version : ℕ) → (regs left budget seed scratch : Option ℕ) → Option (List ℕ) → Option Header
 settings_by version regs left budget seed scratch pool = option_and_then (λ r. option_and_then (λ l. option_and_then (λ b. option_and_then (λ s. option_and_then (λ c.
     option_map (λ p. record (learnt_header r l b s c p None) { version = version }) pool) scratch) seed) budget) left) regs
@@ -121,7 +121,7 @@ request_by generalises (table ∷ entry ∷ number ∷ low ∷ high ∷ out ∷ 
     option_map (λ h. generalise table e n l h out) (byte_of high)) (byte_of low)) (byte_of number)) (numeral entry)
 request_by form words value = None
 
--- the words are a command that asks for this
+-- the words are a command line that asks for this
 pub record AskFor (ws : List Text) (r : Request) : Type 0 where
   pub form : Form
   pub words : List Text

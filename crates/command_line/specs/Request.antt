@@ -1,4 +1,4 @@
--- What a command asks for, without its memory.
+-- The request that a `Command` of the code stands for: its strings as bytes.
 use Rattle.std.specs.Prelude.{None, option_map, string_bytes}
 use Rattle.rule_table.specs.Header.{version_with}
 use Rattle.rule_table.specs.Views.{learnt_by}

@@ -28,11 +28,11 @@ is_dashed [] = false
 is_dashed (a ∷ []) = false
 is_dashed (a ∷ b ∷ rest) = a == 45
 
--- the name is one of these
+-- the name is among these
 abbrev pub is_one_of : List Text → Text → Bool
 is_one_of names n = list_any (λ o. bytes_eq o n) names
 
--- no positional word is dashed, no value that is a word of its own is, and each name is an option's
+-- neither a positional word nor a value that is a word of its own is dashed, and each name is that of an option
 abbrev pub is_allowed : List Text → Item → Bool
 is_allowed options (word w) = not (is_dashed w)
 is_allowed options (joined n v) = is_one_of options n
@@ -48,7 +48,7 @@ options_in (word w) = []
 options_in (joined n v) = (n, v) ∷ []
 options_in (apart n v) = (n, v) ∷ []
 
--- nothing after the items, or `--` and words that are positional whatever they begin with
+-- what follows the items: nothing, or `--` and words that are positional whatever they begin with
 abbrev pub ending : Option (List Text) → List Text
 ending None = []
 ending (Some rest) = codes "--" ∷ rest
@@ -62,7 +62,7 @@ abbrev pub are_distinct : List Given → Bool
 are_distinct [] = true
 are_distinct (g ∷ gs) = not (is_named g.0 gs) && are_distinct gs
 
--- the words are a command, exactly these positional words, and these options, in any order
+-- the words are the command's name, and in any order exactly these positional words and these options
 pub record IsCommand (name : Text) (options : List Text) (words positional : List Text) (given : List Given) : Type 0 where
   pub items : List Item
   pub rest : Option (List Text)

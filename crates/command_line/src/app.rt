@@ -1,4 +1,4 @@
-//! The program's commands, words and options as clap takes them. Its own help and messages are off, since the program prints only what its contract tells.
+//! The definition of the program's commands, words and options for clap. clap's own help is off, since the program prints only what its contract says.
 
 ghost use Rattle.std.specs.Prelude.{◌≡◌, IfOk, false, map};
 ghost use Rattle.clap.specs.Words.{app_of, with_rule, with_subcommand};
@@ -27,7 +27,7 @@ fn with_argument<'a>(
     }
 }
 
-/// The command with these arguments more: options, or else positional words.
+/// The command with these further arguments: all options, or else all positional words.
 fn with_arguments<'a>(
     alloc: Global,
     mut command: Command<'a>,

@@ -1,4 +1,4 @@
-//! What a command line asks for, with each value in its range, so that nothing behind it looks at words again.
+//! What a command line asks for, with each value checked for its range, so that no later code has to look at the words again.
 ghost use Rattle.std.specs.Prelude.{◌≡◌, ◌≤◌, ◌%◌, Some, None, if◌then◌else◌, option_map};
 ghost use Rattle.command_line.specs.CommandLine.{is_base};
 
@@ -17,7 +17,7 @@ pub struct Base {
 }
 
 impl Base {
-    /// The base of this address, where it is one.
+    /// The base of this address, or None if it isn't a multiple of 4 or is over the limit.
     pub fn new(address: u32) -> Option<Base>
         ensures { option_map (λ b. b.address) result ≡ (if is_base address then Some address else None) }
     {
@@ -48,46 +48,46 @@ pub enum Command {
     Learn {
         listing: String,
         out: String,
-        /// The name of a text of costs.
+        /// The name of a text that says what each instruction costs.
         cost_text: Option<String>,
-        /// What the table is learnt with.
+        /// The settings of the learner, but for costs.
         options: LearnOptions,
     },
-    /// Keep the formula of an entry, counted from 1, as `cnf`, and its proof as `lrat`.
+    /// Keep the formula of an entry or a family, counted from 1 with the families after the entries, as `cnf`, and its proof as `lrat`.
     Export {
         table: String,
         entry: u32,
         cnf: String,
         lrat: String,
     },
-    /// Run the listing from a code label for at most so many steps, and print what is seen of the run.
+    /// Run the listing from a code label for at most so many steps, and print the run's events.
     Trace {
         listing: String,
         label: String,
         /// Up to 1,000,000.
         steps: u32,
     },
-    /// Learn from a listing of so many windows, made for it, rewrite that listing by what was learnt, and print what came of it.
+    /// Make a listing of so many windows, learn a table from it, rewrite the listing by that table, and print the counts.
     Demo {
         windows: Within<1, 20_001>,
     },
-    /// Audit the table, and keep it as `out` in version 2, or as it is where its version is a later one.
+    /// Audit the table, and keep it as `out` in version 2, or unchanged if its version is 2 or later.
     Upgrade {
         table: String,
         out: String,
     },
-    /// Audit the table, and keep it as `out` with proofs that have no line and no hint that they don't need.
+    /// Audit the table, and keep it as `out` with its proofs reduced to the lines and hints that they need.
     Trim {
         table: String,
         out: String,
     },
-    /// Tidy the listing, as it is laid out from `base` on, and keep the result as `out`.
+    /// Tidy the listing so that it can be laid out from `base` on, and keep the result as `out`.
     Tidy {
         listing: String,
         out: String,
         base: Base,
     },
-    /// Audit the table, and keep it as `out` with a family more: that of an entry, counted from 1, for each value from `low` to `high` of a number.
+    /// Audit the table, and keep it as `out` with one more family: an entry, counted from 1, in which `number` may take each value from `low` to `high`.
     Generalise {
         table: String,
         entry: u32,

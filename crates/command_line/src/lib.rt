@@ -1,11 +1,11 @@
 //! The command line: what the words after the program's name ask for.
 //!
-//! `specs/Words.antt` and `specs/CommandLine.antt` say what a command line is, in words of its own. The words are read by clap (`app`), numerals and their
-//! limits by us (`values`), and `usage_of` promises that both together are that definition.
+//! `specs/Words.antt` and `specs/CommandLine.antt` define what a command line is, without reference to clap. clap parses the words (`app`), `values` reads
+//! the numerals and checks their limits, and the contract of `usage_of` says that both together implement that definition.
 //!
-//! A further command is a variant of `Command`, a form with its name, options and request in `specs/CommandLine.antt`, the names of its
+//! A further command needs a variant of `Command`, a form with its name, options and request in `specs/CommandLine.antt`, the names of its
 //! words in `specs/App.antt`, a case in `specs/Request.antt`, a call in `app`, a function in `values`, and in the proofs a line in `Added.antt`
-//! and in each lemma by forms of `Forms.antt`, `Top.antt` and `Requests.antt`.
+//! and in each lemma of `Forms.antt`, `Top.antt` and `Requests.antt` that goes case by case over the forms.
 #![tactic(auto)]
 
 ghost use Rattle.std.specs.Prelude.{◌≡◌, ◌≢◌, [], All, IfOk, MatchOption, map, string_bytes};
@@ -24,7 +24,7 @@ use clap::error::ErrorKind;
 pub use command::{Base, Command};
 use std::alloc::{AllocError, Global};
 
-/// The words as texts.
+/// The words as string slices.
 fn texts_of<'a>(alloc: Global, words: &'a [String]) -> Result<Vec<&'a str>, AllocError>
     ensures same { IfOk result (λ texts. map (λ t. t.now) texts.items ≡ map string_bytes words.entry.now) }
     ensures text { IfOk result (λ texts. All (λ t. IsUtf8 t.now) texts.items) }
@@ -55,7 +55,7 @@ fn matches_of<'a>(alloc: Global, words: &'a [&'a str]) -> Result<Option<ArgMatch
     }
 }
 
-/// The command that the words after the program's name are, or None where they are none. The one error is want of memory.
+/// The command that the words after the program's name ask for, or None if they are no command line. The only error is lack of memory.
 pub fn usage_of(alloc: Global, words: &[String]) -> Result<Option<Command>, AllocError>
     ensures exact { IfOk result (λ o. MatchOption o
         ((r : Request) → AskFor (map string_bytes words.now) r → ⊥)

@@ -1,4 +1,4 @@
-//! The values of a command, read from what clap found.
+//! Reads the values of a command from what clap found: numerals in their ranges, and defaults for options that aren't given.
 
 ghost use Rattle.std.specs.Prelude.{◌≡◌, ◌-◌, ◌≤◌, ℕ, List, All, IfOk, MatchOption, Some, length, map, option_map, option_and_then, string_bytes};
 ghost use Rattle.clap.specs.Words.{first_value, found_of, subcommand_rows_of};
@@ -16,7 +16,7 @@ use seq_enum::Pool;
 use std::alloc::{AllocError, Global};
 use thumb_instr::Within;
 
-/// The base of an image by the value of `--base`, or None where the value is none.
+/// The base that the value of `--base` gives, 0 without the option; None if the value is no base.
 fn base(given: Option<&str>) -> Option<Base>
     ensures { option_map (λ b. b.address) result ≡ base_of (option_map (λ t. t.now) given.entry) }
 {
@@ -32,14 +32,14 @@ fn base(given: Option<&str>) -> Option<Base>
 /// The most steps of a trace.
 const STEPS_LIMIT: u32 = 1_000_000;
 
-/// The number of steps that the word is, or None where it is none.
+/// The number of steps that the word gives; None if it is no numeral or over the limit.
 fn steps(word: &str) -> Option<u32>
     ensures { result ≡ steps_of word.now }
 {
     number(word.as_bytes()).filter(|steps| *steps <= STEPS_LIMIT)
 }
 
-/// The byte that the word is, or None where it is none.
+/// The number that the word gives; None if it is no numeral or over 255.
 fn byte_in(word: &str) -> Option<u8>
     ensures { result ≡ byte_of word.now }
 {
@@ -49,7 +49,7 @@ fn byte_in(word: &str) -> Option<u8>
     }
 }
 
-/// The windows of a demonstration that the word is, or None where it is none.
+/// The number of windows that the word gives; None if it is no numeral from 1 to 20,000.
 fn windows(word: &str) -> Option<Within<1, 20_001>>
     ensures { option_map (λ n. n.number) result ≡ windows_of word.now }
 {
@@ -59,7 +59,7 @@ fn windows(word: &str) -> Option<Within<1, 20_001>>
     }
 }
 
-/// The number from LEAST to below END that an option has, or `other` where it isn't given; None where its value is no such number.
+/// The value of an option, from LEAST to END - 1, or `other` if it isn't given; None if its value is no such number.
 fn number_from<const LEAST: u32, const END: u32>(
     given: Option<&str>,
     other: Within<LEAST, END>,
@@ -85,7 +85,7 @@ fn seed(given: Option<&str>) -> Option<u32>
     }
 }
 
-/// The number of a decimal numeral, where it is at most 255.
+/// The value of a decimal numeral, if it is at most 255; hexadecimal ones aren't allowed here.
 fn byte(word: &[u8]) -> Option<u8>
     ensures { MatchOption result ((n : ℕ) → n ≤ 255 → decimal word.now ≡ Some n → ⊥) (λ n. decimal word.now ≡ Some n) }
 {
@@ -127,7 +127,7 @@ fn between_commas(alloc: Global, bytes: &[u8]) -> Result<Vec<&[u8]>, AllocError>
     bytes.split(|b| *b == b',').collect(alloc)
 }
 
-/// The pool of numbers where none is given.
+/// The default pool of numbers.
 static DEFAULT_POOL: [u8; 9] = [0, 1, 2, 4, 8, 16, 24, 31, 255];
 
 /// The pool that the option has, or the default one where it isn't given; None where its value is no pool.

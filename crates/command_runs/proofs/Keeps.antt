@@ -1,4 +1,4 @@
--- A kept text by its place.
+-- The keep at an index of the code's list and of the definition's.
 use Rattle.std.proofs.Common.{◌≡◌, ◌∙◌, ◌<◌, ℕ, List, length, map, Some, refl, sym, ap, get_or, option_map}
 use Rattle.std.specs.Prelude.{slice_get, string_bytes}
 use Rattle.std.proofs.lemmas.Option.{slice_get-map, slice_get_read}

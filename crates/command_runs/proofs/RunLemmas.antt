@@ -1,4 +1,4 @@
--- The stages of a run make the whole of it.
+-- What the stages of a run have done makes up what the whole run has done, status by status.
 use Rattle.std.proofs.Common.{◌≡◌, ◌≢◌, ◌∙◌, ◌≤◌, inl, inr, ℕ, suc, List, [], ◌∷◌, ◌++◌, take, length, Some, None, true, refl, sym, ap, subst, arith, Err}
 use Rattle.std.proofs.lemmas.List.{append-nil}
 use Rattle.std.specs.Prelude.{if◌then◌else◌, All}
@@ -108,7 +108,7 @@ short_before calls ks a b c g s p h = record {
   calls = called_then a.events b.events c.events calls (keepings (take h.number ks) ++ Keeping h.failed.0 h.failed.1 (Err store.Memory) ∷ []) p h.calls;
 }
 
--- the texts were fetched, come to an outcome, and that was finished
+-- the texts were fetched, have an outcome, and that was finished
 pub finished : (plan : Plan) (texts : List (List ℕ)) (o : Outcome) (old mid new : Seen) (before after : Sunk) (s : Status) → SameCounts old mid × AreTexts old plan.names texts × (mid.events ≡ old.events ++ fetchings plan.names texts)
     → SameHeld old.held mid.held → Grows old mid → plan.comes texts o → Finishes o mid new before after s → Runs plan old new before after s
 finished plan texts o old mid new before after s read same g comes h = go s h where
@@ -172,7 +172,7 @@ finished plan texts o old mid new before after s read same g comes h = go s h wh
   go status.TooBig f = absurd f
   go status.Missing f = absurd f
 
--- a name that nothing is kept under is as before
+-- a name under which nothing is kept has what it had
 pub kept_elsewhere : (ks : List Keep) (held : Held) (n : List ℕ) → All (λ (k : Keep). n ≢ k.0) ks → kept ks held n ≡ held n
 kept_elsewhere [] held n a = refl
 kept_elsewhere (k ∷ ks) held n a = kept_elsewhere ks (with_text held k) n (λ i d l. a (suc i) d (omega arith)) ∙ elim (cases_Bool (bytes_eq n k.0)) [
@@ -187,7 +187,7 @@ pub AreHeld : Seen → List (List ℕ) → Type 0
 AreHeld old [] = Unit {0}
 AreHeld old (n ∷ ns) = ((t : List ℕ) × (old.held n ≡ Some t) × (length t ≤ limit)) × AreHeld old ns
 
--- the statuses that need no fault, and no name that cannot be fetched
+-- the statuses that are possible without a fault and without a name that can't be fetched
 pub IsFaultless : Status → Type 0
 IsFaultless status.Done = Unit {0}
 IsFaultless status.Refused = Unit {0}
@@ -210,7 +210,7 @@ none_too_big old new [] t h s = s
 none_too_big old new (n ∷ ns) t h (inl m) = let k : IsTooBig (old.held n) = rw t at m in let more : IsTooBig (Some h.0.0) = subst IsTooBig h.0.1 k in let most = h.0.2 in omega arith
 none_too_big old new (n ∷ ns) t h (inr s) = none_too_big old new ns t h.1 s.1
 
--- where the store tells and holds the names, and no count of faults rises, the run is done, refused or short of memory
+-- if the store shows its content and holds the names, and no count of faults rises, the run ends as Done, Refused or Memory
 pub complete : (plan : Plan) (old new : Seen) (before after : Sunk) (s : Status) → old.tells ≡ true → AreHeld old plan.names → (Rose old.faults new.faults → ⊥) → (Rose before.faults after.faults → ⊥)
     → Runs plan old new before after s → IsFaultless s
 unfolding IsFaultless

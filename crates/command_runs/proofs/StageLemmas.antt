@@ -1,4 +1,4 @@
--- What one stage says, said of the stages so far.
+-- One more fetch or keep, added to what those before it have done.
 use Rattle.std.proofs.Common.{◌≡◌, ◌∙◌, ◌+◌, ◌≤◌, inl, inr, ℕ, zero, suc, true, false, List, [], ◌∷◌, ◌++◌, take, length, Some, None, refl, sym, ap, subst, arith, true≢false, Ok, Err}
 use Rattle.std.proofs.lemmas.List.{append_assoc}
 use Rattle.std.specs.Prelude.{slice_get, if◌then◌else◌, unwrap_or}

@@ -1,4 +1,4 @@
--- Statuses of the code as numbers, and its outcomes as those of a plan.
+-- The exit codes of the statuses, and the outcomes of the code as those of the definitions.
 use Rattle.std.specs.Prelude.{ℕ, string_bytes, map}
 use Rattle.command_runs.specs.declared.status.Status.{Status}
 use Rattle.command_runs.specs.declared.status.Status.TheVariants as status
@@ -22,7 +22,7 @@ code_of status.Missing = 7
 abbrev pub keep_view : KeptText → Keep
 keep_view d = (string_bytes d.name, d.text.items)
 
--- the line, or what is kept and printed
+-- an outcome with its strings as bytes
 abbrev pub outcome_view : Outcome → Comes
 outcome_view (outcome.Refuses line) = Refuses line.items
 outcome_view (outcome.Does keeps lines) = Does (map keep_view keeps.items) lines.items

@@ -8,17 +8,17 @@ use Rattle.outer_store.specs.declared.SinkError.TheVariants as sink
 use Rattle.outer_store.specs.Outside.{Event, Putting, Seen, SameHeld, SameCounts, Rose, MissedAt, TooBigAt, Sunk, Wrote, WrotePart, WroteNone}
 use Rattle.command_runs.specs.Plans.{Outcome, Refuses, Does, Plan, Keep, keeps_of, due, fetchings, AreTexts, StopsAt, ReadsSome, ReadsUpTo, keepings, Kept, FailsAfter, ShortAfter}
 
--- the run went by the texts of its names, which come to this outcome
+-- the run used the texts of its names, and they have this outcome
 pub record ComesTo (plan : Plan) (old : Seen) (outcome : Outcome) : Type 0 where
   pub texts : List (List ℕ)
   pub read : AreTexts old plan.names texts
   pub comes : plan.comes texts outcome
 
--- the calls of the fetches that the run went by
+-- the calls by which the run fetched its texts
 abbrev pub fetches_of : {plan : Plan} {old : Seen} {o : Outcome} → ComesTo plan old o → List Event
 fetches_of {plan} c = fetchings plan.names c.texts
 
--- the store was asked for just the texts of the plan's names, in order, and then to keep just this, in order, and did
+-- the store was asked for exactly the texts of the plan's names, in order, and then to keep exactly what is due, in order, and it did
 abbrev pub DoesAll : {plan : Plan} {old : Seen} {o : Outcome} → ComesTo plan old o → Seen → Type 0
 DoesAll {plan} {old} {o} c new = new.events ≡ old.events ++ (fetches_of c ++ keepings (keeps_of o))
 
@@ -52,7 +52,7 @@ pub record IsStoreFault (plan : Plan) (old new : Seen) (before after : Sunk) : T
   pub wrote : WroteNone before after
   pub put : after.events ≡ before.events
 
--- the sink failed at the one put: all was kept, and a prefix of what is due was printed
+-- the sink failed at the one put: all was kept, and a prefix of what was to be printed was printed
 pub record IsSinkFault (plan : Plan) (old new : Seen) (before after : Sunk) : Type 0 where
   pub rose : Rose before.faults after.faults
   pub due_outcome : Outcome
@@ -62,7 +62,7 @@ pub record IsSinkFault (plan : Plan) (old new : Seen) (before after : Sunk) : Ty
   pub calls : DoesAll outcome new
   pub put : after.events ≡ before.events ++ Putting (due due_outcome) (Err sink.Failed) ∷ []
 
--- where memory was refused: at a fetch or behind some of them, at a keep, or at the one put
+-- where memory ran out: at a fetch or after some of them, at a keep, or at the one put
 pub data ShortAt (plan : Plan) (old new : Seen) (before after : Sunk) : Type 0 where
   at_fetch : SameHeld old.held new.held → ReadsUpTo store.Memory plan.names old new ⊎ ReadsSome plan.names old new → after.events ≡ before.events → ShortAt plan old new before after
   at_keep : (o : Outcome) (c : ComesTo plan old o) → ShortAfter (fetches_of c) (keeps_of o) old new → after.events ≡ before.events → ShortAt plan old new before after
@@ -73,7 +73,7 @@ pub record IsShort (plan : Plan) (old new : Seen) (before after : Sunk) : Type 0
   pub short : ShortAt plan old new before after
   pub wrote : WroteNone before after
 
--- a name of the plan had no text to go by, for this cause, as its fetch answered; nothing was kept or put
+-- a name of the plan had no usable text, for this cause, and its fetch returned this error; nothing was kept or put
 pub record IsStopped (plan : Plan) (error : StoreError) (reason : List ℕ → Type 0) (old new : Seen) (before after : Sunk) : Type 0 where
   pub stops : StopsAt reason old plan.names
   pub calls : ReadsUpTo error plan.names old new

@@ -1,4 +1,4 @@
--- What each stage of a run has done: the fetches, the keeps, the put, and all that follows the outcome.
+-- What each stage of a run has done: the fetches, the keeps, the put, and all that follows once the outcome is known.
 use Rattle.std.specs.Prelude.{◌≡◌, ℕ, ◌⊎◌, List, [], ◌∷◌, ◌++◌, Result, Ok, Err}
 use Rattle.command_runs.specs.declared.status.Status.{Status}
 use Rattle.command_runs.specs.declared.status.Status.TheVariants as status
@@ -31,7 +31,7 @@ Gathers names old new (Err status.Refused) = ⊥
 Gathers names old new (Err status.Usage) = ⊥
 Gathers names old new (Err status.SinkFault) = ⊥
 
--- one text was kept, or why not
+-- one text was kept, or why it wasn't
 abbrev pub StoresOne : Keep → Seen → Seen → Result (Unit {0}) Status → Type 0
 StoresOne k old new (Ok u) = SameCounts old new × Kept (k ∷ []) old new × (new.events ≡ old.events ++ Keeping k.0 k.1 (Ok tt) ∷ [])
 StoresOne k old new (Err status.StoreFault) = Rose old.faults new.faults × KeptBut k.0 [] old new × (new.events ≡ old.events ++ Keeping k.0 k.1 (Err store.Failed) ∷ [])
@@ -43,7 +43,7 @@ StoresOne k old new (Err status.SinkFault) = ⊥
 StoresOne k old new (Err status.TooBig) = ⊥
 StoresOne k old new (Err status.Missing) = ⊥
 
--- texts were kept in order, or how many of them and why no more
+-- texts were kept in order, or only the first of them, and why no more
 abbrev pub Stores : List Keep → Seen → Seen → Result (Unit {0}) Status → Type 0
 Stores ks old new (Ok u) = SameCounts old new × Kept ks old new × (new.events ≡ old.events ++ keepings ks)
 Stores ks old new (Err status.StoreFault) = Rose old.faults new.faults × FailsAfter [] ks old new
@@ -55,7 +55,7 @@ Stores ks old new (Err status.SinkFault) = ⊥
 Stores ks old new (Err status.TooBig) = ⊥
 Stores ks old new (Err status.Missing) = ⊥
 
--- the bytes were put, so that the run is good, or why not
+-- the bytes were put, so that the run ends as `good`, or why they weren't
 abbrev pub Prints : Status → List ℕ → Sunk → Sunk → Status → Type 0
 Prints good bytes before after status.Done = (good ≡ status.Done) × (after.faults ≡ before.faults) × Wrote before after bytes × (after.events ≡ before.events ++ Putting bytes (Ok tt) ∷ [])
 Prints good bytes before after status.Refused = (good ≡ status.Refused) × (after.faults ≡ before.faults) × Wrote before after bytes × (after.events ≡ before.events ++ Putting bytes (Ok tt) ∷ [])
@@ -71,7 +71,7 @@ abbrev pub good_of : Outcome → Status
 good_of (Refuses line) = status.Refused
 good_of (Does keeps lines) = status.Done
 
--- what follows once the outcome is known
+-- what the run does once the outcome is known
 abbrev pub Finishes : Outcome → Seen → Seen → Sunk → Sunk → Status → Type 0
 Finishes o old new before after status.Done = (good_of o ≡ status.Done) × SameCounts old new × Kept (keeps_of o) old new × (new.events ≡ old.events ++ keepings (keeps_of o)) × Prints status.Done (due o) before after status.Done
 Finishes o old new before after status.Refused = (good_of o ≡ status.Refused) × SameCounts old new × SameHeld old.held new.held × (new.events ≡ old.events ++ keepings (keeps_of o)) × Prints status.Refused (due o) before after status.Refused

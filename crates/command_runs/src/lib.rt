@@ -1,4 +1,4 @@
-//! What runs a command: it fetches the texts under the command's names, keeps what they come to and puts its lines as one piece.
+//! Runs a command: fetches the texts under its names, lets it compute its outcome from them, keeps the outcome's texts and prints its lines with one put.
 #![tactic(auto)]
 
 mod outcome;

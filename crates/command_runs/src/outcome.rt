@@ -1,5 +1,5 @@
-//! What the texts of a command come to: a line that tells a refusal, or what is kept and printed. Reading and keeping themselves are done elsewhere, once for
-//! all commands.
+//! The outcome that a command computes from its texts: a refusal line, or what is to be kept and printed. `stages` does the reading and keeping, for all
+//! commands alike.
 ghost use Rattle.std.specs.Prelude.{◌≡◌, IfOk};
 
 use std::alloc::{AllocError, Global};
@@ -9,7 +9,7 @@ use std::alloc::{AllocError, Global};
 pub struct KeptText {
     /// The name.
     pub name: String,
-    /// What is kept under it.
+    /// The bytes.
     pub text: Vec<u8>,
 }
 
@@ -29,12 +29,12 @@ impl KeptText {
     }
 }
 
-/// What the texts of a command come to.
+/// The outcome that a command computes from its texts.
 #[derive(Drop)]
 pub enum Outcome {
-    /// One line, with its newline.
+    /// The command is refused: the line to be printed, with its newline.
     Refuses(Vec<u8>),
-    /// What is kept, in order, and the lines that are then printed, each with its newline.
+    /// The command is carried out: what is to be kept, in order, and the lines to be printed then, each with its newline.
     Does {
         keeps: Vec<KeptText>,
         lines: Vec<u8>,

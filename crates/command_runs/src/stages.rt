@@ -1,4 +1,4 @@
-//! The stages of a run: the fetches, what the texts come to, the keeps, and one put.
+//! The stages of a run: the fetches, the computation of the outcome, the keeps, and one put. The first failure ends the run with its status.
 ghost use Rattle.std.specs.Prelude.{◌≡◌, ℕ, ◌⊎◌, List, Result, IfOk, length, map};
 ghost use Rattle.std.specs.Result.{result_map_both};
 ghost use Rattle.command_runs.specs.declared.status.Status.TheVariants as status;
@@ -15,7 +15,7 @@ use outer_store::{Sink, SinkError, Store, StoreError};
 use std::alloc::{AllocError, Global};
 use step_ledger::{Ledger, Steps};
 
-/// The text under a name.
+/// Fetches the text under a name; a failure is given as the status that the run ends with.
 fn fetch<S: Store>(alloc: Global, store: &mut S, name: &str) -> Result<Vec<u8>, Status>
     ensures reads { Reads name.now (S.seen store.old) (S.seen store.new) (result_map_both (λ v. v.items) (λ e. e) result) }
     ensures held { SameHeld (S.seen store.old).held (S.seen store.new).held }
@@ -30,7 +30,7 @@ fn fetch<S: Store>(alloc: Global, store: &mut S, name: &str) -> Result<Vec<u8>, 
     }
 }
 
-/// The texts under the names, fetched in order up to the first that cannot be.
+/// Fetches the texts under the names, in order, up to the first failure.
 #[tactic(auto, using(crate::proofs::StageLemmas::gathers_more, crate::proofs::StageLemmas::gathers_stop, crate::proofs::StageLemmas::counts_first, crate::proofs::StageLemmas::same_again, crate::proofs::StageLemmas::grows_again, crate::proofs::StageLemmas::grows_first))]
 fn fetch_all<S: Store>(alloc: Global, store: &mut S, names: &[&str]) -> Result<Vec<Vec<u8>>, Status>
     ensures gathers { Gathers (map (λ n. n.now) names.now) (S.seen store.old) (S.seen store.new) (result_map_both (λ v. map (λ t. t.items) v.items) (λ e. e) result) }
@@ -65,7 +65,7 @@ fn keep_one<S: Store>(store: &mut S, name: &str, text: &[u8]) -> Result<(), Stat
     }
 }
 
-/// Keeps each text, in order, up to the first that cannot be.
+/// Keeps each text, in order, up to the first failure.
 #[tactic(auto, using(crate::proofs::StageLemmas::stores_more, crate::proofs::StageLemmas::stores_stop, crate::proofs::StageLemmas::counts_first, crate::proofs::StageLemmas::grows_again, crate::proofs::StageLemmas::grows_first))]
 fn keep_all<S: Store>(store: &mut S, keeps: &[KeptText]) -> Result<(), Status>
     ensures stores { Stores (map keep_view keeps.now) (S.seen store.old) (S.seen store.new) result }
@@ -80,7 +80,7 @@ fn keep_all<S: Store>(store: &mut S, keeps: &[KeptText]) -> Result<(), Status>
     Ok(())
 }
 
-/// Puts the bytes as one piece, and ends with the status given if it could.
+/// Puts the bytes as one piece. The status is `good` if the sink took them.
 fn print<O: Sink>(sink: &mut O, bytes: &[u8], good: Status) -> Status
     requires { (good ≡ status.Done) ⊎ (good ≡ status.Refused) }
     ensures prints { Prints good bytes.now (O.sunk sink.old) (O.sunk sink.new) result }
@@ -111,13 +111,13 @@ fn finish<S: Store, O: Sink>(store: &mut S, sink: &mut O, outcome: Outcome) -> S
     }
 }
 
-/// What a command makes of the texts that it fetches.
+/// A command, as the function from the texts that it fetches to its outcome. `takes` is the number of texts; `comes` relates texts to the outcome.
 pub trait TextCommand {
     ghost takes: { ℕ };
 
     ghost comes: { Self → List (List ℕ) → Comes → Type 0 };
 
-    /// What the texts come to, of which there are as many as the command takes.
+    /// The outcome for the texts, of which there are as many as the command takes.
     ///
     /// # Errors
     ///

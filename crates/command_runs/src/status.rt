@@ -1,4 +1,4 @@
-//! How a run of the program ended, with the number that the process gives to the shell for it.
+//! How a run of the program ended, and the exit code of the process for it.
 ghost use Rattle.std.specs.Prelude.{◌≡◌};
 ghost use Rattle.command_runs.specs.Outcomes.{code_of};
 
@@ -7,19 +7,19 @@ ghost use Rattle.command_runs.specs.Outcomes.{code_of};
 pub enum Status {
     /// The command was carried out.
     Done,
-    /// One refusal line was put.
+    /// The command was refused, and its one refusal line was printed.
     Refused,
     /// The words are no command line.
     Usage,
-    /// The store failed.
+    /// The store failed, at a fetch or at a keep.
     StoreFault,
-    /// The sink failed.
+    /// The sink failed when the lines were put.
     SinkFault,
-    /// Memory was refused.
+    /// Memory ran out.
     Memory,
     /// A text to be fetched is over the limit.
     TooBig,
-    /// A name to be fetched isn't held.
+    /// The store has no text under a name to be fetched.
     Missing,
 }
 

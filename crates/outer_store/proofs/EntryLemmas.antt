@@ -1,4 +1,4 @@
--- What a list of texts by name has after a change.
+-- What a list of texts by name holds after a text is replaced or appended.
 use Rattle.std.proofs.Common.{◌≡◌, ◌∙◌, inl, inr, ℕ, suc, ◌<◌, ◌≤◌, ◌+◌, Bool, true, false, List, [], ◌∷◌, ◌++◌, length, get_or, Option, Some, None, option_map, refl, sym, ap, subst, arith, cond, ltb-true, ltb-false, le-ltb}
 use Rattle.std.proofs.Math.ListN.{set}
 use Rattle.std.proofs.lemmas.List.Folds.{find-set, find_past, find-append}

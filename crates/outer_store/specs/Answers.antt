@@ -1,4 +1,4 @@
--- What each answer of a store and of a sink says.
+-- What each answer of a store or a sink says about its content and its counts before and after the call.
 use Rattle.std.specs.Prelude.{◌≡◌, ◌≢◌, ◌≤◌, ℕ, false, List, Some, Result, Ok, Err, length}
 use Rattle.outer_store.specs.declared.StoreError.{StoreError}
 use Rattle.outer_store.specs.declared.StoreError.TheVariants as store
@@ -8,11 +8,11 @@ use Rattle.outer_store.specs.Outside.{limit, Rose, WhereTold, Held, SameHeld, Se
 
 -- ---- stores ----
 
--- each name but one has what it had
+-- each name but this one has what it had
 abbrev pub OthersStay : List ℕ → Held → Held → Type 0
 OthersStay name old new = (n : List ℕ) → n ≢ name → new n ≡ old n
 
--- no count falls, a store tells as before, and the faults of one that does not fail stay
+-- no count falls, a store shows its content as before, and a store that can't fail has no new faults
 pub record Grows (old new : Seen) : Type 0 where
   pub tells : new.tells ≡ old.tells
   pub may_fail : new.may_fail ≡ old.may_fail
@@ -39,7 +39,7 @@ Keeps old new name bytes (Err store.Memory) = SameHeld old.held new.held
 
 -- ---- sinks ----
 
--- the count does not fall, a sink tells as before, and the faults of one that does not fail stay
+-- the count doesn't fall, a sink shows its content as before, and a sink that can't fail has no new faults
 pub record SinkGrows (old new : Sunk) : Type 0 where
   pub tells : new.tells ≡ old.tells
   pub may_fail : new.may_fail ≡ old.may_fail

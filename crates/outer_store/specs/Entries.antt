@@ -1,4 +1,4 @@
--- Texts by name as a list of pairs, of which the first with a name counts.
+-- The content of a store in memory: a list of pairs of a name and a text, of which the first with a name counts.
 use Rattle.std.specs.Prelude.{ℕ, Bool, List, Option, string_bytes, String, Vec, find, option_map}
 use Rattle.std.specs.Str.{bytes_eq}
 use Rattle.std.specs.declared.alloc.Global.{Global}

@@ -1,4 +1,4 @@
--- How the logic stores calls with their answers: as numbers.
+-- An encoding of calls and their answers as numbers, which a ghost field of the code needs.
 use Rattle.std.specs.Prelude.{◌≡◌, ℕ, ◌==◌, cond, List, [], Ok, Err, refl}
 use Rattle.std.specs.Coded.{Coded, code_by, coded×, coded_ℕ, coded_list}
 use Rattle.outer_store.specs.declared.StoreError.TheVariants as store

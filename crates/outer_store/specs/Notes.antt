@@ -1,10 +1,10 @@
--- Calls as the code notes them.
+-- The notes by which the code adds a call to a history, as calls of the definitions.
 use Rattle.std.specs.Prelude.{Ok, Err}
 use Rattle.outer_store.specs.declared.history.Note.{Note}
 use Rattle.outer_store.specs.declared.history.Note.TheVariants as note
 use Rattle.outer_store.specs.Outside.{Event, Fetching, Keeping, Putting}
 
--- the call that a note is of
+-- the call that a note describes
 abbrev pub event_of : Note → Event
 event_of (note.Fetched name text) = Fetching name.now (Ok text.now)
 event_of (note.Unfetched name error) = Fetching name.now (Err error)

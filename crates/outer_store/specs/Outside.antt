@@ -1,11 +1,11 @@
--- What a store and a sink mean: what they hold or were given, where they tell it, their counts, and the calls that were made of them.
+-- What contracts know of a store and a sink: their content, if they show it (`tells`), their counts of failures, and the calls that were made so far.
 use Rattle.std.specs.Prelude.{◌≡◌, ◌≤◌, ◌<◌, ◌+◌, ◌-◌, ◌^◌, ℕ, Bool, true, false, List, ◌++◌, take, Option, Some, None, Result, min, length}
 use Rattle.outer_store.specs.declared.StoreError.{StoreError}
 use Rattle.outer_store.specs.declared.SinkError.{SinkError}
 
 -- ---- calls ----
 
--- one call with its answer: a name was fetched, bytes were kept under a name, or a piece was put
+-- one call with its answer: a name was fetched, bytes were kept under a name, or bytes were put
 pub data Event : Type 0 where
   Fetching : (name : List ℕ) (answer : Result (List ℕ) StoreError) → Event
   Keeping : (name bytes : List ℕ) (answer : Result (Unit {0}) StoreError) → Event
@@ -13,19 +13,19 @@ pub data Event : Type 0 where
 
 -- ---- counts ----
 
--- the most bytes that are fetched
+-- the most bytes of a text that can be fetched
 abbrev pub limit : ℕ
 limit = 67108864
 
--- a count after one more, up to the greatest u64, where it stays
+-- a count increased by one, saturating at the greatest u64
 abbrev pub counted : ℕ → ℕ
 counted n = min (n + 1) (2 ^ 64 - 1)
 
--- a count rose, or stands at its last value
+-- a count rose, or is saturated
 abbrev pub Rose : ℕ → ℕ → Type 0
 Rose before now = counted before ≤ now
 
--- what is told of the content of a store or a sink, where it tells it
+-- a statement on the content of a store or a sink, made only if it shows its content
 abbrev pub WhereTold : Bool → Type 0 → Type 0
 WhereTold tells told = tells ≡ true → told
 
@@ -39,8 +39,8 @@ Held = List ℕ → Option (List ℕ)
 abbrev pub SameHeld : Held → Held → Type 0
 SameHeld old new = (n : List ℕ) → new n ≡ old n
 
--- a store: what it holds, which counts only where it tells; whether its faults may rise; its counts of faults, of names
--- not found and of texts over the limit; and the calls so far, in order, each with its answer
+-- a store: whether it shows its content to contracts; what it holds, which means nothing if it doesn't; whether it may fail; its counts
+-- of faults, of names not found and of texts over the limit; and the calls so far, in order, each with its answer
 pub record Seen : Type 0 where
   pub tells : Bool
   pub held : Held
@@ -56,7 +56,7 @@ pub record SameCounts (old new : Seen) : Type 0 where
   pub missing : new.missing ≡ old.missing
   pub oversize : new.oversize ≡ old.oversize
 
--- a cause that a store which tells shows by what it holds, and any other by a count
+-- a cause that shows in the content of a store that shows it, and in a count of any other store
 abbrev pub Shows : Bool → Type 0 → Type 0 → Type 0
 Shows true told risen = told
 Shows false told risen = risen
@@ -74,14 +74,14 @@ MissedAt old new name = Shows old.tells (old.held name ≡ None) (Rose old.missi
 abbrev pub TooBigAt : Seen → Seen → List ℕ → Type 0
 TooBigAt old new name = Shows old.tells (IsTooBig (old.held name)) (Rose old.oversize new.oversize)
 
--- the bytes are those held, where the store tells
+-- the bytes are those held, if the store shows its content
 abbrev pub Gave : Seen → List ℕ → List ℕ → Type 0
 Gave old name bytes = WhereTold old.tells (old.held name ≡ Some bytes)
 
 -- ---- sinks ----
 
--- a sink: what was written to it, which counts only where it tells; whether its faults may rise; their count; and the
--- calls so far, in order, each with its answer
+-- a sink: whether it shows its content to contracts; what was written to it, which means nothing if it doesn't; whether it may fail; its
+-- count of faults; and the calls so far, in order, each with its answer
 pub record Sunk : Type 0 where
   pub tells : Bool
   pub written : List ℕ
@@ -89,7 +89,7 @@ pub record Sunk : Type 0 where
   pub faults : ℕ
   pub events : List Event
 
--- the bytes were written behind what was there
+-- the bytes were written after what was there
 abbrev pub Wrote : Sunk → Sunk → List ℕ → Type 0
 Wrote old new bytes = WhereTold old.tells (new.written ≡ old.written ++ bytes)
 

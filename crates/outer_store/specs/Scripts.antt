@@ -1,4 +1,4 @@
--- Stores and sinks as they are seen: in memory, failing at calls named beforehand, and real, telling nothing.
+-- The four kinds of stores and sinks: those in memory, which show their content and fail at calls chosen beforehand, and the real ones, which show nothing.
 use Rattle.std.specs.Prelude.{◌≡◌, ℕ, Bool, true, false, List, [], ◌∷◌, None, Contains, Result, Ok, Err}
 use Rattle.outer_store.specs.declared.StoreError.{StoreError}
 use Rattle.outer_store.specs.declared.StoreError.TheVariants as store
@@ -7,7 +7,7 @@ use Rattle.outer_store.specs.declared.SinkError.TheVariants as sink
 use Rattle.outer_store.specs.Entries.{NamedText, text_in}
 use Rattle.outer_store.specs.Outside.{Event, Seen, Sunk, counted}
 
--- there is a number
+-- there is at least one number
 abbrev pub is_some_number : List ℕ → Bool
 is_some_number [] = false
 is_some_number (n ∷ ns) = true
@@ -35,11 +35,11 @@ pub record Texts : Type 0 where
   pub oversize : ℕ
   pub events : List Event
 
--- it tells what it holds
+-- it shows what it holds
 abbrev pub seen_texts : Texts → Seen
 seen_texts s = record { tells = true; held = text_in s.entries; may_fail = is_some_number s.script.failing; faults = s.script.faults; missing = s.missing; oversize = s.oversize; events = s.events }
 
--- each answer of a call raises its own count alone
+-- each error raises only the count that belongs to it
 abbrev pub RaisesTexts : {X : Type 0} → Texts → Texts → Result X StoreError → Type 0
 RaisesTexts old new (Ok x) = (new.script.faults ≡ old.script.faults) × (new.missing ≡ old.missing) × (new.oversize ≡ old.oversize)
 RaisesTexts old new (Err store.Failed) = (new.script.faults ≡ counted old.script.faults) × (new.missing ≡ old.missing) × (new.oversize ≡ old.oversize)
@@ -53,11 +53,11 @@ pub record Bytes : Type 0 where
   pub script : Script
   pub events : List Event
 
--- it tells what was written
+-- it shows what was written
 abbrev pub seen_bytes : Bytes → Sunk
 seen_bytes s = record { tells = true; written = s.written; may_fail = is_some_number s.script.failing; faults = s.script.faults; events = s.events }
 
--- only a call that fails raises the count
+-- only a call that fails raises the count of faults
 abbrev pub RaisesBytes : {X : Type 0} → Bytes → Bytes → Result X SinkError → Type 0
 RaisesBytes old new (Ok x) = new.script.faults ≡ old.script.faults
 RaisesBytes old new (Err sink.Failed) = new.script.faults ≡ counted old.script.faults
@@ -70,7 +70,7 @@ pub record RealFiles : Type 0 where
   pub oversize : ℕ
   pub events : List Event
 
--- it tells nothing of what it holds
+-- it shows nothing of what it holds
 abbrev pub seen_files : RealFiles → Seen
 seen_files s = record { tells = false; held = λ _. None; may_fail = true; faults = s.faults; missing = s.missing; oversize = s.oversize; events = s.events }
 
@@ -79,6 +79,6 @@ pub record RealOutput : Type 0 where
   pub faults : ℕ
   pub events : List Event
 
--- it tells nothing of what was written
+-- it shows nothing of what was written
 abbrev pub seen_output : RealOutput → Sunk
 seen_output s = record { tells = false; written = []; may_fail = true; faults = s.faults; events = s.events }

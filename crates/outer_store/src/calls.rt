@@ -1,9 +1,9 @@
-//! The numbers of calls, by which a store or a sink in memory fails just where a test asks for it.
+//! Counts the calls of a store or a sink in memory, and makes those fail whose numbers a test gives.
 ghost use Rattle.std.specs.Prelude.{◌≡◌, ◌≤◌, ◌↔◌, false, IsTrue, Contains, if◌then◌else◌};
 ghost use Rattle.outer_store.specs.Outside.{counted};
 ghost use Rattle.outer_store.specs.Scripts.{is_some_number};
 
-/// The calls so far, the numbers of those that fail, and how many did.
+/// The number of calls so far, the numbers, from 1, of the calls that fail, and how many failed.
 #[derive(Drop)]
 pub(crate) struct Calls {
     pub(crate) failing: Vec<u64>,
@@ -25,7 +25,7 @@ impl Calls {
         }
     }
 
-    /// Counts a call, and tells whether it fails.
+    /// Counts a call, and returns whether it fails.
     pub(crate) fn fails_next(&mut self) -> bool
         ensures failing { self.new.failing ≡ self.old.failing }
         ensures made { self.new.made ≡ counted self.old.made }

@@ -1,4 +1,4 @@
-//! The calls of a store or a sink so far, with their answers. They exist only in contracts: a history has no bytes, and what notes a call does nothing when the program runs.
+//! The calls of a store or a sink so far, with their answers. They exist only in contracts: a history has no bytes, and adding a call does nothing at run time.
 ghost use Rattle.std.specs.Prelude.{◌≡◌, List, [], ◌∷◌, ◌++◌, Result};
 ghost use Rattle.std.specs.Result.{result_map_both};
 ghost use Rattle.std.specs.Borrow.{ftrue};
@@ -32,21 +32,21 @@ pub(crate) enum Note<'a> {
 impl History {
     ghost use Rattle.outer_store.specs.Notes.{event_of};
 
-    /// No call yet.
+    /// The history without calls.
     pub(crate) fn new() -> History
         ensures { result.events ≡ [] }
     {
         History {}
     }
 
-    /// One call more.
+    /// The history with one more call.
     pub(crate) fn and(&self, _note: &Note<'_>) -> History
         ensures { result.events ≡ self.now.events ++ event_of _note.now ∷ [] }
     {
         History {}
     }
 
-    /// One fetch more.
+    /// The history with one more fetch.
     pub(crate) fn fetched(&self, name: &str, answer: &Result<Vec<u8>, StoreError>) -> History
         ensures { result.events ≡ self.now.events ++ Fetching name.now (result_map_both (λ v. v.items) (λ e. e) answer.now) ∷ [] }
     {
@@ -56,7 +56,7 @@ impl History {
         }
     }
 
-    /// One keep more.
+    /// The history with one more keep.
     pub(crate) fn kept(&self, name: &str, bytes: &[u8], answer: Result<(), StoreError>) -> History
         ensures { result.events ≡ self.now.events ++ Keeping name.now bytes.now answer ∷ [] }
     {
@@ -66,7 +66,7 @@ impl History {
         }
     }
 
-    /// One put more.
+    /// The history with one more put.
     pub(crate) fn put(&self, bytes: &[u8], answer: Result<(), SinkError>) -> History
         ensures { result.events ≡ self.now.events ++ Putting bytes.now answer ∷ [] }
     {

@@ -1,8 +1,8 @@
 //! The outside of the program: stores of texts by name, and sinks of bytes.
 //!
-//! A store and a sink tell contracts what they hold, or do not tell it; either way they count what went
-//! wrong, so that an answer other than `Ok` has its cause, and keep the history of their calls, so that a
-//! contract can say what was asked of them.
+//! A store or a sink shows its content to contracts (those in memory do), or hides it (the real ones do). Either
+//! way it counts what went wrong, so that each answer other than `Ok` has a cause, and records its calls in a
+//! history, so that a contract can say what was asked of it.
 #![tactic(auto)]
 
 ghost use Rattle.std.specs.Prelude.{◌≡◌, [], ◌∷◌, ◌++◌, Result};
@@ -25,22 +25,22 @@ pub use real_store::RealStore;
 use std::alloc::Global;
 use thiserror::Error;
 
-/// The most bytes that are fetched.
+/// The most bytes of a text that can be fetched.
 pub const TEXT_LIMIT: usize = 67_108_864;
 
 /// Why a store did not do what was asked.
 #[derive(Clone, Copy, Debug, PartialEq, Eq, Error)]
 pub enum StoreError {
-    /// The store is at fault.
+    /// The store failed.
     #[error("the store failed")]
     Failed,
-    /// Of a fetch alone: nothing is held under the name.
+    /// Only of a fetch: there is no text under the name.
     #[error("no such name")]
     Missing,
-    /// Of a fetch alone: the text under the name is over the limit.
+    /// Only of a fetch: the text under the name is longer than `TEXT_LIMIT`.
     #[error("the text is too big")]
     TooBig,
-    /// Memory was refused.
+    /// Memory ran out.
     #[error("out of memory")]
     Memory,
 }
@@ -48,10 +48,10 @@ pub enum StoreError {
 /// Why a sink did not take what was put.
 #[derive(Clone, Copy, Debug, PartialEq, Eq, Error)]
 pub enum SinkError {
-    /// The sink is at fault, and took a prefix of the bytes.
+    /// The sink failed, and took a prefix of the bytes, possibly none.
     #[error("the sink failed")]
     Failed,
-    /// Memory was refused, and nothing was taken.
+    /// Memory ran out, and no byte was taken.
     #[error("out of memory")]
     Memory,
 }
@@ -67,7 +67,7 @@ pub trait Store {
         ensures grows { Grows (seen self.old) (seen self.new) }
         ensures events { (seen self.new).events ≡ (seen self.old).events ++ Fetching name.now (result_map_both (λ v. v.items) (λ e. e) result) ∷ [] };
 
-    /// Puts the bytes under a name. After `Failed` nothing is told of that name.
+    /// Puts the bytes under a name, in place of what was there. After `Failed` the content under that name is unspecified.
     fn keep(&mut self, name: &str, bytes: &[u8]) -> Result<(), StoreError>
         ensures keeps { Keeps (seen self.old) (seen self.new) name.now bytes.now result }
         ensures others { OthersStay name.now (seen self.old).held (seen self.new).held }
@@ -79,7 +79,7 @@ pub trait Store {
 pub trait Sink {
     ghost sunk: { Self → Sunk };
 
-    /// Writes the bytes behind what was written before.
+    /// Writes the bytes after those that were written before.
     fn put(&mut self, bytes: &[u8]) -> Result<(), SinkError>
         ensures puts { Puts (sunk self.old) (sunk self.new) bytes.now result }
         ensures grows { SinkGrows (sunk self.old) (sunk self.new) }

@@ -1,4 +1,4 @@
-//! A sink whose bytes can be looked at, and whose calls fail by their numbers, so that each fault of an output can be tried.
+//! A sink in memory for tests: its bytes can be inspected, and chosen calls fail, so that each fault of an output can be tried.
 ghost use Rattle.std.specs.Prelude.{◌≡◌, ◌↔◌, [], ◌∷◌, ◌++◌, IsErrOf, OnErr};
 ghost use Rattle.outer_store.specs.Outside.{Putting};
 ghost use Rattle.outer_store.specs.Answers.{SinkGrows, Puts};
@@ -10,7 +10,7 @@ use crate::{Sink, SinkError};
 use std::alloc::Global;
 use std::marker::Model;
 
-/// The bytes written, which are told, and the numbers of the calls that fail.
+/// The bytes written, which contracts see, and the numbers of the calls that fail.
 #[derive(Drop)]
 pub struct MemSink {
     written: Vec<u8>,

@@ -1,4 +1,4 @@
-//! A store whose texts can be looked at, and whose calls fail by their numbers, so that each fault of a file can be tried.
+//! A store in memory for tests: its texts can be inspected, and chosen calls fail, so that each fault of a file can be tried.
 ghost use Rattle.std.specs.Prelude.{◌≡◌, ◌↔◌, ℕ, List, [], ◌∷◌, ◌++◌, Some, find, if◌then◌else◌, OnOk, OnErr, IsErrOf};
 ghost use Rattle.std.specs.List.{position};
 ghost use Rattle.std.specs.Option.{option_copied};
@@ -15,7 +15,7 @@ use crate::{Store, StoreError, TEXT_LIMIT};
 use std::alloc::{AllocError, Global};
 use std::marker::Model;
 
-/// Texts in memory, which are told, and the numbers of the calls that fail. Of two texts under one name the
+/// Texts in memory, which contracts see, and the numbers of the calls that fail. Of two texts under one name the
 /// first counts.
 #[derive(Drop)]
 pub struct MemStore {
@@ -48,7 +48,7 @@ impl MemStore {
         }
     }
 
-    /// The text under a name.
+    /// The text under a name, if there is one.
     pub fn held(&self, name: &str) -> Option<&[u8]>
         ensures { option_copied result ≡ text_in self.now.entries name.now }
     {
@@ -56,7 +56,7 @@ impl MemStore {
     }
 }
 
-/// The place of the first pair with a name.
+/// The index of the first pair with a name.
 fn place_of(held: &[(String, Vec<u8>)], name: &str) -> Option<usize>
     ensures { result ≡ position (is_named name.now) held.now }
 {
@@ -70,7 +70,7 @@ fn entry_of<'a>(held: &'a [(String, Vec<u8>)], name: &str) -> Option<&'a (String
     held.iter().find(|entry| entry.0.as_str() == name)
 }
 
-/// The text under a name.
+/// The text under a name, if there is one.
 fn text_of<'a>(held: &'a [(String, Vec<u8>)], name: &str) -> Option<&'a [u8]>
     ensures { option_copied result ≡ text_in held.now name.now }
 {

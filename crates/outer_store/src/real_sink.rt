@@ -1,4 +1,4 @@
-//! The sink that the shipped program has: standard output. Nothing of it can be looked at, so contracts speak of the pieces that were put.
+//! The sink of the shipped program: standard output. Its content can't be inspected, so contracts speak only of the calls of `put`.
 ghost use Rattle.std.specs.Prelude.{◌≡◌, []};
 ghost use Rattle.outer_store.specs.Scripts.{RealOutput, seen_output};
 
@@ -8,7 +8,7 @@ use crate::{Sink, SinkError};
 use std::io;
 use std::marker::Model;
 
-/// The standard output of the runtime, of which nothing is told but the pieces that were put.
+/// The standard output of the runtime, of which contracts see only the calls of `put`.
 #[derive(Drop)]
 pub struct RealSink<R: Print> {
     rt: R,
@@ -23,7 +23,7 @@ impl<R: Print> Model for RealSink<R> {
 }
 
 impl<R: Print> RealSink<R> {
-    /// What the runtime prints to, with no fault and no call yet.
+    /// The runtime's standard output, with no fault and no call yet.
     pub fn new(rt: R) -> RealSink<R>
         ensures { result ≡ record { faults = 0; events = [] } }
     {

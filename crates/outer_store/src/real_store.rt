@@ -1,4 +1,4 @@
-//! The store that the shipped program has: the system's files by name. Nothing of their contents is told, so contracts speak of what was read and handed over.
+//! The store of the shipped program: the system's files. Contracts can't see their contents, so they speak only of the calls and their answers.
 ghost use Rattle.std.specs.Prelude.{◌≡◌, []};
 ghost use Rattle.outer_store.specs.Scripts.{RealFiles, seen_files};
 
@@ -10,8 +10,8 @@ use std::fs;
 use std::marker::Model;
 use std::rt::Files;
 
-/// The files of the runtime, of which nothing is told but the calls. A file that cannot be opened for a fetch is a name
-/// not found.
+/// The files of the runtime, of which contracts see only the calls. If a file can't be opened for a fetch, for whatever reason,
+/// the answer is `Missing`.
 #[derive(Drop)]
 pub struct RealStore<R: Files> {
     rt: R,

@@ -1,4 +1,4 @@
-//! Reading and writing to the end: the system may read or take fewer bytes than it is asked, so it is asked again until all is through.
+//! Reading and writing to the end: the system may transfer fewer bytes than it was asked to, so it is called again until all are transferred.
 ghost use Rattle.std.specs.Prelude.{◌≡◌, ◌≢◌, ◌<◌, ◌≤◌, ℕ, IfOk, IfSome, IsErrOf, Err, length, take};
 ghost use Rattle.std.specs.Bool.{OnTrue};
 ghost use Rattle.std.specs.Io.KnownBytes.{Appends};
@@ -8,10 +8,10 @@ use crate::{StoreError, TEXT_LIMIT};
 use std::alloc::Global;
 use std::io::{Read, Write};
 
-/// How much is read in one turn.
+/// The most bytes that one call of `read` is asked for.
 const CHUNK: usize = 4096;
 
-/// The bytes up to the end. Takes one more than `TEXT_LIMIT` at most.
+/// All bytes up to the end, of which at most `TEXT_LIMIT` + 1 are read. Errors are `Failed`, `TooBig` and `Memory`.
 pub(crate) fn read_all<R: Read>(alloc: Global, reader: &mut R) -> Result<Vec<u8>, StoreError>
     ensures small { IfOk result (λ v. length v.items ≤ limit) }
     ensures bytes { IfOk result (λ v. IfSome (R.remaining reader.old) (λ xs. v.items ≡ xs)) }
@@ -38,7 +38,7 @@ pub(crate) fn read_all<R: Read>(alloc: Global, reader: &mut R) -> Result<Vec<u8>
     unreachable!()
 }
 
-/// Writes all bytes, and tells whether the writer took them. One that takes nothing of some bytes did not.
+/// Writes all bytes, and returns whether the writer took them. A call that takes no byte counts as a failure.
 pub(crate) fn write_all<W: Write>(writer: &mut W, bytes: &[u8]) -> bool
     ensures whole { OnTrue result (Appends (W.contents writer.old) (W.contents writer.new) bytes.now) }
     ensures part { (k : ℕ) × Appends (W.contents writer.old) (W.contents writer.new) (take k bytes.now) }

@@ -1,4 +1,4 @@
--- What is said on standard error.
+-- What the program writes to standard error, by its status.
 use Rattle.std.specs.Prelude.{ℕ, List, Option, Some, None, codes}
 use Rattle.command_runs.specs.declared.status.Status.{Status}
 use Rattle.command_runs.specs.declared.status.Status.TheVariants as status

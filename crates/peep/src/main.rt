@@ -1,4 +1,4 @@
-//! The program: hands the process's words to the top call, and ends with its status.
+//! The program: hands the words of the command line, the files and standard output to the top call `peep`, and exits with its status.
 #![tactic(auto)]
 
 ghost use Rattle.std.specs.Prelude.{◌≡◌, ◌<◌, IfOk, drop, map, option_map, string_bytes};
@@ -29,7 +29,7 @@ fn words_of(alloc: Global, mut args: Args<Global>) -> Result<Vec<String>, AllocE
     Ok(words)
 }
 
-/// The word that standard error gets, if there is one for the status.
+/// The word that is written to standard error for a status, if any.
 fn word_for(status: Status) -> Option<&'static str>
     ensures { option_map (λ s. s.now) result ≡ word_of status }
 {
@@ -44,7 +44,7 @@ fn word_for(status: Status) -> Option<&'static str>
     }
 }
 
-/// Runs the words with steps that are counted in contracts alone.
+/// Runs the words with a step counter that exists in contracts alone.
 fn run<N: Name, S: Store, O: Sink>(
     alloc: Global,
     words: &[String],

@@ -1,4 +1,4 @@
--- Registers that are renamed there and back.
+-- Renaming a window's registers to their names and back gives the window: the canonical form is right.
 use Rattle.std.proofs.Common.{◌≡◌, ℕ, zero, suc, ◌<◌, ◌==◌, Bool, true, false, List, [], ◌∷◌, ◌++◌, map, length, refl, sym, ◌∙◌, ap, subst, arith, Option, Some, None, slice_get, cond}
 use Rattle.std.specs.Option.{option_map}
 use Rattle.std.specs.List.{flat_map, list_all}
@@ -30,7 +30,7 @@ eight_at (suc (suc (suc (suc (suc (suc zero)))))) h = refl
 eight_at (suc (suc (suc (suc (suc (suc (suc zero))))))) h = refl
 eight_at (suc (suc (suc (suc (suc (suc (suc (suc x)))))))) h = absurd (omega arith)
 
--- the register whose number stands there
+-- the register with number n is at index i
 record At (xs : List Low) (i n : ℕ) : Type 0 where
   register : Low
   there : slice_get xs i ≡ Some register
@@ -43,7 +43,7 @@ at xs i n e = from (slice_get xs i) refl (sym (slice_get-map (λ r. r.number) xs
     from None h k = absurd cc
     from (Some r) h k = record { register = r; there = h; number = same_Some _ _ k }
 
--- names tell where each register stands
+-- the name of each register is its index
 abbrev pub AreNames : List Low → List Low → Type 0
 AreNames registers names = numbers_of names ≡ map (name_in (numbers_of registers)) eight
 
@@ -141,7 +141,7 @@ all_kept seen (r ∷ rs) = (has_firsts (with_first seen r) rs r (has_itself seen
 pub all_appear : (order rs : List ℕ) → order ≡ firsts [] rs → AllIn order rs
 all_appear order rs e = subst (λ (o : List ℕ). AllIn o rs) (sym e) (all_kept [] rs)
 
--- what may stand in a window may do so in its normal form
+-- the normal form of an instruction that may stand in a window may do so too
 window_normal : (i : Instr) → is_in_window i ≡ true → is_in_window (normal_of i) ≡ true
 window_normal (instr.ThreeNumber s d n i) h =
     elim (d.number == n.number) as (λ b. is_in_window (cond b (instr.TwoNumber (byte_sum s) d (byte_of i)) (instr.ThreeNumber s d n i)) ≡ true) [ true ↦ refl | false ↦ refl ]

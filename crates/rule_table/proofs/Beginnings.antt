@@ -1,4 +1,4 @@
--- Lines that can be read so far begin a table, and only those do.
+-- Lines that the grammar can read are the first lines of some table: from each stage there is a way on to the line `end`.
 use Rattle.std.proofs.Common.{◌≡◌, ℕ, suc, ◌+◌, ◌-◌, ◌<◌, ◌≤◌, ◌^◌, ◌&&◌, inl, inr, take, drop, true, false, List, [], ◌∷◌, ◌++◌, length, map, nat_le, nat_lt, refl, sym, ◌∙◌, ap, arith, Some, append_assoc, append-nil, length-append, lt-ltb, le-leb, ltb-true, leb-true, leb-false, max, subst, true≢false}
 use Rattle.std.specs.List.{flat_map, All}
 use Rattle.std.specs.Option.{option_map}
@@ -31,7 +31,7 @@ use Rattle.rule_table.specs.Grammar.{Stage, Start, Heading, Stated, Sided, Maske
 abbrev pub front_items : Table → List Item
 front_items t = header_items t.header ++ (map State t.states ++ (flat_map rule_items t.rules ++ flat_map family_items t.families))
 
--- the lines that were read to come to a stage; of a header those before the lines that are due
+-- the lines that were read on the way to a stage; for a header those before the lines that are due
 unfoldable pub written : Stage → List Item
 written (Heading h due) = flat_map (line_items h) (take (length heads - length due) heads)
 written (Stated t) = front_items t
@@ -51,7 +51,7 @@ pub record AreSides (ls rs : List Instr) : Type 0 where
   pub right : All IsInstr rs
   pub after_left : is_empty rs ≡ false → 0 < length ls
 
--- where a line stands
+-- the index of a line in the header
 abbrev pub place : HeaderLine → ℕ
 place (head.Number field.Version) = 0
 place (head.Number field.Regs) = 1
@@ -62,7 +62,7 @@ place head.Pool = 5
 place (head.Number field.Scratch) = 6
 place head.Costs = 7
 
--- a header of which lines are due: a header, but for costs that are still to come
+-- a header of which lines are due: it is valid, except that its costs may still be missing
 pub record IsBegun (h : Header) : Type 0 where
   pub numbers : (x : Field) → IsWithin x (number_in h x)
   pub pool : is_pool h.pool ≡ true
@@ -70,7 +70,7 @@ pub record IsBegun (h : Header) : Type 0 where
   pub uncosted : has_line h.version head.Costs ≡ false → h.costs ≡ None
   pub unsaid : (x : Field) → has_line h.version (head.Number x) ≡ false → number_in h x ≡ number_in blank x
 
--- what the lines say that stand from a place on is the least header's; the costs are there where their line stands before it
+-- the fields of the lines from an index on are those of `blank`; the costs are present if their line is before it
 pub record IsReadTo (to : ℕ) (h : Header) : Type 0 where
   pub numbers : (x : Field) → to ≤ place (head.Number x) → number_in h x ≡ number_in blank x
   pub uncosted : to ≤ place head.Costs → h.costs ≡ None
@@ -80,14 +80,14 @@ abbrev pub HasFirst : Header → List HeaderLine → Type 0
 HasFirst h [] = Unit {0}
 HasFirst h (line ∷ due) = has_line h.version line ≡ true
 
--- some lines of a header are read, these are left, and the first of these is due
+-- some lines of a header are read, these are left, and the version has the first of these
 pub record HasRead (h : Header) (due : List HeaderLine) : Type 0 where
   pub read : List HeaderLine
   pub split : read ++ due ≡ heads
   pub none : IsReadTo (length read) h
   pub first : HasFirst h due
 
--- what holds at a stage; before the first family there are none
+-- the invariant of each stage; before the first family there is none in the table
 unfoldable pub Fine : Stage → Type 0
 Fine (Heading h due) = IsBegun h × HasRead h due
 Fine (Stated t) = IsTable t × (t.rules ≡ []) × (t.families ≡ [])
@@ -196,7 +196,7 @@ rule_opens r os is opens up = record {
   ascending = up;
 }
 
--- a number above the last
+-- a number above the last one may follow
 rises_more : (low : ℕ) (os : List Opened) (o p : Opened) → ascends_from low (numbers_of (os ++ o ∷ [])) ≡ true → o.number < p.number
     → ascends_from low (numbers_of ((os ++ o ∷ []) ++ p ∷ [])) ≡ true
 unfolding ascends_from
@@ -227,7 +227,7 @@ opened_line o c is line = record { small = is.small; log = All-push IsLine o.log
 
 -- ---- more lines
 
--- one more line behind what stands behind a front
+-- one more line at the end
 behind : (t : Table) (xs ys : List Item) (i : Item) → ys ≡ xs ++ i ∷ [] → front_items t ++ ys ≡ (front_items t ++ xs) ++ i ∷ []
 behind t xs ys i e = ap (λ us. front_items t ++ us) e ∙ sym (append_assoc (front_items t) xs (i ∷ []))
 
@@ -306,7 +306,7 @@ number_set h field.Seed n = refl
 number_set h field.Budget n = refl
 number_set h field.Scratch n = refl
 
--- what else the header says stays
+-- setting a number leaves the other fields of the header
 number_kept : (h : Header) (f x : Field) (n : ℕ) → is_same f x ≡ false → number_in (with_number h f n) x ≡ number_in h x
 number_kept h field.Version field.Version n e = absurd cc
 number_kept h field.Regs field.Regs n e = absurd cc
@@ -332,7 +332,7 @@ numbers_kept h pool costs field.Seed = refl
 numbers_kept h pool costs field.Budget = refl
 numbers_kept h pool costs field.Scratch = refl
 
--- with its costs a header is whole
+-- a header that has its costs, if it needs them, is valid
 whole : (h : Header) → IsBegun h → (has_line h.version head.Costs ≡ true → IsSome h.costs) → IsHeader h
 whole h is costed = record { numbers = is.numbers; pool = is.pool; costs = is.costs; costed = costed; uncosted = is.uncosted; unsaid = is.unsaid }
 
@@ -345,7 +345,7 @@ with_costs h ns is has are = record {
   unsaid = λ x unsaid. numbers_kept h h.pool (Some ns) x ∙ is.unsaid x unsaid;
 }
 
--- the lines before that of the costs stay
+-- setting the costs leaves the lines before that of the costs
 costs_kept : (h : Header) (costs : Option (List ℕ)) (l : HeaderLine) → place l < place head.Costs → line_items (record h { costs = costs }) l ≡ line_items h l
 costs_kept h costs (head.Number x) less = ap (λ m. if has_line h.version (head.Number x) then Number x m ∷ [] else []) (numbers_kept h h.pool costs x)
 costs_kept h costs head.Pool less = refl
@@ -385,7 +385,7 @@ stands_at : (from : ℕ) (read : List HeaderLine) (line : HeaderLine) (due : Lis
 stands_at from [] line due o = omega (arith, o.0)
 stands_at from (l ∷ read) line due o = omega (arith, stands_at (suc from) read line due o.1)
 
--- one more line: what it says is held, what was read before stays, and what comes later is still the least header's
+-- one more line: the header has what it says, the lines before stay, and later fields are still those of `blank`
 record Hears (h g : Header) (line : HeaderLine) (i : Item) : Type 0 where
   fine : IsBegun g
   says : line_items g line ≡ i ∷ []
@@ -396,7 +396,7 @@ module _ (h : Header) (f : Field) (n : ℕ) (is : IsBegun h) (none : IsReadTo (p
   heard_number : Header
   heard_number = with_number h f n
 
-  -- what isn't the version leaves it
+  -- setting another number leaves the version
   lines_kept : is_same f field.Version ≡ false → (l : HeaderLine) → has_line heard_number.version l ≡ has_line h.version l
   unfolding heard_number
   lines_kept e l = ap (λ v. has_line v l) (number_kept h f field.Version n e)
@@ -417,7 +417,7 @@ module _ (h : Header) (f : Field) (n : ℕ) (is : IsBegun h) (none : IsReadTo (p
     | inr e ↦ subst (IsWithin x) (sym (number_kept h f x n e)) (is.numbers x)
   ]
 
-  -- before the version all else is the least header's
+  -- a number for whose line the version is too early is still that of `blank`
   still_blank : (x : Field) → has_line heard_number.version (head.Number x) ≡ false → number_in h x ≡ number_in blank x
   still_blank x unsaid = elim (cases_Bool (is_same f field.Version)) [
     | inl e ↦ none.numbers x (omega (arith, ap (λ y. place (head.Number y)) (same_field f field.Version e)))
@@ -538,7 +538,7 @@ read_kept h g line from (l ∷ read) due kept o =
     let less : place l < place line = omega (arith, o.0, stands_later (suc from) read line due o.1) in
     ap (λ js. js ++ flat_map (line_items g) read) (kept l less) ∙ ap (λ js. line_items h l ++ js) (read_kept h g line (suc from) read due kept o.1)
 
--- what was written of a header are the lines that are read
+-- the lines of a header that were written are those that were read
 before : (h : Header) (read due : List HeaderLine) → read ++ due ≡ heads → flat_map (line_items h) (take (length heads - length due) heads) ≡ flat_map (line_items h) read
 before h read due e = subst (λ ls. flat_map (line_items h) (take (length ls - length due) ls) ≡ flat_map (line_items h) read) e
     (ap (flat_map (line_items h)) (ap (λ k. take k (read ++ due)) size ∙ take-append_seam read due))
@@ -546,7 +546,7 @@ before h read due e = subst (λ ls. flat_map (line_items h) (take (length ls - l
     size : length (read ++ due) - length due ≡ length read
     size = omega (arith, length-append read due)
 
--- a line that the version doesn't have is passed over
+-- a line that the version doesn't have is skipped
 passed : (g : Header) (read : List HeaderLine) (line : HeaderLine) (due : List HeaderLine) → IsReadTo (length read) g → read ++ line ∷ due ≡ heads → has_line g.version line ≡ false
     → IsReadTo (length (read ++ line ∷ [])) g
 passed g read line due none e hasnt = record {
@@ -597,7 +597,7 @@ heading_step h line due i t is r item e =
 
 -- ---- one line
 
--- a family begins behind a table's lines
+-- a family begins after a table's lines
 family_step : (s : Stage) (b : Table) (entry number low high : ℕ) (t : Stage) → IsTable b → IsItem (Family entry number low high)
     → front_items b ++ Family entry number low high ∷ [] ≡ written s ++ Family entry number low high ∷ [] → raising b entry number low high ≡ Some t
     → Steps s t (Family entry number low high)
@@ -720,7 +720,7 @@ run_written (i ∷ p) s t f all e =
 
 -- ---- what was read goes on to a table
 
--- any instruction, for a left side that has none
+-- some instruction, to complete a left side that has none
 r0 : Within 0 8
 r0 = record { number = 0; least = omega arith; below = omega arith }
 
@@ -731,14 +731,14 @@ some_is : IsInstr some_instr
 unfolding some_instr r0
 some_is = record { window = refl; low = (omega arith, (omega arith, tt)) }
 
--- some table's lines begin with these
+-- these lines are the first lines of some table
 pub record Opens (is : List Item) : Type 0 where
   pub table : Table
   pub valid : IsTable table
   pub rest : List Item
   pub whole : items_of table ≡ is ++ rest
 
--- one line more, or less
+-- if the lines with one more are the first lines of some table, so are these
 back : (s t : Stage) (i : Item) → Steps s t i → Opens (written t) → Opens (written s)
 back s t i more o = record {
   table = o.table;
@@ -754,7 +754,7 @@ done : (t : Table) → Fine (Done t) → Opens (written (Done t))
 unfolding Fine written
 done t f = record { table = t; valid = f; rest = []; whole = sym (append-nil (items_of t)) }
 
--- Stages from the last to the first: from each, the shortest way to the end.
+-- The stages from the last to the first: from each, the shortest continuation to a whole table.
 from_proved : (t : Table) (r : Rule) → Fine (Proved t r) → Opens (written (Proved t r))
 unfolding step
 from_proved t r f = by_step (Proved t r) End (Done (with_rule t r)) f tt refl (done (with_rule t r))
@@ -777,7 +777,7 @@ from_masked t ls rs m f =
     let r : Rule = record { left = ls; right = rs; mask = m; proof = []; opens = [] } in
     by_step (Masked t ls rs m) Proof (Proved t r) f tt refl (from_proved t r)
 
--- a rule under the empty mask
+-- the empty mask, to complete a rule
 no_mask : IsMask 0
 no_mask x h = absurd (let k = bit_at-zero x in let bad : (0 == 1) ≡ true = rw k at h in cc)
 
@@ -796,7 +796,7 @@ from_stated : (t : Table) → Fine (Stated t) → Opens (written (Stated t))
 unfolding step
 from_stated t f = by_step (Stated t) End (Done t) f tt refl (done t)
 
--- of a header its other lines as a whole one says them
+-- the remaining lines of a valid header
 from_lines : (g : Header) (due : List HeaderLine) → IsHeader g → Opens (written (Heading g due))
 unfolding written
 from_lines g due is = record {
@@ -811,7 +811,7 @@ from_lines g due is = record {
     read : ℕ
     read = length heads - length due
 
--- some costs
+-- some costs, to complete a header
 ones : List ℕ
 ones = replicate 28 1
 
@@ -819,7 +819,7 @@ are_costs : AreCosts ones
 unfolding ones
 are_costs = record { as_many = refl; each = All-replicate (λ n. (1 ≤ n) × (n ≤ 64)) 28 1 (omega arith, omega arith) }
 
--- where costs are still to come, the lines before stay with some
+-- a header whose costs are still to come, completed with some costs
 some_costs : (h : Header) (ns : List ℕ) (due : List HeaderLine) → h.costs ≡ None → has_line h.version head.Costs ≡ true → HasRead h due
     → written (Heading (record h { costs = Some ns }) due) ≡ written (Heading h due)
 unfolding written
@@ -905,7 +905,7 @@ is_learnt_header regs left budget seed scratch pool costs r l b s c is_one are =
     each field.Budget = b
     each field.Scratch = c
 
--- a header whose version is 2 or 3 at least: version 4 has its costs, and no other has any
+-- a header stays valid if its version is raised to at least 2 or 3: version 4 has its costs, and no other version has any
 pub header_raised : (least : ℕ) (h : Header) → 2 ≤ least → least ≤ 3 → IsHeader h → IsHeader (record h { version = max least h.version })
 header_raised least h two three is =
     record { numbers = each; pool = is.pool; costs = is.costs; costed = costed; uncosted = uncosted; unsaid = λ f. all_said (record h { version = v }) f (omega (arith, two)) }
@@ -936,7 +936,7 @@ nothing_read = record {
   first = refl;
 }
 
--- what is read from the start begins a table, and what a whole table's lines are read as is that table
+-- lines that can be read from the start are the first lines of some table; if a whole table is read from them, they are its lines
 pub read_opens : (p : List Item) (s : Stage) → All IsItem p → run Start p ≡ Some s → Opens p
 unfolding written Fine
 read_opens p s all e =

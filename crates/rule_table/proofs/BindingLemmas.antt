@@ -1,4 +1,4 @@
--- Registers that are bound one by one.
+-- The steps of the matcher: binding one register, and how bindings add up.
 use Rattle.std.proofs.Common.{◌≡◌, ◌≢◌, ◌∙◌, ℕ, ◌<◌, ◌==◌, ◌||◌, Bool, true, false, List, [], ◌∷◌, ◌++◌, length, refl, sym, ap, subst, Option, Some, None, inl, inr, ◌⊎◌, eqb-true, eq-eqb, true≢false}
 use Rattle.std.specs.Prelude.{slice_set, ◌↔◌}
 use Rattle.std.specs.Option.{option_and_then, is_some}
@@ -13,7 +13,7 @@ use Rattle.rule_table.specs.Binding.{given_at, IsOneToOne, Agrees, Binds, Clashe
 
 -- ---- one register more
 
--- the new map has the register in place of that, and in place of each other what the old one has
+-- the new bindings bind `own` to the register, and each other one as the old bindings do
 pub record Puts (old new : List (Option Low)) (own : ℕ) (register : Low) : Type 0 where
   pub here : given_at new own ≡ Some register
   pub others : (x : ℕ) → x ≢ own → given_at new x ≡ given_at old x
@@ -30,7 +30,7 @@ puts_again given own register e = record { here = e; others = λ x d. refl }
 not_same : (x y : ℕ) → (x == y) ≡ false → y ≢ x
 not_same x y e s = true≢false (sym (eq-eqb x y (sym s)) ∙ e)
 
--- what the new map has is the register there, or what the old one has
+-- a new binding is that of `own`, or an old one
 either : (old new : List (Option Low)) (own x : ℕ) (register s : Low) → Puts old new own register → given_at new x ≡ Some s
     → ((x ≡ own) × (s.number ≡ register.number)) ⊎ ((x ≢ own) × (given_at old x ≡ Some s))
 either old new own x register s p e = by (own == x) refl
@@ -43,7 +43,7 @@ either old new own x register s p e = by (own == x) refl
         inl (same, ap (λ (l : Low). l.number) r)
     by false f = let d = not_same own x f in inr (d, sym (p.others x d) ∙ e)
 
--- where one is put that fits what was given, it is bound
+-- if a register is put for `own`, in agreement with an earlier binding of it if there is one, then `own` is bound to it
 pub put_binds : (old new : List (Option Low)) (own other : ℕ) (register : Low) → Puts old new own register → register.number ≡ other
     → ((s : Low) → given_at old own ≡ Some s → s.number ≡ other) → Binds old new (own ∷ []) (λ registers. item_under registers own ≡ other)
 put_binds old new own other register p is fits = record {
@@ -73,7 +73,7 @@ put_binds old new own other register p is fits = record {
         ap (item_under registers) same ∙ h own register p.here ∙ is ∙ sym (fits s (sym (ap (given_at old) same) ∙ e))
     before registers h x s e false f = h x s (p.others x (not_same own x f) ∙ e)
 
--- it is one-to-one still where that register stood nowhere
+-- the bindings stay one-to-one if nothing was bound to that register
 pub put_one_to_one : (old new : List (Option Low)) (taken more own other : ℕ) (register : Low) → Puts old new own register → register.number ≡ other → given_at old own ≡ None
     → has_item taken other ≡ false → ((n : ℕ) → has_item more n ≡ (has_item taken n || (n == other))) → IsOneToOne old taken → IsOneToOne new more
 put_one_to_one old new taken more own other register p is free not_taken both o = record {
@@ -100,7 +100,7 @@ put_one_to_one old new taken more own other register p is free not_taken both o 
         let k = o.places n (sym (or-false (has_item taken n)) ∙ ap (λ c. has_item taken n || c) (sym e) ∙ h) in
         (k.0, k.1, stays k.0 k.1 k.2, k.3)
 
--- a register that stands in place of another is bound to no third
+-- if another one is bound to the register, `own` can't be
 pub taken_clashes : (given : List (Option Low)) (taken own other : ℕ) → given_at given own ≡ None → has_item taken other ≡ true → IsOneToOne given taken
     → Clashes given (own ∷ []) (λ registers. item_under registers own ≡ other)
 taken_clashes given taken own other free is o = λ registers h asked apart.
@@ -113,7 +113,7 @@ taken_clashes given taken own other free is o = λ registers h asked apart.
     own_named true = refl
     own_named false = rw (eq-eqb own own refl) refl
 
--- one that is bound already is bound to that alone
+-- a register that is already bound is bound to that one alone
 pub bound_already : (given : List (Option Low)) (own other : ℕ) (register : Low) → given_at given own ≡ Some register
     → IsBound (register.number == other) given given (own ∷ []) (λ registers. item_under registers own ≡ other)
 bound_already given own other register e = by (register.number == other) refl
@@ -153,7 +153,7 @@ clashes_then old new xs ys F G f = λ registers h asked apart.
     λ x k. has_both xs ys x (is_some (given_at old x)) ∙ or_left (is_some (given_at old x) || has xs x) (has ys x) k in
     f registers h asked.0 (λ x y k l e. apart x y (among x k) (among y l) e)
 
--- what is asked may be said otherwise
+-- what is asked may be replaced by an equivalent
 pub bound_as : (old new : List (Option Low)) (names : List ℕ) (F G : List Low → Type 0) (b : Bool) → ((registers : List Low) → F registers ↔ G registers) → IsBound b old new names F → IsBound b old new names G
 bound_as old new names F G true same f = record {
   named = f.named;

@@ -1,4 +1,4 @@
--- The four numbers of a family behind the blanks of its line.
+-- Reading the four numbers of a family's line: what is read is what is written, and all that is written is read.
 use Rattle.std.proofs.Common.{◌≡◌, ℕ, ◌<◌, ◌^◌, List, [], ◌∷◌, map, sym, subst, arith, Option, Some, None}
 use Rattle.std.specs.Prelude.{decimal, MatchOption}
 use Rattle.std.specs.List.{All}
@@ -14,14 +14,14 @@ use Rattle.rule_table.proofs.ListTexts.{IsShort, number_words, words_one, words_
 pub words_short : (ns : List ℕ) → All (λ n. n < 2 ^ 32) ns → All IsShort ns
 words_short ns all = All-weaker (λ n. n < 2 ^ 32) IsShort (λ n h. omega arith) ns all
 
--- a family's numbers whose text these bytes are stand in them as words
+-- if the bytes are the text of a family's numbers, their words are the numerals of these
 pub family_words : (bs : List ℕ) (entry number low high : ℕ) → IsItem (Family entry number low high) → tail_of (Family entry number low high) ≡ bs
     → AreWords bs (map decimal (entry ∷ number ∷ low ∷ high ∷ []))
 family_words bs entry number low high is e =
     let ns : List ℕ = entry ∷ number ∷ low ∷ high ∷ [] in
     number_words bs ns (words_short ns is) (omega arith) e
 
--- what is made of the words
+-- the result of reading the words is right
 pub made_family : (bs : List ℕ) (words : List (List ℕ)) (o : Option Raised) → AreWords bs words
     → MatchOption o ((entry number low high : ℕ) → IsItem (Family entry number low high) → map decimal (entry ∷ number ∷ low ∷ high ∷ []) ≡ words → ⊥)
     (λ r. IsItem (Family r.entry r.number r.low r.high) × (map decimal (r.entry ∷ r.number ∷ r.low ∷ r.high ∷ []) ≡ words))

@@ -1,4 +1,4 @@
--- What is bound at the end of a left side and a window is the map.
+-- The bindings at the end of the walk are the map of the match; if the walk ended early, there is no match.
 use Rattle.std.proofs.Common.{◌≡◌, ◌∙◌, ℕ, Bool, true, false, List, [], ◌∷◌, ◌||◌, length, map, refl, sym, ap, arith, Option, Some, None, cond, slice_get, lit≤, lit<}
 use Rattle.std.specs.Option.{option_map, option_and_then, is_some}
 use Rattle.std.proofs.lemmas.Option.{slice_get-map}
@@ -18,7 +18,7 @@ or_first (Some r) = r
 abbrev filled : List (Option Low) → List Low
 filled given = map or_first given
 
--- the register that is given is the one that stands there
+-- a given register is at its index
 filled_at : (given : List (Option Low)) (x : ℕ) (r : Low) → given_at given x ≡ Some r → slice_get (filled given) x ≡ Some r
 filled_at given x r e = slice_get-map or_first given x ∙ by (slice_get given x) e
   where
@@ -30,7 +30,7 @@ filled_at given x r e = slice_get-map or_first given x ∙ by (slice_get given x
 filled_agree : (given : List (Option Low)) → Agrees (filled given) given
 filled_agree given x r e = ap (λ o. number_or o x) (filled_at given x r e)
 
--- one is given where there is one
+-- an option that has a value gives that value
 some_of : (o : Option Low) → is_some o ≡ true → (r : Low) × (o ≡ Some r)
 some_of None e = cc
 some_of (Some r) e = (r, refl)
@@ -39,7 +39,7 @@ none_of : (o : Option Low) → is_some o ≡ false → o ≡ None
 none_of None e = refl
 none_of (Some r) e = cc
 
--- eight by their places
+-- a list of eight is its items by index
 eight_given : (given : List (Option Low)) → length given ≡ 8 → given ≡ map (given_at given) eight
 eight_given [] e = absurd (omega (arith, e))
 eight_given (a ∷ []) e = absurd (omega (arith, e))
@@ -59,7 +59,7 @@ same_eight f g at = rw (at 0, at 1, at 2, at 3, at 4, at 5, at 6, at 7) refl
 abbrev pub IsFound : List Instr → List Instr → List (Option Low) → Type 0
 IsFound left normal given = (registers : List Low) × Renames left normal registers × (given ≡ map (given_for (registers_in left) registers) eight)
 
--- what is bound is it
+-- the bindings at the end are that map
 pub found : (left normal : List Instr) (nothing given : List (Option Low)) (taken : ℕ) → ((x : ℕ) → given_at nothing x ≡ None) → length given ≡ 8 → IsOneToOne given taken
     → Binds nothing given (registers_in left) (λ f. map (renamed f) left ≡ normal) → IsFound left normal given
 found left normal nothing given taken none all one bound = (
@@ -82,7 +82,7 @@ found left normal nothing given taken none all one bound = (
     by x true e = let r = some_of (given_at given x) (named x ∙ e) in r.1 ∙ sym (filled_at given x r.0 r.1)
     by x false e = none_of (given_at given x) (named x ∙ e)
 
--- where the walk ends early there is none
+-- if the walk ends early, there is no such map
 pub none_found : (left normal : List Instr) (nothing : List (Option Low)) → ((x : ℕ) → given_at nothing x ≡ None) → Clashes nothing (registers_in left) (λ f. map (renamed f) left ≡ normal)
     → (registers : List Low) → Renames left normal registers → ⊥
 none_found left normal nothing none clash registers m = clash registers nothing_agrees m.under (λ x y h k e. m.one_to_one x y (sym (named x) ∙ h) (sym (named y) ∙ k) e)

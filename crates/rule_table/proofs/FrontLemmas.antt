@@ -1,4 +1,4 @@
--- What a line begins with is determined by the line.
+-- Splitting a line into its first word and the rest is right: the two together are the line again.
 use Rattle.std.proofs.Common.{◌≡◌, ℕ, ◌==◌, List, [], ◌∷◌, ◌++◌, refl, sym, ◌∙◌, ap, Option, Some, None, eqb-true, eq-eqb, inl, inr}
 use Rattle.std.specs.Prelude.{MatchOption, option_map, ◌≢◌}
 use Rattle.std.specs.Borrow.{Bor}
@@ -47,7 +47,7 @@ front_in_sound (v ∷ ws) bs w t e = by (strip (word_text v) bs) refl e (front_i
         let same = same_pair v w u t e in
         strip_sound (word_text v) bs u h ∙ ap (λ x. word_text x ++ u) same.0 ∙ ap (λ x. word_text w ++ x) same.1
 
--- the bytes are the word with what stands behind it
+-- the bytes are the word followed by the rest
 pub front_sound : (bs : List ℕ) (w : FirstWord) (t : List ℕ) → front bs ≡ Some (w, t) → bs ≡ word_text w ++ t
 unfolding front
 front_sound [] w t e = cc

@@ -1,4 +1,4 @@
--- Hexadecimal digits tell their number.
+-- Hexadecimal digits determine their number: what is written of a state is read back as that state.
 use Rattle.std.proofs.Common.{◌≡◌, ℕ, zero, suc, ◌+◌, ◌*◌, ◌/◌, ◌%◌, ◌<◌, ◌^◌, Bool, true, false, List, [], ◌∷◌, ◌++◌, length, map, get_or, take, drop, refl, sym, ◌∙◌, ap, arith, add-one, length-append, Some, None, is_some, append_assoc}
 use Rattle.std.specs.Prelude.{◌-◌}
 use Rattle.std.specs.List.{list_all, All}
@@ -65,12 +65,12 @@ pub hex_start : hex_of 0 0 ≡ []
 unfolding hex_of
 hex_start = refl
 
--- ---- digits tell
+-- ---- digits determine their number
 
 digit_tells : (c d : ℕ) → c < 16 → d < 16 → hex_digit c ≡ hex_digit d → c ≡ d
 digit_tells c d h k e = grind arith
 
--- fronts of one length
+-- two equal lists have the same prefix of a given length
 pub same_front : (xs ys us vs : List ℕ) → length xs ≡ length ys → xs ++ us ≡ ys ++ vs → (xs ≡ ys) × (us ≡ vs)
 same_front xs ys us vs n e = (
   sym (take-append_seam xs us) ∙ ap (take (length xs)) e ∙ ap (λ m. take m (ys ++ vs)) n ∙ take-append_seam ys vs,
@@ -96,7 +96,7 @@ hex_tells (suc n) v w h k e =
 
 -- ---- words in front of more
 
--- one word behind a blank, and more
+-- a word after a blank determines its digits and the rest
 pub word_tells : (n v w : ℕ) (xs ys : List ℕ) → 32 ∷ (hex_of n v ++ xs) ≡ 32 ∷ (hex_of n w ++ ys) → (hex_of n v ≡ hex_of n w) × (xs ≡ ys)
 word_tells n v w xs ys e =
     let tail : hex_of n v ++ xs ≡ hex_of n w ++ ys = cc in

@@ -1,4 +1,4 @@
--- No newline stands inside a line.
+-- The text of an item has no newline, so that the lines of a table's text are those of its items.
 use Rattle.std.proofs.Common.{◌≡◌, ℕ, ℤ, pos, negsuc, zero, suc, ◌%◌, ◌/◌, ◌<◌, ◌^◌, Bool, true, false, List, [], ◌∷◌, ◌++◌, length, map, refl, ◌∙◌, ap, arith, cond, w64}
 use Rattle.std.specs.Prelude.{decimal, FitsSigned}
 use Rattle.std.specs.Fmt.{signed_decimal}

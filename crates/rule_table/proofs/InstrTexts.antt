@@ -1,4 +1,4 @@
--- The texts of instructions of windows: they begin with a letter, have no newline, and tell the instruction.
+-- The texts of the instructions that may stand in windows: they begin with a letter, have no newline, and determine the instruction.
 use Rattle.std.proofs.Common.{◌≡◌, ℕ, ◌*◌, ◌<◌, ◌^◌, ◌==◌, Bool, true, false, List, [], ◌∷◌, ◌++◌, refl, sym, ◌∙◌, ap, arith, Option, Some, None, inl, inr, eqb-true, map, lt-ltb}
 use Rattle.std.specs.Prelude.{decimal, nat_lt, if◌then◌else◌}
 use Rattle.std.specs.List.{list_all}
@@ -206,7 +206,7 @@ instr_lettered i is = let m = parts_of i in lettered (mnemonic m.kind) (operands
 pub reads_back : (i : Instr) → IsInstr i → reading (instr_text i) ≡ Some (shown_with i None)
 reads_back i is = writing_reads_back i None (plain i is.window).whole
 
--- what is shown alike is one instruction
+-- two instructions that are shown in the same way are the same
 pub same_shown : (i j : Instr) (l : Option (List ℕ × ℕ)) → shown_with i None ≡ shown_with j l → (i ≡ j) × (None ≡ l)
 same_shown i j l e = (same_parts i j (ap (λ (s : Shown). s.made) e), ap (λ (s : Shown). s.label) e)
 

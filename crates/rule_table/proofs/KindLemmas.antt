@@ -1,4 +1,4 @@
--- Instructions of windows by their kinds, registers and numbers.
+-- Binding two instructions that may stand in windows: their kinds have to be the same, and their registers and numbers are bound one by one.
 use Rattle.std.proofs.Common.{◌≡◌, ◌∙◌, ℕ, Bool, true, List, ◌∷◌, ◌++◌, map, Option, refl, sym, ap, subst}
 use Rattle.std.specs.Prelude.{◌↔◌, false, Some, None, IsSome, is_some}
 use Rattle.std.proofs.lemmas.Option.{same_Some}
@@ -19,7 +19,7 @@ use Rattle.rule_table.specs.Matching.{registers_in}
 use Rattle.rule_table.proofs.BindingLemmas.{bound_as}
 use Rattle.rule_table.proofs.Renamings.{parts_under, renamed_parts}
 
--- an instruction of windows has a mnemonic of the alphabet, and two mnemonics at one place are one
+-- an instruction that may stand in windows has a rank among the mnemonics, and two kinds of the same rank are the same
 window_kind : (i : Instr) → is_in_window i ≡ true → IsSome (rank (parts_of i).kind)
 window_kind (instr.Mov d m) w = refl
 window_kind i w = cc
@@ -42,7 +42,7 @@ pub record AreOfKind (i j : Instr) (p q : Parts) (r : Operands) : Type 0 where
 abbrev pub SameUnder : List Low → Parts → Parts → Operands → Type 0
 SameUnder f p q r = (number_under f r.first p.first ≡ q.first) × ((number_under f r.second p.second ≡ q.second) × (number_under f r.third p.third ≡ q.third))
 
--- so one is the other renamed exactly where these numbers are its own
+-- the one is the other renamed if and only if its operands are those of the other, renamed
 same_under : (f : List Low) (i j : Instr) (p q : Parts) (r : Operands) → AreOfKind i j p q r → SameUnder f p q r ↔ (renamed f i ≡ j)
 same_under f i j p q r a = (
   λ h. same_parts (renamed f i) j (under ∙ same_fields (parts_under f r p) q a.kinds h.0 h.1.0 h.1.1 ∙ a.others),
@@ -61,11 +61,11 @@ instr_bound old new b i j p q r a h =
     let named_so : named_in r p ≡ named i = ap (λ (s : Operands). named_in s p) a.roles ∙ ap (λ (x : Parts). named_in (roles x.kind) x) a.own in
     bound_as old new (named i) (λ f. SameUnder f p q r) (λ f. renamed f i ≡ j) b (λ f. same_under f i j p q r a) (subst (λ (xs : List ℕ). IsBound b old new xs (λ f. SameUnder f p q r)) named_so h)
 
--- where the kinds differ there is no renaming to the other
+-- if the kinds differ, no renaming gives the other
 pub kinds_clash : (given : List (Option Low)) (i j : Instr) → is_in_window i ≡ true → ((parts_of i).kind ≡ (parts_of j).kind → ⊥) → Clashes given (named i) (λ f. renamed f i ≡ j)
 kinds_clash given i j w differ = λ f h e apart. differ (sym (ap (λ (x : Parts). x.kind) (renamed_parts f i w)) ∙ ap (λ (x : Instr). (parts_of x).kind) e)
 
--- the registers of either are low
+-- the registers of both are low ones
 pub own_low : (i j : Instr) (p q : Parts) (r : Operands) → AreOfKind i j p q r → AreBelow 8 (named_by r.first p.first) × AreBelow 8 (named_by r.second p.second) × AreBelow 8 (named_by r.third p.third)
 own_low i j p q r a = parts_low i p r a.own a.roles a.window
 
@@ -75,7 +75,7 @@ others_low i j p q r a w = parts_low j q r a.others (a.roles ∙ ap roles a.kind
 
 -- ---- sequences
 
--- to bind the first instructions and all behind them is to bind the sequences
+-- binding the first instructions and then all that follow binds the sequences
 pub all_bound : (old new : List (Option Low)) (b : Bool) (i j k : Instr) (is js left window : List Instr) → left ≡ i ∷ is → window ≡ k ∷ js → j ≡ normal_of k
     → IsBound b old new (named i ++ registers_in is) (λ f. (renamed f i ≡ j) × (map (renamed f) is ≡ map normal_of js))
     → IsBound b old new (registers_in left) (λ f. map (renamed f) left ≡ map normal_of window)

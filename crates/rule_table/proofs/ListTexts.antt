@@ -1,4 +1,4 @@
--- Lists of numbers, a blank before each, and the words of bytes.
+-- Reading lists of numbers with a blank before each: what is read is what is written, and all that is written is read.
 use Rattle.std.proofs.Common.{◌≡◌, ℕ, ◌<◌, ◌≤◌, ◌^◌, ◌&&◌, true, false, List, [], ◌∷◌, ◌++◌, length, map, refl, sym, ◌∙◌, ap, arith, subst, eqb, append-nil, leb-true, Option, Some, None}
 use Rattle.std.specs.Prelude.{decimal, nat_lt, nat_le, MatchOption, IsSome, IfSome, IsTrue, ◌↔◌}
 use Rattle.std.specs.List.{All, slice_split, join_with_byte, list_all}
@@ -49,7 +49,7 @@ joined : (w : List ℕ) (ws : List (List ℕ)) → 32 ∷ join_with_byte 32 (w �
 joined w [] = ap (λ us. 32 ∷ us) (sym (append-nil w))
 joined w (v ∷ ws) = ap (λ us. 32 ∷ (w ++ us)) (joined v ws)
 
--- some numbers whose text these bytes are stand in them as words
+-- if the bytes are the text of some numbers, their words are the numerals of these
 pub number_words : (bs ns : List ℕ) → All IsShort ns → 0 < length ns → after_blanks (map decimal ns) ≡ bs → AreWords bs (map decimal ns)
 number_words bs [] all some e = absurd (omega arith)
 number_words bs (n ∷ ns) all some e = record { rest = decimal n ++ after_blanks (map decimal ns); is = sym e; parts = sym (split_numbers n ns all) }
@@ -76,14 +76,14 @@ bytes_tell ns ms a b e = blanks_tell ns ms (bytes_short ns a) (bytes_short ms b)
 bytes_inside : (ns : List ℕ) → AreBytes ns → IsInside (after_blanks (map decimal ns))
 bytes_inside ns bytes = blanks_inside decimal IsShort decimal_inside ns (bytes_short ns bytes)
 
--- what is made of the words
+-- the result of reading the words is right
 pub made_bytes : {A : Type 0} (items : A → List ℕ) (bs : List ℕ) (words : List (List ℕ)) (o : Option A) → AreWords bs words
     → MatchOption o ((ns : List ℕ) → AreBytes ns → map decimal ns ≡ words → ⊥) (λ v. AreBytes (items v) × (map decimal (items v) ≡ words))
     → MatchOption o ((ns : List ℕ) → AreBytes ns → 0 < length ns → after_blanks (map decimal ns) ≡ bs → ⊥) (λ v. AreBytes (items v) × (after_blanks (map decimal (items v)) ≡ bs))
 made_bytes items bs words None a made = λ ns bytes some e. made ns bytes (words_one bs (map decimal ns) words (number_words bs ns (bytes_short ns bytes) some e) a)
 made_bytes items bs words (Some v) a made = (made.0, words_blanks bs (map decimal (items v)) (subst (AreWords bs) (sym made.1) a))
 
--- what is made of the numbers, where they are some
+-- the result for the numbers, if there is at least one
 pub made_list : (P : List ℕ → Type 0) → ((ns : List ℕ) → P ns → AreBytes ns) → (bs numbers : List ℕ) (o : Option (List ℕ)) → AreBytes numbers → after_blanks (map decimal numbers) ≡ bs
     → MatchOption o (P numbers → ⊥) (λ p. (p ≡ numbers) × P numbers)
     → MatchOption o ((ns : List ℕ) → P ns → after_blanks (map decimal ns) ≡ bs → ⊥) (λ p. P p × (after_blanks (map decimal p) ≡ bs))

@@ -23,7 +23,7 @@ registers_renamed r (i ∷ is) w =
 
 -- ---- windows
 
--- what may stand in a window when it is renamed may do so itself
+-- an instruction that may stand in a window when it is renamed may do so itself
 reg_back : (r : List Low) (d : Reg) → length r ≡ 8 → nat_lt (reg_under r d).number 8 ≡ true → nat_lt d.number 8 ≡ true
 reg_back r d size h = by (nat_lt d.number 8) refl
   where
@@ -49,7 +49,7 @@ windows_back r (i ∷ is) size h =
     let both = and_parts (is_in_window (renamed r i)) (list_all is_in_window (map (renamed r) is)) h in
     and_from (is_in_window i) (list_all is_in_window is) (window_back r i size both.0) (windows_back r is size both.1)
 
--- a left side that matches a window is one
+-- a left side that matches a window has only instructions that may stand in windows
 pub left_windows : (left window : List Instr) (registers : List Low) → Matches left window registers → list_all is_in_window left ≡ true
 left_windows left window registers m =
     windows_back registers left m.renames.all (ap (list_all is_in_window) m.renames.under ∙ windows_normal window m.windows)
@@ -70,7 +70,7 @@ agree_by f g (y ∷ xs) x e h = by (y == x) refl h (agree_by f g xs x tail)
     by true s h later = let one = eqb-true y x s in ap f (sym one) ∙ head ∙ ap g one
     by false s h later = later h
 
--- the register that eight have at a place
+-- the register at an index of eight
 record Register (r : List Low) (x : ℕ) : Type 0 where
   register : Low
   there : slice_get r x ≡ Some register

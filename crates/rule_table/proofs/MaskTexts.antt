@@ -1,4 +1,4 @@
--- The items of masks in their texts.
+-- Reading the text of a mask: what is read is what is written, and all that is written is read.
 use Rattle.std.proofs.Common.{◌≡◌, ℕ, zero, suc, ◌<◌, ◌≤◌, ◌==◌, ◌&&◌, ◌||◌, Bool, true, false, List, [], ◌∷◌, ◌++◌, map, refl, sym, ◌∙◌, ap, arith, cond, Option, Some, None, inl, inr, eqb-true, eq-eqb, append_assoc, append-nil, leb-true, nat_le}
 use Rattle.std.specs.Prelude.{nat_lt}
 use Rattle.std.specs.List.{flat_map, list_all}
@@ -23,7 +23,7 @@ row_texts p rows = flat_map (λ (r : ℕ × List ℕ). cond (p r.0) r.1 []) rows
 
 -- ---- texts of which none begins another
 
--- two texts differ at a place that both have
+-- two texts differ at an index that both have
 differ : List ℕ → List ℕ → Bool
 differ [] u = false
 differ (a ∷ t) [] = false
@@ -70,7 +70,7 @@ pub picked : (ℕ → Bool) → List (ℕ × List ℕ) → List ℕ
 picked p [] = []
 picked p (r ∷ rs) = cond (p r.0) (r.0 ∷ picked p rs) (picked p rs)
 
--- from the texts of items the items are taken, and nothing is left
+-- reading the texts of some items takes these items and leaves nothing
 pub taken_rows : (p : ℕ → Bool) (rs : List (ℕ × List ℕ)) → are_apart rs ≡ true → taken rs (row_texts p rs) ≡ (picked p rs, [])
 unfolding taken are_apart picked
 taken_rows p [] e = refl

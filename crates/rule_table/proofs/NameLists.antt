@@ -1,4 +1,4 @@
--- The names of r0 to r7, put in from the last register of an order to the first.
+-- The loop of `names_of`: the names of r0 to r7 are set from the last register of an order to the first, so that the first appearance wins.
 use Rattle.std.proofs.Common.{◌≡◌, ℕ, zero, suc, ◌+◌, ◌-◌, ◌<◌, ◌≢◌, List, [], ◌∷◌, map, length, drop, get_or, refl, sym, ap, ◌∙◌, arith, slice_set, inl, inr}
 use Rattle.std.proofs.Math.Seq.{drop-cons}
 use Rattle.std.proofs.lemmas.List.{drop_all}
@@ -8,7 +8,7 @@ use Rattle.thumb_instr.specs.Window.{Low}
 use Rattle.rule_table.specs.Canonical.{name_in, numbers_of}
 use Rattle.rule_table.proofs.Backs.{eight}
 
--- each register's place in a rest of the order that begins at a place
+-- the index of each register in the part of the order that begins at an index
 abbrev pub names_from : ℕ → List ℕ → List ℕ
 names_from place rest = map (λ r. place + name_in rest r) eight
 

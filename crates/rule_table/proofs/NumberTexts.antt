@@ -17,7 +17,7 @@ module _ (n : ℕ) (h : n < 2 ^ 64) (bs : List ℕ) (e : decimal n ≡ bs) where
 pub numeral_unread : {E : Type 0} (r : Result ℕ E) (x : E) (n : ℕ) → r ≡ Err x → r ≡ Ok n → ⊥
 numeral_unread r x n d e = cc
 
--- a number whose numeral the bytes aren't, though they are read as it
+-- bytes that are parsed as a number whose numeral they aren't are no numeral
 pub numeral_misread : {E : Type 0} (r : Result ℕ E) (m n : ℕ) (bs : List ℕ) → r ≡ Ok m → r ≡ Ok n → decimal n ≡ bs → (decimal m ≡ bs → false ≡ true) → ⊥
 numeral_misread r m n bs d e f g =
     let same : n ≡ m = cc in

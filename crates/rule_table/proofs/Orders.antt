@@ -1,4 +1,4 @@
--- Registers in order of first appearance.
+-- Registers in order of first appearance: the loops of `windows` that collect them.
 use Rattle.std.proofs.Common.{◌≡◌, ℕ, suc, ◌+◌, ◌<◌, ◌≤◌, true, false, List, [], ◌∷◌, ◌++◌, inl, inr, length, get_or, drop, refl, ◌∙◌, ap, arith, length-append, cond, Some, slice_get}
 use Rattle.std.proofs.Math.Seq.{drop-cons}
 use Rattle.std.proofs.lemmas.List.{drop_all}
@@ -19,7 +19,7 @@ pub firsts-end : (seen rs : List ℕ) (i : ℕ) → length rs ≤ i → firsts s
 unfolding firsts
 firsts-end seen rs i h = ap (firsts seen) (drop_all i rs h)
 
--- they only grow
+-- the registers seen only grow
 pub firsts-grows : (seen rs : List ℕ) → length seen ≤ length (firsts seen rs)
 unfolding firsts
 firsts-grows seen [] = omega arith
@@ -29,7 +29,7 @@ firsts-grows seen (r ∷ rs) =
       | false ↦ omega (arith, firsts-grows (seen ++ r ∷ []) rs, length-append seen (r ∷ []))
     ]
 
--- each register has its name's place
+-- each register is at the index that is its name
 pub name_stands : (xs : List ℕ) (r : ℕ) → has xs r ≡ true → slice_get xs (name_in xs r) ≡ Some r
 unfolding name_in
 name_stands [] r h = cc

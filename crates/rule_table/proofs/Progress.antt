@@ -1,4 +1,4 @@
--- What has been read of a text, and what comes of it.
+-- The loop of `read_table`: its invariant, one more line, and the result when a line is refused or all lines were read.
 use Rattle.std.proofs.Common.{◌≡◌, ◌∙◌, ℕ, ◌+◌, ◌<◌, ◌≤◌, ◌^◌, true, false, List, [], ◌∷◌, ◌++◌, length, map, refl, sym, ap, subst, arith, Option, Some, None, append_assoc, append-nil, length-append, inl, inr, true≢false, Ok, Err}
 use Rattle.std.specs.Prelude.{IfSome, IsSome}
 use Rattle.std.specs.Option.{option_and_then}
@@ -82,7 +82,7 @@ costs_said : (costs : Option (List ℕ)) → IsSome costs → IfSome costs AreCo
 costs_said None some are = absurd cc
 costs_said (Some ns) some are = are
 
--- what a line says that the version has
+-- what a line of the header says, if the version has it, lies within its limits
 said_item : (h : Header) → IsHeader h → (line : HeaderLine) → has_line h.version line ≡ true → IsItem (said h line)
 said_item h is (head.Number field) has = is.numbers field
 said_item h is head.Pool has = is.pool
@@ -122,7 +122,7 @@ begins is o = record {
   whole = table_lines o.table o.valid ∙ ap (map ended) o.whole ∙ map-append ended is o.rest;
 }
 
--- items whose lines begin with those of others begin with these
+-- if the lines of items begin with certain lines, the items split at the same place
 record Split (xs is : List Item) (lines : List (List ℕ)) : Type 0 where
   rest : List Item
   whole : xs ≡ is ++ rest
@@ -259,7 +259,7 @@ pub line_steps : (s : Stage) (p : Placed) (i : Item) (o : Option Stage) → p.is
 line_steps s p i None ended' is text e = λ j h js same. let one : j ≡ i = lines_tell j i js is (same ∙ sym text) in ap (step s) one ∙ sym e
 line_steps s p i (Some t) ended' is text e = record { ended = ended'; item = i; valid = is; is = text; next = sym e }
 
--- a line that comes is one of the text's
+-- the number of a line is no more than the number of the text's bytes
 pub room : (bytes : List ℕ) (p : Placed) (left : List Placed) (s : Stage) (n : ℕ) → Progress bytes (p ∷ left) s n → n ≤ length bytes
 room bytes p left s n g =
     let all : length (lines_of bytes) ≡ length (map ended g.items) + length (map whole (p ∷ left)) =
@@ -267,7 +267,7 @@ room bytes p left s n g =
     let lines : length (lines_in bytes) ≡ length (lines_of bytes) = sym (length-map (lines_in bytes) whole) ∙ ap length (map-whole bytes 1 0) in
     omega (arith, all, lines, length-lines_in bytes, g.count, length-map g.items ended, length-map left whole)
 
--- a line is missing
+-- the text ends before the table does: the next line is missing
 pub missing : (bytes : List ℕ) (s : Stage) (n : ℕ) → Progress bytes [] s n → ((t : Table) → s ≡ Done t → ⊥) → IsRefused bytes n
 missing bytes s n g undone = record {
   before = map ended g.items;

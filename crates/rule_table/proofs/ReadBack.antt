@@ -1,4 +1,4 @@
--- A table's lines are read as the table.
+-- Reading the lines of a table by the grammar gives the table.
 use Rattle.std.proofs.Common.{◌≡◌, ℕ, ◌⊎◌, inl, inr, zero, suc, subst, ◌+◌, ◌<◌, ◌≤◌, true, false, List, [], ◌∷◌, ◌++◌, length, map, nat_le, nat_lt, refl, sym, ◌∙◌, ap, arith, Option, Some, None, append_assoc, append-nil, length-append, lt-ltb, leb-true}
 use Rattle.std.specs.Prelude.{IsSome}
 use Rattle.std.specs.Option.{option_and_then}
@@ -73,7 +73,7 @@ reads_log t r o (c ∷ cs) rest =
     reads_log t r (record { number = o.number; log = o.log ++ c ∷ [] }) cs rest
     ∙ ap (λ us. run (Opening t r (record { number = o.number; log = us })) rest) (append_assoc o.log (c ∷ []) cs)
 
--- what a rule ends before: the next rule, a family, or the end of the table
+-- what may follow a rule: the next rule, a family, or the end of the table
 record Closes (rest : List Item) : Type 0 where
   same : (t : Table) (r : Rule) (o : Opened) → run (Opening t r o) rest ≡ run (Proved t (with_opened r o)) rest
   next : (t : Table) (r : Rule) → run (Proved t r) rest ≡ run (Stated (with_rule t r)) rest
@@ -103,7 +103,7 @@ reads_opens t r (p ∷ os) rest closes up =
     ∙ reads_log t r (record { number = p.number; log = [] }) p.log (flat_map open_items os ++ rest)
     ∙ reads_later t r p os rest closes parts.1
 
--- the lines of a rule behind its first
+-- the lines of a rule after its first
 tail_items : Rule → List Item
 tail_items r = map Left r.left ++ (map Right r.right ++ Mask r.mask ∷ Proof ∷ (map Logged r.proof ++ flat_map open_items r.opens))
 
@@ -135,7 +135,7 @@ closes_rules : (rs : List Rule) (rest : List Item) → Closes rest → Closes (f
 closes_rules [] rest closes = closes
 closes_rules (r ∷ rs) rest closes = closes_entry _
 
--- rules are read as one by one behind the states
+-- rules are read one by one after the states
 reads_rules : (t : Table) (rs : List Rule) (rest : List Item) → Closes rest → All IsRule rs → run (Stated t) (flat_map rule_items rs ++ rest) ≡ run (Stated (more_rules t rs)) rest
 unfolding run step more_rules tail_items
 reads_rules t [] rest closes all = ap (λ us. run (Stated (record t { rules = us })) rest) (sym (append-nil t.rules))
@@ -147,7 +147,7 @@ reads_rules t (r ∷ rs) rest closes all =
     ∙ reads_rules (with_rule t r) rs rest closes (All-tail IsRule r rs all)
     ∙ ap (λ us. run (Stated (record t { rules = us })) rest) (append_assoc t.rules (r ∷ []) rs)
 
--- what a family ends before: the next one, or the end of the table
+-- what may follow a family: the next one, or the end of the table
 record Ends (rest : List Item) : Type 0 where
   same : (t : Table) (f : Raised) → run (Shown t f) rest ≡ run (Stated (with_family t f)) rest
 
@@ -177,7 +177,7 @@ reads_none : (t : Table) → run (Stated t) (End ∷ []) ≡ Some (Done (more_fa
 unfolding run step more_families
 reads_none t = ap (λ us. Some (Done (record t { families = us }))) (sym (append-nil t.families))
 
--- only later versions have any
+-- families are read one by one, up to the end of the table; only later versions have any
 reads_ends : (t : Table) (fs : List Raised) → (has_families t.header.version ≡ false → fs ≡ []) → run (Stated t) (flat_map family_items fs ++ End ∷ []) ≡ Some (Done (more_families t fs))
 reads_ends t fs none = elim (cases_Bool (has_families t.header.version)) [
   | inl has ↦ reads_families t fs has

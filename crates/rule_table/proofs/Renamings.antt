@@ -1,4 +1,4 @@
--- What becomes of an instruction of windows when its registers are renamed, by what becomes of each register that it names.
+-- Renaming an instruction that may stand in windows, in terms of renaming each register that it names.
 use Rattle.std.proofs.Common.{◌≡◌, ◌∙◌, ℕ, true, List, [], ◌∷◌, ◌++◌, refl, sym, ap}
 use Rattle.thumb_instr.specs.declared.instr.Instr.{Instr}
 use Rattle.thumb_instr.specs.declared.instr.Instr.TheVariants as instr
@@ -13,16 +13,16 @@ use Rattle.thumb_instr.proofs.PartLemmas.{same_parts, same_fields}
 use Rattle.thumb_instr.proofs.RenamingLemmas.{low_number, reg_number, window_renamed}
 use Rattle.rule_table.specs.Binding.{number_under}
 
--- the parts with other registers
+-- the parts with their registers renamed
 abbrev pub parts_under : List Low → Operands → Parts → Parts
 parts_under registers r p = of p.kind (number_under registers r.first p.first) (number_under registers r.second p.second) (number_under registers r.third p.third)
 
--- to rename an instruction is to rename those of its numbers that are registers
+-- renaming an instruction renames those of its operands that are registers
 pub renamed_parts : (f : List Low) (i : Instr) → is_in_window i ≡ true → parts_of (renamed f i) ≡ parts_under f (roles (parts_of i).kind) (parts_of i)
 renamed_parts f (instr.Mov d m) w = rw (reg_number f d, reg_number f m) refl
 renamed_parts f i w = first_of (cc, simp (reg_number f, low_number f))
 
--- it holds of each register that is named
+-- the property holds of each register that is named
 abbrev pub AllNamed : (ℕ → Type 0) → List ℕ → Type 0
 AllNamed P [] = Unit {0}
 AllNamed P (x ∷ xs) = P x × AllNamed P xs
@@ -31,7 +31,7 @@ pub named_parts : (P : ℕ → Type 0) (xs ys : List ℕ) → AllNamed P (xs ++ 
 named_parts P [] ys h = (tt, h)
 named_parts P (x ∷ xs) ys h = let p = named_parts P xs ys h.1 in ((h.0, p.0), p.1)
 
--- of each of the three
+-- it holds of the register of each of the three operands
 of_each : (P : ℕ → Type 0) (i : Instr) → AllNamed P (named i) → (let r = roles (parts_of i).kind in let p = parts_of i in AllNamed P (named_by r.first p.first) × (AllNamed P (named_by r.second p.second) × AllNamed P (named_by r.third p.third)))
 of_each P i h =
     let r = roles (parts_of i).kind in
@@ -39,7 +39,7 @@ of_each P i h =
     let first = named_parts P (named_by r.first p.first) (named_by r.second p.second ++ named_by r.third p.third) h in
     (first.0, named_parts P (named_by r.second p.second) (named_by r.third p.third) first.1)
 
--- the same register stands in both maps in place of one
+-- both maps have the same register in place of x
 abbrev pub IsSameUnder : List Low → List Low → ℕ → Type 0
 IsSameUnder f g x = item_under f x ≡ item_under g x
 
@@ -55,7 +55,7 @@ number_back : (f g : List Low) (r : Role) (n : ℕ) → AllNamed (ComesBack f g)
 number_back f g (Register u c) n h = h.0
 number_back f g r n h = refl
 
--- an instruction is renamed to the same where its registers are
+-- two maps that agree on an instruction's registers rename it to the same
 pub renamed_alike : (f g : List Low) (i : Instr) → is_in_window i ≡ true → AllNamed (IsSameUnder f g) (named i) → renamed f i ≡ renamed g i
 renamed_alike f g i w h =
     let r = roles (parts_of i).kind in

@@ -1,4 +1,4 @@
--- Lemmas that crates above share.
+-- Lemmas that several crates above this one use.
 use Rattle.rule_table.specs.Canonical.{has, numbers_of}
 use Rattle.std.proofs.Common.{List, Some, [], ap, eq-eqb, refl, slice_get, suc, true, zero, ℕ, ◌==◌, ◌∙◌, ◌∷◌, ◌≡◌}
 use Rattle.std.proofs.lemmas.Bool.{or_left, or_right}

@@ -1,4 +1,4 @@
--- What a line says by what its word says.
+-- What a line says, from its first word and what the rest says.
 use Rattle.std.proofs.Common.{◌≡◌, ◌∙◌, List, ℕ, sym, ap, Option, Some, None, Result, Ok, Err}
 use Rattle.std.specs.Prelude.{IfOk}
 use Rattle.rule_table.specs.declared.item.Item.{Item as Code}
@@ -26,7 +26,7 @@ says line w tail (Some x) f told =
     front_line i told.0 ∙ ap (λ (v : FirstWord). Some (v, tail_of i)) told.1 ∙ ap (λ (t : List ℕ). Some (w, t)) told.2 in
     (told.0, front_sound (line_of i) w tail whole ∙ sym (front_sound line w tail f))
 
--- what holds of an answer
+-- a property of a result's value may be weakened
 pub also : {X E : Type 0} (P Q : X → Type 0) → ((x : X) → P x → Q x) → (r : Result X E) → IfOk r P → IfOk r Q
 also P Q each (Ok x) h = each x h
 also P Q each (Err e) h = h

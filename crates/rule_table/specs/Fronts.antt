@@ -1,4 +1,4 @@
--- What lines begin with, and what stands behind it.
+-- The word with which a line begins, and the rest of the line: how the reader splits a line, and how an item's line is made of the two.
 use Rattle.std.specs.Prelude.{ℕ, ◌==◌, ◌++◌, Bool, false, List, [], ◌∷◌, map, codes, decimal, Option, Some, None, if◌then◌else◌}
 use Rattle.std.specs.Char.{is_ascii_digit}
 use Rattle.std.specs.Borrow.{Bor}
@@ -27,13 +27,13 @@ word_text word.Family = codes "family"
 word_text word.End = codes "end"
 word_text word.Digit = []
 
--- what stands behind a prefix
+-- the bytes after a prefix, if they begin with it
 abbrev pub strip : List ℕ → List ℕ → Option (List ℕ)
 strip [] bs = Some bs
 strip (p ∷ ps) [] = None
 strip (p ∷ ps) (b ∷ bs) = if p == b then strip ps bs else None
 
--- a word with what stands behind it, or else what the others give
+-- the word with the rest, if there is one, and else the result for the other words
 abbrev pub or_else : FirstWord → Option (List ℕ) → Option (FirstWord × List ℕ) → Option (FirstWord × List ℕ)
 or_else w (Some t) others = Some (w, t)
 or_else w None others = others
@@ -42,7 +42,7 @@ abbrev pub front_in : List FirstWord → List ℕ → Option (FirstWord × List 
 front_in [] bs = None
 front_in (w ∷ ws) bs = or_else w (strip (word_text w) bs) (front_in ws bs)
 
--- of a line of a proof, which begins with a digit, all of it
+-- the word and the rest of a line; for a line of a proof, which begins with a digit, the rest is the whole line
 unfoldable pub front : List ℕ → Option (FirstWord × List ℕ)
 front [] = None
 front (b ∷ bs) = if is_ascii_digit b then Some (word.Digit, b ∷ bs) else front_in words (b ∷ bs)
@@ -50,7 +50,7 @@ front (b ∷ bs) = if is_ascii_digit b then Some (word.Digit, b ∷ bs) else fro
 abbrev pub seen_front : FirstWord × Bor (List ℕ) → FirstWord × List ℕ
 seen_front p = (p.0, p.1.now)
 
--- what is left where something was taken from the front of the bytes, and which item was
+-- the rest if a text was taken from the front of the bytes, else all of them; and whether x is the item whose text was taken
 abbrev pub left_of : List ℕ → Option (List ℕ) → List ℕ
 left_of bs None = bs
 left_of bs (Some t) = t
@@ -59,7 +59,7 @@ abbrev pub is_taken : ℕ → Option (List ℕ) → ℕ → Bool
 is_taken y None x = false
 is_taken y (Some t) x = x == y
 
--- the items whose texts stand at the front of the bytes in the order of the rows, and what stands behind them
+-- the items whose texts stand at the front of the bytes, in the order of the rows, and the rest of the bytes
 abbrev pub and_taken : List ℕ → ℕ → Option (List ℕ) → (List ℕ → List ℕ × List ℕ) → List ℕ × List ℕ
 and_taken bs x None others = others bs
 and_taken bs x (Some t) others = (x ∷ (others t).0, (others t).1)
@@ -68,7 +68,7 @@ unfoldable pub taken : List (ℕ × List ℕ) → List ℕ → List ℕ × List 
 taken [] bs = ([], bs)
 taken (r ∷ rs) bs = and_taken bs r.0 (strip r.1 bs) (taken rs)
 
--- what stands behind the word
+-- the line of an item without its first word
 abbrev pub tail_of : Item → List ℕ
 tail_of (Number field n) = decimal n
 tail_of (Pool ns) = after_blanks (map decimal ns)
@@ -84,7 +84,7 @@ tail_of (Open n) = decimal n
 tail_of (Family entry number low high) = after_blanks (map decimal (entry ∷ number ∷ low ∷ high ∷ []))
 tail_of End = []
 
--- a left side's instructions stand behind the word of the header's number
+-- the first word of an item's line; the instructions of a left side have the same word, `left `, as the number in the header
 abbrev pub word_of : Item → FirstWord
 word_of (Number field n) = word.Head (head.Number field)
 word_of (Pool ns) = word.Head head.Pool

@@ -1,4 +1,4 @@
--- The lines of a table one after the other: what has been read so far, and which line may follow.
+-- The grammar of tables as an automaton over lines: what has been read so far, and which line may follow.
 use Rattle.std.specs.Prelude.{ℕ, ◌&&◌, Bool, true, false, List, [], ◌∷◌, ◌++◌, length, nat_lt, Option, Some, None, if◌then◌else◌}
 use Rattle.std.specs.Option.{option_and_then, option_map}
 use Rattle.thumb_instr.specs.declared.instr.Instr.{Instr}
@@ -9,8 +9,8 @@ use Rattle.rule_table.specs.Header.{Header, heads, due_in, with_number, is_same,
 use Rattle.rule_table.specs.Table.{Opened, Rule, Family as Raised, Table}
 use Rattle.rule_table.specs.Text.{Item, Number, Pool, Costs, State, Entry, Left, Right, Mask, Proof, Logged, Open, Family, End}
 
--- what has been read: some lines of the header, with those that are due; a header with its states; behind the rules before, the sides of a rule, a rule with its
--- mask, one with its proof, one with the number that was opened last; behind the families before, a family whose proof is due, one with its proof; all
+-- what has been read: some lines of the header, with those that are due; the header and some states; after the earlier rules, some sides of a rule, or also its
+-- mask, or its proof, or open numbers, with the last one apart; after the earlier families, a family whose proof is due, or one with its proof; or all
 pub data Stage : Type 0 where
   Heading : Header → (due : List HeaderLine) → Stage
   Stated : Table → Stage
@@ -42,19 +42,19 @@ is_empty (i ∷ is) = false
 abbrev pub Start : Stage
 Start = Heading blank heads
 
--- the header with what a line says, where it is the one that is due
+-- the header with what a line says, if it is the line that is due
 abbrev pub heard : Header → HeaderLine → Item → Option Header
 heard h (head.Number due) (Number field n) = if is_same due field then Some (with_number h field n) else None
 heard h head.Pool (Pool ns) = Some (record h { pool = ns })
 heard h head.Costs (Costs ns) = Some (record h { costs = Some ns })
 heard h due i = None
 
--- behind the last line of the header come the states
+-- after the last line of the header come the states
 abbrev pub go_on : List HeaderLine → Header → Stage
 go_on [] h = Stated (record { header = h; states = []; rules = []; families = [] })
 go_on (line ∷ due) h = Heading h (line ∷ due)
 
--- of the lines that are left those that the header's version has are due
+-- of the remaining lines, those that the header's version has are due
 abbrev pub later : List HeaderLine → Header → Stage
 later lines h = go_on (due_in h.version lines) h
 

@@ -1,5 +1,5 @@
--- The header of a table, which its first lines say: the record, and the lines in order, each with its word, its limits and the first version that has
--- it. A further line is a field of the record and a row of each list here.
+-- The header of a table, which its first lines give: the record, and the lines in order, each with its word, its limits and the first version that has
+-- it. A further line needs a field of the record and a row in each list here.
 use Rattle.std.specs.Prelude.{◌≡◌, ◌≤◌, ℕ, Bool, true, false, List, [], ◌∷◌, codes, nat_le, Option, None, Some, IfSome, IsSome, if◌then◌else◌}
 use Rattle.seq_enum.specs.Alphabet.{is_pool}
 use Rattle.seq_enum.specs.Costs.{AreCosts}
@@ -10,18 +10,18 @@ use Rattle.rule_table.specs.declared.header.HeaderLine.TheVariants.{Number, Pool
 
 pub record Header : Type 0 where
   pub version : ℕ
-  -- how many registers and instructions left sides have at most
+  -- the most registers and the most instructions of a left side
   pub regs : ℕ
   pub left : ℕ
-  -- what the first states are made of
+  -- the seed of the first states
   pub seed : ℕ
-  -- how many clauses a query may learn
+  -- how many clauses the solver may learn in a query
   pub budget : ℕ
   -- the numbers of the alphabet
   pub pool : List ℕ
   -- how many registers a right side may name that its left side doesn't
   pub scratch : ℕ
-  -- what instructions cost, a number for each mnemonic; where there are none each costs 1
+  -- what instructions cost, a number for each mnemonic; without these each costs 1
   pub costs : Option (List ℕ)
 
 -- the lines of the last version in order
@@ -41,7 +41,7 @@ has_line version line = nat_le (since line) version
 abbrev pub has_families : ℕ → Bool
 has_families version = nat_le 3 version
 
--- the lines from the first that a version has
+-- the given lines, from the first one on that the version has
 abbrev pub due_in : ℕ → List HeaderLine → List HeaderLine
 due_in version [] = []
 due_in version (line ∷ lines) = if has_line version line then line ∷ lines else due_in version lines
@@ -71,7 +71,7 @@ is_same Budget Budget = true
 is_same Scratch Scratch = true
 is_same a b = false
 
--- what the line of a number begins with, and the least and the greatest number that it may have
+-- what the line of a number begins with, its blank included, and the least and the greatest number that it may have
 pub record NumberLine : Type 0 where
   pub word : List ℕ
   pub least : ℕ
@@ -88,21 +88,22 @@ row Scratch = record { word = codes "scratch "; least = 0; greatest = 1 }
 abbrev pub IsWithin : Field → ℕ → Type 0
 IsWithin field n = ((row field).least ≤ n) × (n ≤ (row field).greatest)
 
--- the least header: what is held of one before its lines are read
+-- the header before its lines are read; numbers whose line a version doesn't have keep these values
 abbrev pub blank : Header
 blank = record { version = 1; regs = 1; left = 1; seed = 0; budget = 1; pool = 0 ∷ []; scratch = 0; costs = None }
 
--- the version of a table that is learnt: 4 where instructions have costs
+-- the version of a table that is learnt: 4 if instructions have costs, else 2
 abbrev pub version_with : Option (List ℕ) → ℕ
 version_with None = 2
 version_with (Some costs) = 4
 
--- the header of a table that is learnt so
+-- the header of a table that is learnt with these settings
 abbrev pub learnt_header : (regs left budget seed scratch : ℕ) → (pool : List ℕ) → (costs : Option (List ℕ)) → Header
 learnt_header regs left budget seed scratch pool costs =
     record { version = version_with costs; regs = regs; left = left; seed = seed; budget = budget; pool = pool; scratch = scratch; costs = costs }
 
--- each number lies in its limits, the pool is one, and so are the costs, which stand where the version has a line for them alone; a number that it has no line for is the least header's
+-- each number lies within its limits, the pool and the costs are valid, there are costs if and only if the version has a line for them, and a number for which
+-- the version has no line is that of `blank`
 pub record IsHeader (h : Header) : Type 0 where
   pub numbers : (field : Field) → IsWithin field (number_in h field)
   pub pool : is_pool h.pool ≡ true

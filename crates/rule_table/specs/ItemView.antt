@@ -1,4 +1,4 @@
--- What a line says, without where it lies in memory.
+-- The items of the code, as those of the definitions.
 use Rattle.lrat_check.specs.Text.{content_of}
 use Rattle.window_exec.specs.State.{seen}
 use Rattle.rule_table.specs.declared.item.Item.{Item as Code}

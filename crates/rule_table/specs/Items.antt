@@ -1,4 +1,4 @@
--- Which lines there are, each by what it says.
+-- Which items are those of a line: their limits.
 use Rattle.std.specs.Prelude.{◌≡◌, ◌<◌, ◌^◌, true, [], ◌∷◌}
 use Rattle.std.specs.List.{All}
 use Rattle.seq_enum.specs.Alphabet.{is_pool}

@@ -1,4 +1,4 @@
--- A mask's items as the code holds them.
+-- The rows of mask items of the code, as those of the definitions.
 use Rattle.std.specs.Prelude.{ℕ, List}
 use Rattle.rule_table.specs.declared.tails.MaskItem.{MaskItem}
 

@@ -1,4 +1,4 @@
--- Which texts are tables, and the first line of one that is refused.
+-- Which texts are tables, and at which line another text is refused.
 use Rattle.std.specs.Prelude.{◌≡◌, ℕ, List}
 use Rattle.ascii_scan.specs.Refused as texts
 use Rattle.rule_table.specs.Table.{Table, IsTable}
@@ -14,6 +14,6 @@ pub record IsSomeTable (bytes : List ℕ) : Type 0 where
   pub table : Table
   pub text : IsText bytes table
 
--- no table's text begins with the first n lines, and some does with those before
+-- no table's text begins with the first n lines, and some table's text begins with those before the n-th
 abbrev pub IsRefused : List ℕ → ℕ → Type 0
 IsRefused bytes n = texts.IsRefused IsSomeTable bytes n

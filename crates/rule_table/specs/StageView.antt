@@ -1,4 +1,4 @@
--- What has been read, without where it lies in memory.
+-- The state of the reader in the code, as a stage of the grammar.
 use Rattle.std.specs.Prelude.{Bool, true, false, Option, Some, None}
 use Rattle.rule_table.specs.declared.draft.Draft.{Draft}
 use Rattle.rule_table.specs.declared.draft.Part.{Part}
@@ -7,7 +7,7 @@ use Rattle.rule_table.specs.Grammar.{Stage, Heading, Stated, Sided, Masked, Prov
 use Rattle.rule_table.specs.Table.{Opened, Rule, Family, Table}
 use Rattle.rule_table.specs.Views.{table_of, rule_of, opened_of, family_of}
 
--- a table, the rule that is being read, the number that it opened last, and the family that is being read, as far as the part has them
+-- the stage of a draft: of its table, its rule, its last open number and its family those that the part has
 abbrev pub stage_at : Part → Table → Rule → Opened → Family → Stage
 stage_at (part.Heading due) t r o f = Heading t.header due.now
 stage_at part.Stated t r o f = Stated t

@@ -1,4 +1,4 @@
--- A table of rules, and which of them may be one.
+-- Tables of rules, and the limits that a table has to keep so that it has a text. Whether its rules are sound is the audit's business.
 use Rattle.std.specs.Prelude.{ℕ, List, ◌≡◌, ◌<◌, ◌≤◌, ◌^◌, true, false, [], length, map}
 use Rattle.thumb_instr.specs.declared.instr.Instr.{Instr}
 use Rattle.lrat_check.specs.Text.{Content, IsLine}
@@ -11,12 +11,12 @@ use Rattle.seq_enum.specs.Alphabet.{ascends_from}
 
 -- A table of rules.
 
--- a sequence by its number, left open, and the log of the search for a state that tells it
+-- a sequence that is left open, by its number, and the log of the search for a state that distinguishes it from the left side
 pub record Opened : Type 0 where
   pub number : ℕ
   pub log : List Content
 
--- the mask is a set of items, as the bits of their numbers
+-- a rule; its mask is a set of items, as the bits of their numbers
 pub record Rule : Type 0 where
   pub left : List Instr
   pub right : List Instr
@@ -24,7 +24,7 @@ pub record Rule : Type 0 where
   pub proof : List Content
   pub opens : List Opened
 
--- the rule of the entry of this number, raised: this number of the pool, where it stands in 8 bits, has each value from the least to the greatest, by the proof
+-- a family raises the entry with this number: a number of the pool, where it is an 8-bit operand, may have each value from `low` to `high`, as the proof shows
 pub record Family : Type 0 where
   pub entry : ℕ
   pub number : ℕ
@@ -38,7 +38,7 @@ pub record Table : Type 0 where
   pub rules : List Rule
   pub families : List Family
 
--- Which tables have a text: the limits of its lines, and of how many there are of each kind.
+-- Which tables have a text: the limits of each line, and of how many lines there are of each kind.
 
 -- four words, and the four flags
 pub record IsState (s : Seen) : Type 0 where
@@ -46,7 +46,7 @@ pub record IsState (s : Seen) : Type 0 where
   pub words : All (λ w. w < 2 ^ 32) s.r
   pub flags : s.nzcv < 16
 
--- an instruction of windows over r0 to r3: each such has a canonical text, from which it is read
+-- an instruction that may stand in windows and names only r0 to r3: each has a canonical text, from which it is read
 pub record IsInstr (i : Instr) : Type 0 where
   pub window : is_in_window i ≡ true
   pub low : AreBelow 4 (named i)
@@ -63,7 +63,7 @@ pub record IsOpened (o : Opened) : Type 0 where
 abbrev pub numbers_of : List Opened → List ℕ
 numbers_of opens = map (λ o. o.number) opens
 
--- one to five instructions on the left, at most five on the right, open numbers each above the one before
+-- one to five instructions on the left, at most five on the right, and open numbers in ascending order
 pub record IsRule (r : Rule) : Type 0 where
   pub some : 0 < length r.left
   pub few_left : length r.left ≤ 5
@@ -83,7 +83,7 @@ pub record IsFamily (f : Family) : Type 0 where
   pub high : f.high < 2 ^ 32
   pub proof : All IsLine f.proof
 
--- the header is one, and so is each state, rule and family, of which only later versions have any
+-- header, states, rules and families are valid, and versions that have no families have none
 pub record IsTable (t : Table) : Type 0 where
   pub header : IsHeader t.header
   pub states : All IsState t.states

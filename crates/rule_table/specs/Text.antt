@@ -25,11 +25,11 @@ hex_of (suc n) w = hex_of n (w / 16) ++ hex_digit (w % 16) ∷ []
 abbrev pub instr_text : Instr → List ℕ
 instr_text i = text_of_shown (shown_with i None)
 
--- a text, where the mask has the item
+-- the text of an item if the mask has it, and else nothing
 abbrev pub named : ℕ → ℕ → List ℕ → List ℕ
 named mask item text = if has mask item then text else []
 
--- the items of masks, each as it is written, in the order in which they are
+-- the items that a mask may have, each with its text, in the order in which they are written
 abbrev pub mask_rows : List (ℕ × List ℕ)
 mask_rows =
     (0, codes " r0") ∷ (1, codes " r1") ∷ (2, codes " r2") ∷ (3, codes " r3")
@@ -88,7 +88,7 @@ rule_items r = Entry ∷ (map Left r.left ++ (map Right r.right ++ Mask r.mask �
 abbrev pub family_items : Raised → List Item
 family_items f = Family f.entry f.number f.low f.high ∷ Proof ∷ map Logged f.proof
 
--- the numbers of costs; none where there are no costs
+-- the numbers of the costs; empty if there are no costs
 abbrev pub cost_numbers : Option (List ℕ) → List ℕ
 cost_numbers None = []
 cost_numbers (Some ns) = ns

@@ -1,4 +1,4 @@
--- What tables, their headers and entries hold.
+-- Tables, headers, entries and families of the code, as those of the definitions.
 use Rattle.std.specs.Prelude.{ℕ, List, Option, map}
 use Rattle.lrat_check.specs.Text.{content_of}
 use Rattle.window_exec.specs.State.{seen}

@@ -1,8 +1,8 @@
--- Words with a blank before each, as they are read.
+-- The words of a line with a blank before each, and numbers of them that are bytes: what lists of numbers are read by.
 use Rattle.std.specs.Prelude.{◌≡◌, ◌≤◌, ℕ, ◌==◌, List, ◌∷◌, length}
 use Rattle.std.specs.List.{All, slice_split}
 
--- the bytes are a blank and then words, with one blank between two
+-- the bytes are a blank and then the words, separated by single blanks
 pub record AreWords (bytes : List ℕ) (words : List (List ℕ)) : Type 0 where
   pub rest : List ℕ
   pub is : bytes ≡ 32 ∷ rest

@@ -1,5 +1,5 @@
-//! What stands in place of the registers of a left side, bound one by one while it and a window are walked in step. A register that is
-//! bound otherwise, or that stands in place of another, ends the walk.
+//! Finds the map from the registers of a left side to those of a window, by walking both in step and binding register by register. A register
+//! that is already bound to another one, or a window's register that another is bound to, ends the walk.
 ghost use Rattle.std.specs.Prelude.{◌≡◌, ◌<◌, ◌∷◌, [], ℕ, None, true, length, map, ◌↔◌, IsTrue};
 ghost use Rattle.std.specs.List.{list_all};
 ghost use Rattle.thumb_instr.specs.Window.{is_in_window, normal_of, AreBelow, item_under, named_by, named, renamed};
@@ -12,11 +12,11 @@ use seq_enum::rank;
 use std::marker::Model;
 use thumb_instr::{Instr, Items, Kind, Low, Role, normal, parts, roles};
 
-/// The registers that stand in place of r0 to r7 so far, each in place of one.
+/// The registers to which r0 to r7 are bound so far, one-to-one.
 #[derive(Drop)]
 pub struct Binding {
     given: [Option<Low>; 8],
-    /// those that do
+    /// the set of the registers in `given`
     taken: Items,
 }
 
@@ -34,7 +34,7 @@ impl Model for Binding {
 }
 
 impl Binding {
-    /// None stands in place of any yet.
+    /// Nothing is bound yet.
     pub(crate) fn new() -> Binding
         ensures { (x : ℕ) → given_at result x ≡ None }
     {
@@ -44,7 +44,7 @@ impl Binding {
         }
     }
 
-    /// The register that stands in place of one.
+    /// The register to which `own` is bound, if it is bound.
     fn get(&self, own: u32) -> Option<Low>
         ensures { result ≡ given_at self.now own }
     {
@@ -54,7 +54,7 @@ impl Binding {
         }
     }
 
-    /// Puts a register in place of one that has none yet; false where it stands in place of another.
+    /// Binds a register that isn't bound yet; false if another one is bound to `other`.
     fn put(&mut self, own: u32, other: u32) -> bool
         requires own { own < 8 }
         requires other { other < 8 }
@@ -69,7 +69,7 @@ impl Binding {
         true
     }
 
-    /// Binds one register to another; false where it is bound otherwise, or the other stands in place of another.
+    /// Binds `own` to `other`; false if `own` is bound to another register, or another one is bound to `other`.
     fn bind(&mut self, own: u32, other: u32) -> bool
         requires own { own < 8 }
         requires other { other < 8 }
@@ -81,7 +81,7 @@ impl Binding {
         }
     }
 
-    /// Binds a register to another; two numbers have to be one.
+    /// Binds `own` to `other` if the role is a register's; if it is a number's, the two have to be equal.
     fn bind_role(&mut self, role: Role, own: u32, other: u32) -> bool
         requires own { AreBelow 8 (named_by role own) }
         requires other { AreBelow 8 (named_by role other) }
@@ -93,7 +93,7 @@ impl Binding {
         }
     }
 
-    /// Binds the registers of one instruction to those of another; they have to be of one kind, with the same numbers.
+    /// Binds the registers of one instruction to those of another; both have to be of the same kind, with the same numbers.
     fn bind_instr(&mut self, left: &Instr, other: &Instr) -> bool
         requires left { is_in_window left.now ≡ true }
         requires other { is_in_window other.now ≡ true }
@@ -114,7 +114,7 @@ impl Binding {
         self.bind_role(roles.third, own.third, others.third)
     }
 
-    /// Binds the registers of a left side to those of a window, normal, instruction by instruction.
+    /// Binds the registers of a left side to those of the normal form of a window, instruction by instruction.
     pub(crate) fn bind_all(&mut self, left: &[Instr], window: &[Instr]) -> bool
         requires left { list_all is_in_window left.now ≡ true }
         requires window { list_all is_in_window window.now ≡ true }
@@ -141,7 +141,7 @@ impl Binding {
     }
 }
 
-/// Whether two kinds stand at one place among the mnemonics of windows.
+/// Whether two kinds have the same rank among the mnemonics of windows.
 pub fn same_kind(a: Kind, b: Kind) -> bool
     ensures { IsTrue result ↔ (rank a ≡ rank b) }
 {

@@ -1,4 +1,4 @@
-//! What has been read of a table. A line changes it in place.
+//! The state of the reader: what has been read of a table so far, and which lines may follow. Each line changes it in place.
 ghost use Rattle.std.specs.Prelude.{◌≡◌, ◌<◌, [], IfOk, OnOk, MatchOption};
 ghost use Rattle.window_exec.specs.State.{seen};
 ghost use Rattle.rule_table.specs.Table.{Table as Held};
@@ -22,24 +22,24 @@ use window_exec::{States, WState};
 /// How far the lines have come.
 #[derive(Clone, Copy)]
 pub(crate) enum Part {
-    /// some lines of the header, of which these are due
+    /// some lines of the header, and these are due
     Heading(&'static [HeaderLine]),
-    /// states
+    /// the header and some states
     Stated,
-    /// the sides of an entry, its mask, its proof, and a number that it leaves open
+    /// of an entry: some of its sides; its mask; its proof; a number that it leaves open
     Sided,
     Masked,
     Proved,
     Opening,
-    /// a family whose proof is due, and its proof
+    /// of a family: its line, with the proof due; its proof
     Raising,
     Shown,
-    /// all
+    /// all, up to the line `end`
     Done,
 }
 
-/// The table so far, the entry that is being read, the number that it opened last, and the family that is being read. What a part doesn't
-/// have yet means nothing.
+/// The table so far, the entry that is being read, the open number that was read last, and the family that is being read. Fields that the
+/// current part hasn't reached have no meaning.
 #[derive(Drop)]
 pub(crate) struct Draft {
     part: Part,
@@ -188,7 +188,7 @@ impl Draft {
         }
     }
 
-    /// Goes on to a new entry.
+    /// Begins a new entry.
     fn begin(&mut self)
         ensures { stage_of self.new ≡ sided (table_of self.old.table) [] [] }
     {
@@ -197,7 +197,7 @@ impl Draft {
         self.part = Part::Sided;
     }
 
-    /// Puts the entry that was read behind the others.
+    /// Appends the entry that was read to the table.
     fn keep_entry(&mut self, alloc: Global) -> Result<(), AllocError>
         ensures { OnOk result (table_of self.new.table ≡ with_rule (table_of self.old.table) (rule_of self.old.entry)) }
     {
@@ -206,7 +206,7 @@ impl Draft {
         Ok(())
     }
 
-    /// Puts the number that was opened last behind the others of its entry.
+    /// Appends the open number that was read last to its entry.
     fn keep_open(&mut self, alloc: Global) -> Result<(), AllocError>
         ensures entry { OnOk result (rule_of self.new.entry ≡ with_opened (rule_of self.old.entry) (opened_of self.old.last)) }
         ensures table { OnOk result (table_of self.new.table ≡ table_of self.old.table) }
@@ -217,7 +217,7 @@ impl Draft {
         Ok(())
     }
 
-    /// Goes on to a new family; false where the version has none.
+    /// Begins a new family; false if the version has no families.
     fn raise(&mut self, alloc: Global, entry: u32, number: u32, low: u32, high: u32) -> bool
         ensures { goes result (stage_of self.new) ≡ raising (table_of self.old.table) entry number low high }
     {
@@ -229,7 +229,7 @@ impl Draft {
         true
     }
 
-    /// Puts the family that was read behind the others.
+    /// Appends the family that was read to the table.
     fn keep_family(&mut self, alloc: Global) -> Result<(), AllocError>
         ensures { OnOk result (table_of self.new.table ≡ with_family (table_of self.old.table) (family_of self.old.family)) }
     {
@@ -238,7 +238,7 @@ impl Draft {
         Ok(())
     }
 
-    /// Goes on by one line; false where it may not follow.
+    /// Takes one more line; false if it may not follow here.
     #[tactic(auto, unfolding(crate::specs::Grammar::step))]
     pub(crate) fn take(&mut self, alloc: Global, item: Item) -> Result<bool, AllocError>
         requires { IsItem (item_of item) }
@@ -257,7 +257,7 @@ impl Draft {
         }
     }
 
-    /// The lines that the version doesn't have are passed over, and the states begin behind the last that it has.
+    /// Takes a line of the header. Lines that the version doesn't have are skipped; after the last that it has, the states begin.
     #[tactic(auto, unfolding(crate::specs::Grammar::step))]
     fn take_heading(&mut self, alloc: Global, due: &'static [HeaderLine], item: Item) -> bool
         requires { IsItem (item_of item) }
@@ -485,7 +485,7 @@ impl Draft {
         }
     }
 
-    /// The table, where all was read.
+    /// The table, if all of it was read.
     pub(crate) fn finished(self) -> Option<Table>
         ensures { MatchOption result ((t : Held) → stage_of self ≡ done t → ⊥) (λ table. stage_of self ≡ done (table_of table)) }
     {

@@ -1,15 +1,15 @@
-//! Why a text is no table: the least line with which none goes on, or want of memory.
+//! Why a text can't be read as a table: the first bad line, or lack of memory.
 use std::alloc::AllocError;
 use thiserror::Error;
 
-/// Why a text is no table.
+/// Why a text can't be read as a table.
 #[derive(Clone, Copy, Debug, PartialEq, Eq, Error)]
 pub enum TableError {
-    /// The least number such that so many first lines begin no table; the number of the line that is missing or cut, where the text ends
-    /// too early or its last line lacks the newline.
+    /// The least n, from 1, such that no table's text begins with the first n lines. If the text ends too early, or its last line lacks the
+    /// newline, n is the number of the line that is missing or cut.
     #[error("line {0} begins no table")]
     Line(u64),
-    /// Want of memory.
+    /// Memory ran out.
     #[error("out of memory")]
     Memory,
 }

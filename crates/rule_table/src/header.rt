@@ -1,5 +1,5 @@
-//! The header of a table, and its lines. What they begin with and which numbers they may have stands in rows, by which they are read and
-//! written: a further line is a row more, with the first version that has it.
+//! The header of a table, and its lines. Tables of rows say with which word each line begins and which numbers it may have; reading and
+//! writing go by them. A further line is one more row, with the first version that has it.
 ghost use Rattle.std.specs.Prelude.{◌≡◌, ◌≢◌};
 ghost use Rattle.rule_table.specs.Header.{IsHeader, due_in, has_families, has_line, heads, is_same, row, since};
 ghost use Rattle.rule_table.specs.Views.{header_of, learnt_by, row_of};
@@ -7,10 +7,9 @@ ghost use Rattle.rule_table.specs.Views.{header_of, learnt_by, row_of};
 use seq_enum::{Costs, Pool};
 use thumb_instr::Within;
 
-/// What the first lines of a table say: its version (1 to 4), how many registers (1 to 4) and instructions (1 to 5) left sides have at most,
-/// the seed of the first states, how many clauses a query may learn (1 to 1,000,000), the pool of the alphabet's numbers, how many registers
-/// a right side may name that its left side doesn't (0 or 1; 0 in version 1), and what instructions cost (in version 4 alone; in the others
-/// each costs 1).
+/// What the first lines of a table say: its version (1 to 4), the most registers (1 to 4) and instructions (1 to 5) of a left side, the seed of
+/// the first states, how many clauses the solver may learn in a query (1 to 1,000,000), the pool of the alphabet's numbers, how many registers
+/// a right side may name that its left side doesn't (0 or 1; 0 in version 1), and what instructions cost (only in version 4; else each costs 1).
 #[derive(Drop)]
 pub struct Header {
     pub version: u8,
@@ -23,16 +22,16 @@ pub struct Header {
     pub costs: Option<Costs>,
 }
 
-/// What a table is learnt with, but for costs: the numbers of its header, each within the limits of its line.
+/// The settings that a table is learnt with, but for costs: the numbers of its header, each within the limits of its line.
 #[derive(Drop)]
 pub struct LearnOptions {
     /// The most registers of a left side.
     pub regs: Within<1, 5>,
     /// The most instructions of a left side.
     pub left: Within<1, 6>,
-    /// The clauses of a query.
+    /// How many clauses the solver may learn in a query.
     pub budget: Within<1, 1_000_001>,
-    /// What the first states are made of.
+    /// The seed of the first states.
     pub seed: u32,
     /// How many registers a right side may name that its left side doesn't.
     pub scratch: Within<0, 2>,
@@ -41,7 +40,7 @@ pub struct LearnOptions {
 }
 
 impl LearnOptions {
-    /// The header of the table that is learnt so: of version 4 where instructions have costs, and else of version 2.
+    /// The header of a table that is learnt with these options: of version 4 if costs are given, and else of version 2.
     pub fn header(&self, costs: Option<Costs>) -> Header
         ensures same { header_of result ≡ learnt_by self.now costs }
         ensures valid { IsHeader (header_of result) }
@@ -75,7 +74,7 @@ pub enum Field {
     Scratch,
 }
 
-/// Whether two are one.
+/// Whether two fields are the same.
 pub(crate) fn is_same(a: Field, b: Field) -> bool
     ensures { result ≡ is_same a b }
 {
@@ -133,7 +132,7 @@ pub(crate) fn has_families(version: u8) -> bool
     3 <= version
 }
 
-/// The lines from the first that a version has.
+/// The given lines, from the first one on that the version has.
 pub(crate) fn due_in(version: u8, lines: &'static [HeaderLine]) -> &'static [HeaderLine]
     ensures { result.now ≡ due_in version lines.entry.now }
 {
@@ -149,7 +148,7 @@ pub(crate) fn due_in(version: u8, lines: &'static [HeaderLine]) -> &'static [Hea
     }
 }
 
-/// What the line of a number begins with, and the least and the greatest number that it may have.
+/// What the line of a number begins with, its blank included, and the least and the greatest number that it may have.
 #[derive(Clone, Copy)]
 pub(crate) struct NumberLine {
     pub word: &'static [u8],
@@ -170,7 +169,7 @@ impl NumberLine {
         }
     }
 
-    /// The row of a number.
+    /// The row of a field.
     pub(crate) fn of(field: Field) -> NumberLine
         ensures { row_of result ≡ row field }
     {

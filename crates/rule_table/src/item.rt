@@ -1,4 +1,4 @@
-//! What one line of a table says. A table is read as a list of such items, whose order is checked apart from their texts.
+//! What one line of a table says. A table is read as a list of such items; `telling` reads the text of each, `draft` checks their order.
 use crate::header::Field;
 use lrat_check::Line;
 use seq_enum::{Costs, Pool};

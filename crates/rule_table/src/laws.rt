@@ -1,4 +1,4 @@
-//! What follows from the definitions, each as the contract of a function that does nothing.
+//! What follows from the definitions: each law is the contract of a function that does nothing.
 ghost use Rattle.rule_table.specs.Reading.{OneTable, NotBoth, RefusedOnce, WrittenReadsBack, ReadWritesBack};
 ghost use Rattle.rule_table.specs.Matching.{OneMap};
 
@@ -7,7 +7,7 @@ pub fn texts_have_one_table()
     ensures { OneTable }
 {}
 
-/// No text is a table and refused as well, and one that is refused is refused at one line.
+/// No text is both a table and refused, and a text is refused at no more than one line.
 pub fn refusals_are_one()
     ensures not_both { NotBoth }
     ensures once { RefusedOnce }

@@ -15,11 +15,11 @@
 //! left INSTRUCTION         1 to 5
 //! right INSTRUCTION        0 to 5
 //! mask ITEM ..             some of r0 r1 r2 r3 n z c v, in this order
-//! proof                    with lines in LRAT behind it
-//! open NUMBER              any number of them, each number above the one before, with lines in LRAT behind each
+//! proof                    and then lines in LRAT
+//! open NUMBER              any number of them, each number above the one before, and lines in LRAT after each
 //! family ENTRY NUMBER LOW HIGH
 //!                          any number of families, from version 3 on: each this line, of four numbers below 2^32, and
-//! proof                    with lines in LRAT behind it
+//! proof                    and then lines in LRAT
 //! end
 //! ```
 #![tactic(auto)]

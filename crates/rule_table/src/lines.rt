@@ -1,4 +1,4 @@
-//! The lines of a table's text, each written behind what is there.
+//! Writes the lines of a table's text. Each function appends to what was written before.
 ghost use Rattle.std.specs.Prelude.{◌≡◌, ◌++◌, ◌<◌, ◌∷◌, [], decimal, OnOk, map};
 ghost use Rattle.lrat_check.specs.Text.{content_of};
 ghost use Rattle.window_exec.specs.State.{seen};
@@ -12,7 +12,7 @@ use thumb_instr::{Instr, Mask};
 use thumb_syntax::{Parsed, write_instr};
 use window_exec::WState;
 
-/// A decimal number.
+/// Appends a decimal number.
 pub(crate) fn write_decimal(out: &mut Vec<u8>, number: u64) -> Result<(), AllocError>
     ensures { OnOk result (out.new.items ≡ out.old.items ++ decimal number) }
 {
@@ -45,7 +45,7 @@ pub(crate) fn write_instruction(
     Ok(())
 }
 
-/// A line of a proof.
+/// A line of a proof and a newline.
 pub(crate) fn write_logged(alloc: Global, out: &mut Vec<u8>, line: &Line) -> Result<(), AllocError>
     ensures { OnOk result (out.new.items ≡ out.old.items ++ (line_of (item.Logged (content_of line.entry.now)) ++ 10 ∷ [])) }
 {
@@ -66,7 +66,7 @@ fn hex_digit(digit: u32) -> u8
     }
 }
 
-/// The last hexadecimal digits of a number, so many.
+/// The last `digits` hexadecimal digits of a number.
 fn write_hex(out: &mut Vec<u8>, digits: u32, number: u32) -> Result<(), AllocError>
     ensures { OnOk result (out.new.items ≡ out.old.items ++ hex_of digits number) }
 {
@@ -78,7 +78,7 @@ fn write_hex(out: &mut Vec<u8>, digits: u32, number: u32) -> Result<(), AllocErr
     Ok(())
 }
 
-/// A state.
+/// The line of a state.
 pub(crate) fn write_state(out: &mut Vec<u8>, state: WState) -> Result<(), AllocError>
     ensures { OnOk result (out.new.items ≡ out.old.items ++ (line_of (item.State (seen state)) ++ 10 ∷ [])) }
 {
@@ -101,7 +101,7 @@ fn write_words(out: &mut Vec<u8>, words: &[u32]) -> Result<(), AllocError>
     Ok(())
 }
 
-/// A word, numbers each behind a blank, and a newline.
+/// A word, numbers each after a blank, and a newline.
 pub(crate) fn write_list(out: &mut Vec<u8>, word: &[u8], numbers: &[u8]) -> Result<(), AllocError>
     ensures { OnOk result (out.new.items ≡ out.old.items ++ ((word.entry.now ++ after_blanks (map decimal numbers.entry.now)) ++ 10 ∷ [])) }
 {
@@ -111,7 +111,7 @@ pub(crate) fn write_list(out: &mut Vec<u8>, word: &[u8], numbers: &[u8]) -> Resu
     Ok(())
 }
 
-/// Numbers, each behind a blank.
+/// Numbers, each after a blank.
 fn write_numbers(out: &mut Vec<u8>, numbers: &[u8]) -> Result<(), AllocError>
     ensures { OnOk result (out.new.items ≡ out.old.items ++ after_blanks (map decimal numbers.entry.now)) }
 {
@@ -122,7 +122,7 @@ fn write_numbers(out: &mut Vec<u8>, numbers: &[u8]) -> Result<(), AllocError>
     Ok(())
 }
 
-/// The line of a family: the entry, the number of the pool, its least and its greatest value.
+/// The line of a family: the entry, the number of the pool, and the least and the greatest value that may take its place.
 pub(crate) fn write_family_line(
     out: &mut Vec<u8>,
     entry: u32,
@@ -141,7 +141,7 @@ pub(crate) fn write_family_line(
     Ok(())
 }
 
-/// A number behind a blank.
+/// A blank and a number.
 fn write_behind_blank(out: &mut Vec<u8>, number: u32) -> Result<(), AllocError>
     ensures { OnOk result (out.new.items ≡ out.old.items ++ 32 ∷ decimal number) }
 {
@@ -149,7 +149,7 @@ fn write_behind_blank(out: &mut Vec<u8>, number: u32) -> Result<(), AllocError>
     write_decimal(out, u64::from(number))
 }
 
-/// A mask.
+/// The line of a mask.
 pub(crate) fn write_mask(out: &mut Vec<u8>, mask: Mask) -> Result<(), AllocError>
     ensures { OnOk result (out.new.items ≡ out.old.items ++ (line_of (item.Mask mask.items.bits) ++ 10 ∷ [])) }
 {
@@ -166,7 +166,7 @@ pub(crate) fn write_mask(out: &mut Vec<u8>, mask: Mask) -> Result<(), AllocError
     Ok(())
 }
 
-/// An item's text, where the mask has it.
+/// An item's text, if the mask has the item.
 fn write_item(out: &mut Vec<u8>, mask: Mask, item: u8, text: &[u8]) -> Result<(), AllocError>
     requires { item < 19 }
     ensures { OnOk result (out.new.items ≡ out.old.items ++ named mask.items.bits item text.entry.now) }

@@ -1,4 +1,4 @@
-//! A map names registers in the order in which a window meets them: canonical register i stands for its i-th.
+//! Maps from the registers of a canonical sequence or a left side to the registers of a window.
 ghost use Rattle.std.specs.Prelude.{◌≡◌, ◌≤◌, length, map, slice_get, Some};
 ghost use Rattle.std.specs.Option.{option_and_then};
 ghost use Rattle.rule_table.specs.Scratch.{has_register, is_register};
@@ -7,7 +7,7 @@ use arrayvec::ArrayVec;
 use std::marker::Model;
 use thumb_instr::Low;
 
-/// Whether what is given in place of a register is this one.
+/// Whether `given` is this register.
 fn is_register(register: Low, given: Option<Low>) -> bool
     ensures { result ≡ is_register register.number given }
 {
@@ -17,7 +17,7 @@ fn is_register(register: Low, given: Option<Low>) -> bool
     }
 }
 
-/// The registers that stand in place of r0, r1 and so on, where there are some.
+/// The window's registers that stand in place of r0, r1 and so on; None for those that have none.
 #[derive(Drop)]
 pub struct Map {
     registers: ArrayVec<Option<Low>, 8>,
@@ -33,7 +33,7 @@ impl Model for Map {
 }
 
 impl Map {
-    /// The map to these registers.
+    /// The map of r0, r1 and so on to these registers, in order.
     pub(crate) fn to(registers: &[Low]) -> Map
         requires { length registers.now ≤ 8 }
         ensures { result ≡ map Some registers.now }
@@ -45,7 +45,7 @@ impl Map {
         Map { registers: given }
     }
 
-    /// The map that has these in place of r0 to r7.
+    /// The map of r0, r1 and so on to these, where given.
     pub fn of(given: &[Option<Low>]) -> Map
         requires { length given.now ≤ 8 }
         ensures { result ≡ given.now }
@@ -57,14 +57,14 @@ impl Map {
         Map { registers }
     }
 
-    /// How many registers it has in place of others, counting those where it has none.
+    /// How many registers it has an item for, those without one in their place included.
     pub fn len(&self) -> usize
         ensures { result ≡ length self.now }
     {
         self.registers.len()
     }
 
-    /// The register in place of a canonical one: None exactly where the map doesn't have that.
+    /// The register in place of a canonical one; None if and only if the map has none for it.
     pub fn get(&self, canonical: u8) -> Option<Low>
         ensures { result ≡ option_and_then (λ o. o) (slice_get self.now canonical) }
     {
@@ -74,7 +74,7 @@ impl Map {
         }
     }
 
-    /// Whether it has a register in place of some.
+    /// Whether the map has this register in place of some other.
     pub(crate) fn has(&self, register: Low) -> bool
         ensures { result ≡ has_register self.now register.number }
     {

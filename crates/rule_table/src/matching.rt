@@ -1,4 +1,4 @@
-//! Windows that are a left side with other registers.
+//! Whether a window is an entry's left side with its registers renamed, and by which map.
 ghost use Rattle.std.specs.Prelude.{◌≡◌, true, map, MatchOption, List};
 ghost use Rattle.std.specs.List.{list_all};
 ghost use Rattle.thumb_instr.specs.Window.{is_in_window, normal_of, Low as LowRegister};
@@ -10,8 +10,8 @@ use crate::table::Entry;
 use crate::windows::are_windows;
 use thumb_instr::Instr;
 
-/// The one-to-one map under which the instructions, normal, are the entry's left side: None exactly where there is none. It has the
-/// registers in place of those that the left side names, and no others.
+/// The one-to-one map that turns the entry's left side into the normal form of the window; None if and only if there is none. It has a
+/// register in place of each that the left side names, and no others.
 pub fn matches(entry: &Entry, window: &[Instr]) -> Option<Map>
     ensures { MatchOption result ((registers : List LowRegister) → Matches entry.now.left window.now registers → ⊥) (IsMapOf entry.now.left window.now) }
 {
@@ -28,7 +28,7 @@ pub fn matches(entry: &Entry, window: &[Instr]) -> Option<Map>
     map_of(left, window)
 }
 
-/// The map under which a side is a window, normal.
+/// The map that turns a left side into the normal form of a window.
 fn map_of(left: &[Instr], window: &[Instr]) -> Option<Map>
     requires left { list_all is_in_window left.now ≡ true }
     requires window { list_all is_in_window window.now ≡ true }

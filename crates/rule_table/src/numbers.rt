@@ -1,4 +1,4 @@
-//! Numbers of lines, each read exactly as it is written.
+//! The numerals of a table's lines. Each is accepted only in the one form in which it is written.
 ghost use Rattle.std.specs.Prelude.{◌≡◌, ℕ, List, ◌∷◌, ◌++◌, ◌<◌, ◌≤◌, ◌^◌, map, decimal, MatchOption, IfOk, IfSome, IsSome, IsTrue, ◌↔◌, ◌==◌, length};
 ghost use Rattle.std.specs.List.{slice_split};
 ghost use Rattle.lrat_check.specs.Reading.{all_now};
@@ -17,7 +17,7 @@ fn is_numeral_of(number: u64, word: &[u8]) -> bool
     Buffer::new().format(number).as_bytes() == word
 }
 
-/// The number whose decimal numeral the word is, with no leading zero.
+/// The number that the word is the decimal numeral of, below 2^64 and without leading zeros.
 pub(crate) fn number(word: &[u8]) -> Option<u64>
     ensures { MatchOption result ((n : ℕ) → n < 2 ^ 64 → decimal n ≡ word.now → ⊥) (λ n. (n < 2 ^ 64) × (decimal n ≡ word.now)) }
 {
@@ -34,7 +34,7 @@ pub(crate) fn number(word: &[u8]) -> Option<u64>
     }
 }
 
-/// The number of a word, where it lies between two others.
+/// The number that the word is the decimal numeral of, if it lies from `least` to `most`.
 pub(crate) fn number_within(word: &[u8], least: u64, most: u64) -> Option<u64>
     ensures { MatchOption result ((n : ℕ) → least ≤ n → n ≤ most → decimal n ≡ word.now → ⊥) (λ n. (least ≤ n) × (n ≤ most) × (decimal n ≡ word.now)) }
 {
@@ -59,7 +59,7 @@ fn parts_of(alloc: Global, bytes: &[u8]) -> Result<Vec<&[u8]>, AllocError>
     bytes.split(|b| *b == b' ').collect(alloc)
 }
 
-/// The words of bytes in which a blank stands before each word, and at least one does.
+/// The words of the bytes, if a blank stands before each and there is at least one.
 pub(crate) fn words_in(alloc: Global, bytes: &[u8]) -> Result<Option<Vec<&[u8]>>, AllocError>
     ensures { IfOk result (λ r. MatchOption r ((words : List (List ℕ)) → AreWords bytes.entry.now words → ⊥) (λ words. AreWords bytes.entry.now (all_now words.items))) }
 {
@@ -72,7 +72,7 @@ pub(crate) fn words_in(alloc: Global, bytes: &[u8]) -> Result<Option<Vec<&[u8]>>
     }
 }
 
-/// The numbers of at most 28 words, each a byte.
+/// The numbers that at most 28 words are, each at most 255.
 fn bytes_of(words: &[&[u8]]) -> Option<ArrayVec<u8, 28>>
     ensures { MatchOption result ((ns : List ℕ) → AreBytes ns → map decimal ns ≡ all_now words.entry.now → ⊥) (λ v. AreBytes v.items × (map decimal v.items ≡ all_now words.entry.now)) }
 {
@@ -89,7 +89,7 @@ fn bytes_of(words: &[&[u8]]) -> Option<ArrayVec<u8, 28>>
     Some(bytes)
 }
 
-/// The numbers that the bytes are, with a blank before each: 1 to 28, each a byte.
+/// The numbers in the bytes, with a blank before each: 1 to 28 numbers, each at most 255.
 pub(crate) fn bytes_in(alloc: Global, bytes: &[u8]) -> Result<Option<ArrayVec<u8, 28>>, AllocError>
     ensures { IfOk result (λ r. MatchOption r ((ns : List ℕ) → AreBytes ns → 0 < length ns → after_blanks (map decimal ns) ≡ bytes.now → ⊥) (λ v. AreBytes v.items × (after_blanks (map decimal v.items) ≡ bytes.now))) }
 {
@@ -99,7 +99,7 @@ pub(crate) fn bytes_in(alloc: Global, bytes: &[u8]) -> Result<Option<ArrayVec<u8
     }
 }
 
-/// The number of the first word, of 32 bits, and the words behind it.
+/// The number that the first word is the decimal numeral of, below 2^32, and the words after it.
 pub(crate) fn first_number<'a, 'b>(words: &'b [&'a [u8]]) -> Option<(u32, &'b [&'a [u8]])>
     ensures { MatchOption result ((n : ℕ) (ns : List ℕ) → n < 2 ^ 32 → map decimal (n ∷ ns) ≡ all_now words.entry.now → ⊥) (λ p. decimal p.0 ∷ all_now p.1.now ≡ all_now words.entry.now) }
 {
@@ -144,7 +144,7 @@ fn hex_word(text: &[u8]) -> Option<u32>
     Some(word as u32)
 }
 
-/// The word of eight digits behind a blank, and what stands behind it.
+/// The word of eight hexadecimal digits after a blank, and the rest of the bytes.
 fn blank_word(bytes: &[u8]) -> Option<(u32, &[u8])>
     ensures { MatchOption result ((w : ℕ) (more : List ℕ) → 32 ∷ (hex_of 8 w ++ more) ≡ bytes.entry.now → ⊥) (λ p. 32 ∷ (hex_of 8 p.0 ++ p.1.now) ≡ bytes.entry.now) }
 {
@@ -164,7 +164,7 @@ fn blank_word(bytes: &[u8]) -> Option<(u32, &[u8])>
     }
 }
 
-/// Two such words, and what stands behind them.
+/// Two such words, and the rest of the bytes.
 pub(crate) fn blank_words(bytes: &[u8]) -> Option<(u32, u32, &[u8])>
     ensures { MatchOption result ((v w : ℕ) (more : List ℕ) → pair_text v w more ≡ bytes.entry.now → ⊥) (λ p. pair_text p.0 p.1 p.2.now ≡ bytes.entry.now) }
 {
@@ -177,7 +177,7 @@ pub(crate) fn blank_words(bytes: &[u8]) -> Option<(u32, u32, &[u8])>
     }
 }
 
-/// One digit behind a blank, and no more.
+/// The value of one hexadecimal digit after a blank, if the bytes are no more than these two.
 pub(crate) fn blank_digit(bytes: &[u8]) -> Option<u8>
     ensures { MatchOption result ((d : ℕ) → d < 16 → 32 ∷ hex_of 1 d ≡ bytes.now → ⊥) (λ d. (d < 16) × (32 ∷ hex_of 1 d ≡ bytes.now)) }
 {

@@ -1,4 +1,4 @@
-//! A text's table in one pass over its lines, or the least line with which no table goes on.
+//! Reads a table from its text, in one pass over the lines, up to the first that may not stand where it does.
 ghost use Rattle.std.specs.Prelude.{IfOk};
 ghost use Rattle.ascii_scan.specs.Source.{line_view};
 ghost use Rattle.rule_table.specs.StageView.{stage_of, goes};
@@ -12,7 +12,7 @@ use crate::telling::read_item;
 use ascii_scan::{Lines, SourceLine};
 use std::alloc::{AllocError, Global};
 
-/// Goes on by one line; false where it lacks its newline, says nothing, or may not follow.
+/// Takes one more line; false if it lacks its newline, can't be read, or may not follow here.
 fn step_line(alloc: Global, draft: &mut Draft, line: SourceLine<'_>) -> Result<bool, AllocError>
     ensures { IfOk result (λ b. StepsTo (stage_of draft.old) (line_view line.entry) (goes b (stage_of draft.new))) }
 {
@@ -25,8 +25,8 @@ fn step_line(alloc: Global, draft: &mut Draft, line: SourceLine<'_>) -> Result<b
     }
 }
 
-/// The table whose text the bytes are, or the least number such that so many first lines begin no table: where the text ends too early or
-/// its last line lacks the newline, the number of the line that is missing or cut. One pass over the text, of which nothing is copied but
+/// The table that the bytes are the text of, or the least n such that no table's text begins with the first n lines: if the text ends too early
+/// or its last line lacks the newline, the number of the line that is missing or cut. It takes one pass over the text, and copies nothing but
 /// what the table holds.
 pub fn read_table(alloc: Global, text: &[u8]) -> Result<Table, TableError>
     ensures { Reads text.now result }

@@ -1,4 +1,4 @@
-//! A table as its text has it. Nothing here says that it is true: that is the audit's work.
+//! A table as its text has it. Nothing here says that its rules are sound: that is what the audit decides.
 ghost use Rattle.std.specs.Prelude.{◌≡◌, map};
 ghost use Rattle.window_exec.specs.State.{seen};
 ghost use Rattle.rule_table.specs.Views.{family_of, header_of, rule_of, table_of};
@@ -9,15 +9,15 @@ use seq_enum::{Costs, Pool};
 use thumb_instr::{Mask, Seq};
 use window_exec::States;
 
-/// A sequence that is left open, by its number, with the log of a search that spent its budget.
+/// A sequence that is left open: it wasn't decided whether it has the left side's effect. Its number, and the log of the search that spent the budget on it.
 #[derive(Drop)]
 pub struct Open {
     pub number: u64,
     pub log: Vec<Line>,
 }
 
-/// A rule: under the mask the right side leaves the same as the left side, by the proof. The open sequences are shorter than the right side,
-/// or where the table has costs cheaper, and not shown to differ.
+/// A rule: under the mask the right side has the same effect as the left side, as the proof shows. The open sequences are shorter than the right
+/// side, or cheaper if the table has costs, and not shown to differ from the left side.
 #[derive(Drop)]
 pub struct Entry {
     pub left: Seq,
@@ -27,7 +27,7 @@ pub struct Entry {
     pub proof: Vec<Line>,
 }
 
-/// An entry raised: a number of the pool, where it stands in 8 bits, has each value of a range.
+/// A family raises an entry: a number of the pool, where it is an 8-bit operand, may have each value of a range.
 #[derive(Drop)]
 pub struct Family {
     /// The entry, counted from 1.
@@ -52,16 +52,16 @@ pub struct Table {
     pub budget: u32,
     pub pool: Pool,
     pub scratch: u8,
-    /// In version 4 alone.
+    /// Some in version 4 alone.
     pub costs: Option<Costs>,
     pub states: States,
     pub entries: Vec<Entry>,
-    /// None before version 3.
+    /// Empty before version 3.
     pub families: Vec<Family>,
 }
 
 impl Table {
-    /// The table with a header.
+    /// The table of these parts.
     pub fn new(header: Header, states: States, entries: Vec<Entry>, families: Vec<Family>) -> Table
         ensures { table_of result ≡ record { header = header_of header; states = map seen states; rules = map rule_of entries.items; families = map family_of families.items } }
     {

@@ -1,4 +1,4 @@
-//! What stands behind the first word of a line of a table, read just as it is written: one blank before each part, and nothing left over.
+//! Reads what follows the first word of a table's line, in exactly the form in which it is written: one blank before each part, and nothing left over.
 ghost use Rattle.std.specs.Prelude.{◌≡◌, ℕ, List, [], ◌∷◌, ◌<◌, ◌||◌, true, map, decimal, MatchOption, IfOk, IsTrue, ◌↔◌, nat_lt};
 ghost use Rattle.std.specs.List.{list_all};
 ghost use Rattle.thumb_instr.specs.Items.{has as has_item, one_of};
@@ -21,7 +21,7 @@ use thumb_instr::{Instr, Items, Low, Mask, in_window, registers_of};
 use thumb_syntax::{Parsed, read_instr, write_instr};
 use window_exec::WState;
 
-/// A pool of numbers, each behind a blank.
+/// A pool of numbers, each after a blank.
 pub(crate) fn pool(alloc: Global, tail: &[u8]) -> Result<Option<Pool>, AllocError>
     ensures { IfOk result (λ r. MatchOption r ((ns : List ℕ) → is_pool ns ≡ true → after_blanks (map decimal ns) ≡ tail.now → ⊥) (λ p. (is_pool p ≡ true) × (after_blanks (map decimal p) ≡ tail.now))) }
 {
@@ -31,7 +31,7 @@ pub(crate) fn pool(alloc: Global, tail: &[u8]) -> Result<Option<Pool>, AllocErro
     }
 }
 
-/// The costs of instructions, each behind a blank.
+/// The costs of instructions, each after a blank.
 pub(crate) fn costs(alloc: Global, tail: &[u8]) -> Result<Option<Costs>, AllocError>
     ensures { IfOk result (λ r. MatchOption r ((ns : List ℕ) → AreCosts ns → after_blanks (map decimal ns) ≡ tail.now → ⊥) (λ c. AreCosts c × (after_blanks (map decimal c) ≡ tail.now))) }
 {
@@ -41,7 +41,7 @@ pub(crate) fn costs(alloc: Global, tail: &[u8]) -> Result<Option<Costs>, AllocEr
     }
 }
 
-/// The four words of a state and its flags, each behind a blank.
+/// The four words of a state and its flags, each after a blank.
 pub(crate) fn state(tail: &[u8]) -> Option<WState>
     ensures { MatchOption result ((s : Seen) → IsState s → tail_of (State s) ≡ tail.now → ⊥) (λ s. IsState (seen s) × (tail_of (State (seen s)) ≡ tail.now)) }
 {
@@ -60,7 +60,7 @@ pub(crate) fn state(tail: &[u8]) -> Option<WState>
     }
 }
 
-/// The numbers of a family: the entry, the number of the pool, its least and its greatest value.
+/// The numbers of a family: the entry, the number of the pool, and the least and the greatest value that may take its place.
 #[derive(Clone, Copy)]
 pub(crate) struct Raised {
     pub(crate) entry: u32,
@@ -69,7 +69,7 @@ pub(crate) struct Raised {
     pub(crate) high: u32,
 }
 
-/// The numbers of a family, where these are the words.
+/// The numbers of a family, if the words are those four numerals.
 fn raised_of(words: &[&[u8]]) -> Option<Raised>
     ensures { MatchOption result ((entry number low high : ℕ) → IsItem (Family entry number low high) → map decimal (entry ∷ number ∷ low ∷ high ∷ []) ≡ all_now words.entry.now → ⊥)
         (λ r. IsItem (Family r.entry r.number r.low r.high) × (map decimal (r.entry ∷ r.number ∷ r.low ∷ r.high ∷ []) ≡ all_now words.entry.now)) }
@@ -98,7 +98,7 @@ fn raised_of(words: &[&[u8]]) -> Option<Raised>
     }
 }
 
-/// The numbers of a family, each behind a blank.
+/// The numbers of a family, each after a blank.
 pub(crate) fn family(alloc: Global, tail: &[u8]) -> Result<Option<Raised>, AllocError>
     ensures { IfOk result (λ r. MatchOption r ((entry number low high : ℕ) → IsItem (Family entry number low high) → tail_of (Family entry number low high) ≡ tail.now → ⊥)
         (λ r. IsItem (Family r.entry r.number r.low r.high) × (tail_of (Family r.entry r.number r.low r.high) ≡ tail.now))) }
@@ -109,13 +109,13 @@ pub(crate) fn family(alloc: Global, tail: &[u8]) -> Result<Option<Raised>, Alloc
     }
 }
 
-/// An item of masks, as it is written.
+/// An item that a mask may have, and its text.
 struct MaskItem {
     item: u8,
     text: &'static [u8],
 }
 
-/// The items of masks, in the order in which they are written.
+/// The items that a mask may have, in the order in which they are written.
 static MASK_ITEMS: [MaskItem; 8] = [
     MaskItem {
         item: 0,
@@ -157,7 +157,7 @@ fn mask_items() -> &'static [MaskItem]
     &MASK_ITEMS
 }
 
-/// The items and an item, where its text stands at the front of the bytes, and what stands behind it.
+/// If the row's text stands at the front of the bytes: the items with the row's one, and the rest of the bytes; else both as they are.
 fn taken_one<'a>(row: &MaskItem, items: Items, bytes: &'a [u8]) -> (Items, &'a [u8])
     requires { row.now.item < 19 }
     ensures items { (x : ℕ) → has_item result.0.bits x ≡ (has_item items.bits x || is_taken row.now.item (strip row.now.text.now bytes.entry.now) x) }
@@ -169,7 +169,7 @@ fn taken_one<'a>(row: &MaskItem, items: Items, bytes: &'a [u8]) -> (Items, &'a [
     }
 }
 
-/// The items whose texts stand at the front of the bytes in the order of the list, and what stands behind them.
+/// The items whose texts stand at the front of the bytes, in the order of the list, and the rest of the bytes.
 #[tactic(auto, unfolding(crate::specs::Fronts::taken))]
 fn taken<'a>(list: &[MaskItem], bytes: &'a [u8]) -> (Items, &'a [u8])
     requires { list_all (λ r. nat_lt r.item 19) list.now ≡ true }
@@ -186,7 +186,7 @@ fn taken<'a>(list: &[MaskItem], bytes: &'a [u8]) -> (Items, &'a [u8])
     (items, rest)
 }
 
-/// The items of a mask, each behind a blank.
+/// The items of a mask, each after a blank.
 pub(crate) fn mask(tail: &[u8]) -> Option<Mask>
     ensures { MatchOption result ((m : ℕ) → IsMask m → mask_text m ≡ tail.now → ⊥) (λ m. IsMask m.items.bits × (mask_text m.items.bits ≡ tail.now)) }
 {
@@ -205,7 +205,7 @@ fn are_low(registers: &[Low]) -> bool
     registers.iter().all(|register| register.number < 4)
 }
 
-/// Whether an instruction may stand in a table: in windows, over r0 to r3.
+/// Whether an instruction may stand in a table: one that may stand in a window, and names only r0 to r3.
 fn is_low(instr: &Instr) -> bool
     ensures { IsTrue result ↔ IsInstr instr.now }
 {
@@ -220,7 +220,7 @@ fn is_canonical(alloc: Global, instr: Instr, text: &[u8]) -> Result<bool, AllocE
     Ok(written.as_slice() == text)
 }
 
-/// An instruction in its canonical text, over r0 to r3.
+/// The instruction that the text is the canonical text of, if it may stand in a table.
 pub(crate) fn instruction(alloc: Global, text: &[u8]) -> Result<Option<Instr>, AllocError>
     ensures { IfOk result (λ r. MatchOption r ((i : Instr) → IsInstr i → instr_text i ≡ text.now → ⊥) (λ i. IsInstr i × (instr_text i ≡ text.now))) }
 {

@@ -1,4 +1,4 @@
-//! What one line of a table says by itself, before it is judged whether it may stand where it does.
+//! Reads one line of a table by itself. Whether the line may stand where it does is checked in `draft`.
 ghost use Rattle.std.specs.Prelude.{◌≡◌, [], IfOk, MatchOption};
 ghost use Rattle.rule_table.specs.Told.{Tells, Says};
 ghost use Rattle.rule_table.specs.declared.header.HeaderLine.TheVariants as head;
@@ -12,14 +12,14 @@ use crate::words::{FirstWord, front};
 use lrat_check::read_line;
 use std::alloc::{AllocError, Global};
 
-/// The item of a word that stands alone, where nothing stands behind it.
+/// The item of a word that has to stand alone, if nothing follows it.
 fn alone(tail: &[u8], item: Item) -> Option<Item>
     ensures { MatchOption result (tail.now ≡ [] → ⊥) (λ i. (tail.now ≡ []) × (i ≡ item)) }
 {
     if tail.is_empty() { Some(item) } else { None }
 }
 
-/// A number of the header, or an instruction of a left side.
+/// A number of the header, or an instruction of a left side: lines of both kinds begin with `left `.
 fn numbered(alloc: Global, field: Field, tail: &[u8]) -> Result<Option<Item>, AllocError>
     ensures { IfOk result (Tells (word.Head (head.Number field)) tail.now) }
 {
@@ -113,7 +113,7 @@ fn family_line(alloc: Global, tail: &[u8]) -> Result<Option<Item>, AllocError>
     }
 }
 
-/// What a word says with what stands behind it.
+/// What a line says by its first word and what follows that.
 fn told(alloc: Global, word: FirstWord, tail: &[u8]) -> Result<Option<Item>, AllocError>
     ensures { IfOk result (Tells word tail.now) }
 {

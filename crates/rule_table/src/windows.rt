@@ -1,4 +1,4 @@
-//! Windows with their registers renamed by first appearance.
+//! The canonical form of windows: their registers are renamed in order of first appearance, so that windows that differ in registers alone have one form.
 ghost use Rattle.std.specs.Prelude.{◌≡◌, ◌<◌, ◌≤◌, ℕ, [], ◌∷◌, ◌&&◌, ◌==◌, true, length, map, slice_get, MatchOption};
 ghost use Rattle.std.specs.List.{list_all};
 ghost use Rattle.std.specs.Bool.{OnTrue, OnFalse};
@@ -10,9 +10,9 @@ use crate::map::Map;
 use arrayvec::ArrayVec;
 use thumb_instr::{Instr, Items, Low, Mask, Seq, in_window, normal, registers_of, renamed};
 
-/// The window, normal, with its registers renamed r0, r1 and so on by first appearance, the map to its own registers, and the items that
-/// are its registers, by their new names, or flags. None exactly where the slice is empty or longer than five, some instruction may not
-/// stand in a window, or more than four registers are named.
+/// The normal form of the window with its registers renamed r0, r1 and so on by first appearance, the map from these to its own registers, and
+/// those of the items that are its registers, by their new names, or flags. None if and only if the window is empty or longer than five, some
+/// instruction may not stand in a window, or more than four registers are named.
 pub fn canonical(window: &[Instr], items: Items) -> Option<(Seq, Map, Mask)>
     ensures { MatchOption result (IsRenamable window.now → ⊥) (λ c. IsRenamable window.now × IsCanonical window.now items.bits c.0 c.1 c.2.items.bits) }
 {
@@ -49,7 +49,7 @@ fn normalised(window: &[Instr]) -> Seq
     seq
 }
 
-/// The instructions under a map.
+/// The instructions with these registers in place of r0, r1 and so on.
 pub fn renamed_all(instrs: &[Instr], registers: &[Low]) -> Seq
     requires { length instrs.now ≤ 5 }
     ensures { result ≡ map (renamed registers.now) instrs.now }
@@ -73,7 +73,7 @@ fn has(seen: &[Low], register: Low) -> bool
     false
 }
 
-/// Puts a register behind those seen, where it isn't among them; false where there is no room.
+/// Appends a register to those seen, if it isn't among them; false if there is no room.
 fn see(seen: &mut ArrayVec<Low, 4>, register: Low) -> bool
     ensures yes { OnTrue result (numbers_of seen.new.items ≡ with_first (numbers_of seen.old.items) register.number) }
     ensures room { OnTrue result (length seen.new.items ≤ 4) }
@@ -86,7 +86,7 @@ fn see(seen: &mut ArrayVec<Low, 4>, register: Low) -> bool
     }
 }
 
-/// Puts registers behind those seen, each where it isn't among them; false where there is no room.
+/// Appends registers to those seen, each if it isn't among them; false if there is no room.
 #[tactic(auto, using(crate::proofs::Orders::order))]
 fn see_all(seen: &mut ArrayVec<Low, 4>, registers: &[Low]) -> bool
     requires { length seen.old.items ≤ 4 }
@@ -117,7 +117,7 @@ fn order_of(instrs: &[Instr]) -> Option<ArrayVec<Low, 4>>
     Some(seen)
 }
 
-/// The names of r0 to r7: each register's place in the order; past the end where it has none.
+/// The new names of r0 to r7: each register's index in the order; one past its end for a register that isn't in it.
 fn names_of(order: &[Low]) -> [Low; 8]
     requires { length order.now ≤ 4 }
     ensures { numbers_of result ≡ map (name_in (numbers_of order.now)) (0 ∷ 1 ∷ 2 ∷ 3 ∷ 4 ∷ 5 ∷ 6 ∷ 7 ∷ []) }
@@ -131,7 +131,7 @@ fn names_of(order: &[Low]) -> [Low; 8]
     names
 }
 
-/// An item under another name, where it is one of these.
+/// An item under another name, if it is in the set; else the empty set.
 fn kept(items: Items, item: u8, name: u8) -> Items
     requires item { item < 19 }
     requires name { name < 19 }
@@ -144,7 +144,7 @@ fn kept(items: Items, item: u8, name: u8) -> Items
     }
 }
 
-/// A register under its name, where it is one of the items.
+/// The register that has this new name, under that name, if it is in the set; else the empty set.
 fn kept_at(items: Items, order: &[Low], name: u8) -> Items
     requires { name < 4 }
     ensures { (x : ℕ) → has_item result.bits x ≡ (register_has items.bits (slice_get (numbers_of order.now) name) && (x == name)) }
@@ -155,7 +155,7 @@ fn kept_at(items: Items, order: &[Low], name: u8) -> Items
     }
 }
 
-/// The items by their names.
+/// The items under their new names; flags keep theirs.
 fn mask_of(items: Items, order: &[Low]) -> Mask
     ensures { (x : ℕ) → has_item result.items.bits x ≡ masked items.bits (numbers_of order.now) x }
 {

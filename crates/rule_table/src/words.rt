@@ -1,4 +1,4 @@
-//! The words that lines of a table begin with, in one list: the reader finds the kind of a line by it, and the writer begins the line with it.
+//! The words with which lines of a table begin, in one list: by it the reader finds the kind of a line.
 ghost use Rattle.std.specs.Prelude.{◌≡◌, option_map};
 ghost use Rattle.rule_table.specs.Fronts.{words, word_text, strip, front_in, front, seen_front};
 
@@ -46,7 +46,7 @@ fn words() -> &'static [FirstWord]
     &WORDS
 }
 
-/// What stands at the front of a line, with the blank where one has to follow.
+/// The text of a word at the front of a line, with a blank after it if exactly one part follows.
 fn word_text(word: FirstWord) -> &'static [u8]
     ensures { result.now ≡ word_text word }
 {
@@ -66,14 +66,14 @@ fn word_text(word: FirstWord) -> &'static [u8]
     }
 }
 
-/// What stands behind a prefix, where the bytes begin with it.
+/// The bytes after a prefix, if they begin with it.
 pub(crate) fn strip<'a>(prefix: &[u8], bytes: &'a [u8]) -> Option<&'a [u8]>
     ensures { option_map (λ t. t.now) result ≡ strip prefix.now bytes.entry.now }
 {
     bytes.strip_prefix(prefix)
 }
 
-/// The first of these words with which the bytes begin, and what stands behind it.
+/// The first of these words with which the bytes begin, and the rest of the bytes.
 fn front_in<'a>(words: &[FirstWord], bytes: &'a [u8]) -> Option<(FirstWord, &'a [u8])>
     ensures { option_map seen_front result ≡ front_in words.now bytes.entry.now }
 {
@@ -85,7 +85,7 @@ fn front_in<'a>(words: &[FirstWord], bytes: &'a [u8]) -> Option<(FirstWord, &'a 
     None
 }
 
-/// The word that a line begins with, and what stands behind it; of a line that begins with a digit all of it.
+/// The word that a line begins with, and the rest of the line; for a line that begins with a digit, all of it.
 #[tactic(auto, unfolding(crate::specs::Fronts::front))]
 pub(crate) fn front(line: &[u8]) -> Option<(FirstWord, &[u8])>
     ensures { option_map seen_front result ≡ front line.entry.now }

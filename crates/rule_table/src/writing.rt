@@ -1,4 +1,4 @@
-//! The one text of a table, line by line. Reading takes this form alone, so that a table has no second text.
+//! Writes the text of a table, line by line. Reading accepts this form alone, so that a table has exactly one text.
 ghost use Rattle.std.specs.Prelude.{◌≡◌, ◌++◌, [], OnOk, IfOk, map};
 ghost use Rattle.std.specs.List.{flat_map};
 ghost use Rattle.lrat_check.specs.Text.{content_of};
@@ -33,7 +33,7 @@ pub fn write_table(alloc: Global, table: &Table) -> Result<Vec<u8>, AllocError>
     Ok(out)
 }
 
-/// A number of a table's header.
+/// The number that a table has for a field of its header.
 fn number_in(table: &Table, field: Field) -> u32
     ensures { result ≡ number_in (header_in table.now) field }
 {
@@ -47,7 +47,7 @@ fn number_in(table: &Table, field: Field) -> u32
     }
 }
 
-/// The numbers of costs; none where there are no costs.
+/// The numbers of the costs; empty if there are no costs.
 fn cost_numbers(costs: &Option<Costs>) -> &[u8]
     ensures { result.now ≡ cost_numbers costs.now }
 {
@@ -57,7 +57,7 @@ fn cost_numbers(costs: &Option<Costs>) -> &[u8]
     }
 }
 
-/// A line of a table's header, where the table's version has it.
+/// Writes a line of a table's header, if the table's version has it.
 fn write_head(out: &mut Vec<u8>, table: &Table, line: HeaderLine) -> Result<(), AllocError>
     ensures { OnOk result (out.new.items ≡ out.old.items ++ text_of_items (line_items (header_in table.now) line)) }
 {

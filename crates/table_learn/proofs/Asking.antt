@@ -1,4 +1,4 @@
--- What the solver's verdict says of a sequence.
+-- What each verdict of the solver says of a sequence and the window.
 use Rattle.std.specs.Global.{Global}
 use Rattle.std.proofs.Common.{◌≡◌, ℕ, ◌+◌, ◌<◌, ◌≤◌, ◌^◌, ◌||◌, Bool, true, false, List, [], ◌∷◌, All, length, map, get_or, refl, sym, ap, subst, arith, inl}
 use Rattle.std.specs.Prelude.{ℤ, Vec}
@@ -34,13 +34,13 @@ use Rattle.table_learn.specs.Found.{IsAnswer, IsFinding, window_in}
 use Rattle.table_learn.proofs.Certificates.{refutation_lines, search_lines}
 use Rattle.table_learn.proofs.Telling.{tells_is_apart}
 
--- a model gives a state that tells
+-- a model gives a state that tells the two apart
 pub model_tells : (f : Cnf) (left right : List Instr) (mask k : ℕ) (model : List Bool) (s : WState) → f ≡ sides_formula left right mask k → AreOver k left → AreOver k right → IsMask mask → IsMaskOver k mask → k ≤ 4 → IsModel model f
     → SameOver 4 (values_of s) (start_values (assigned model) k) → tells_apart left right mask (seen s) ≡ true
 model_tells f left right mask k model s e over_left over_right m over few h same =
     tells_is_apart left right mask (seen s) m (models_give_states left right mask k over_left over_right m over few (assigned model) (subst (IsModel model) e h) (values_of s) same)
 
--- and its registers are words
+-- the registers of that state are words
 pub state_words : (s : WState) (v : Values) → length s.r ≡ 4 → SameOver 4 (values_of s) v → AreWords v → All (λ w. w < 2 ^ 32) s.r
 state_words s v four same words j d low =
     let at : get_or s.r j 0 < 2 ^ 32 = of_four (λ x. get_or s.r x 0 < 2 ^ 32) (each 0 (omega arith) (same 0 (inl (omega arith, omega arith)))) (each 1 (omega arith) (same 1 (inl (omega arith, omega arith)))) (each 2 (omega arith) (same 2 (inl (omega arith, omega arith)))) (each 3 (omega arith) (same 3 (inl (omega arith, omega arith)))) j (omega (arith, low, four)) in
@@ -49,13 +49,13 @@ state_words s v four same words j d low =
     each : (x : ℕ) → x < 15 → get_or s.r x 0 ≡ v x → get_or s.r x 0 < 2 ^ 32
     each x h e = subst (λ z. z < 2 ^ 32) (sym e) (words.register x h)
 
--- a log that refutes
+-- the log of a refutation
 pub refutes : (budget : ℕ) (f g : Cnf) (log : Vec Line Global) → f ≡ g → budget + length f.clauses ≤ 4294967295 → VerdictOf f budget (Unsat log) → IsRefutation budget g (map content_of log.items) × All IsLine (map content_of log.items)
 refutes budget f g log e small v =
     let r : IsRefutation budget f (map content_of log.items) = record { log = log; refutes = v; says = refl } in
     (subst (λ h. IsRefutation budget h (map content_of log.items)) e r, refutation_lines budget f (map content_of log.items) small r)
 
--- a log that spends the budget
+-- the log of a search that spent the budget
 pub spends : (budget : ℕ) (f g : Cnf) (log : Vec Line Global) → f ≡ g → budget + length f.clauses ≤ 4294967295 → VerdictOf f budget (Spent log) → IsSpentSearch budget g (map content_of log.items) × All IsLine (map content_of log.items)
 spends budget f g log e small v =
     let r : IsSpentSearch budget f (map content_of log.items) = record { log = log; spends = v; says = refl } in
@@ -77,7 +77,7 @@ pub told_seen : (states : List WState) (left right : List Instr) (mask : ℕ) �
 told_seen [] left right mask = refl
 told_seen (s ∷ states) left right mask = ap (λ b. tells_apart left right mask (seen s) || b) (told_seen states left right mask)
 
--- the solver is asked where no listed state tells
+-- if no listed state tells the two apart, the solver's answer is the result of trying
 pub answered : (r : Result Finding AllocError) (s : Settings) (states : List Seen) (w : code.Window) (seq : List Instr) → w.k ≡ alphabet_registers s w.left → told states w.left seq w.mask.items.bits ≡ false → IfOk r (IsAnswer s.budget w seq) → IfOk r (IsFinding s states (window_in w) seq)
 answered (Ok Told) s states w seq n u a = absurd a
 answered (Ok (State x)) s states w seq n u a = (u, a.0, a.1)

@@ -1,4 +1,4 @@
--- Sequences below a side, by their numbers.
+-- The sequences below a side (shorter, or with costs cheaper and no longer), by their numbers.
 use Rattle.std.proofs.Common.{◌≡◌, ℕ, ◌+◌, ◌-◌, ◌^◌, ◌<◌, ◌≤◌, inl, inr, true, List, Option, Some, None, IfSome, length, min, slice_get, refl, sym, ◌∙◌, ap, subst, arith}
 use Rattle.std.specs.Option.{is_some}
 use Rattle.std.proofs.lemmas.Bool.{cases_lt}
@@ -20,11 +20,11 @@ use Rattle.thumb_model.proofs.Lists.{present_at}
 
 -- ---- the sequence of a number ----
 
--- a number has one sequence, below whatever side
+-- a number has at most one sequence, whichever side that is below
 pub one_below : (s : Settings) (left side other : List Instr) (number : ℕ) (seq more : List Instr) → IsBelow s left side number seq → IsBelow s left other number more → seq ≡ more
 one_below s left side other number seq more b c = same_Some seq more (sym b.at ∙ c.at)
 
--- what the number of a right side tells, of a test
+-- if the test finds a sequence, it is below the side
 pub some_below : (s : Settings) (left side : List Instr) (number : ℕ) → is_some (below_at s left side number) ≡ true → (seq : List Instr) × IsBelow s left side number seq
 some_below s left side number h = found (below_at s left side number) refl h
   where
@@ -38,7 +38,7 @@ below_left s left side number other seq lower b = record { at = b.at; no_longer 
 
 -- ---- the order of numbers ----
 
--- those that are shorter than a sequence come before it
+-- all sequences shorter than a given one have lower numbers
 pub number_after : (k : ℕ) (pool : List ℕ) (m n : ℕ) (s : List Instr) → m ≤ 6 → slice_get (sequences_below k pool m) n ≡ Some s → length (sequences_below k pool (length s)) ≤ n
 number_after k pool m n s six at =
     let w = below_in k pool m n s six at in
@@ -67,13 +67,13 @@ light_length : (costs : Option (List ℕ)) (left side seq : List Instr) → leng
 light_length None left side seq h k less = omega (arith, h, less)
 light_length (Some costs) left side seq h k less = omega (arith, k)
 
--- it is among those that have no more instructions than the left side, or without costs fewer
+-- a sequence below a side is among those that are no longer than the left side, or without costs shorter
 pub below_among : (s : Settings) (left side : List Instr) (number : ℕ) (seq : List Instr) → length left ≤ 5 → length side ≤ length left → IsBelow s left side number seq
     → slice_get (sequences_below (alphabet_registers s left) s.pool (lengths_below s.costs (length left))) number ≡ Some seq
 below_among s left side number seq five no_longer b =
     below_from (alphabet_registers s left) s.pool (lengths_below s.costs (length left)) number seq (few_lengths s.costs (length left) five) b.at (light_length s.costs left side seq no_longer b.no_longer b.lighter)
 
--- how many instructions a table has that is as long as the sequences below a left side are at most
+-- the most instructions of a sequence below a left side, as the length of the table that has all of these
 abbrev pub longest_in : Option (List ℕ) → (left : List Instr) → ℕ
 longest_in costs left = min (length left) (weight_under costs left - 1)
 
@@ -105,7 +105,7 @@ five_wide k pool some few =
     let wide : sum_below (λ i. 26 ^ i) 6 ≤ sum_below (λ i. length (alphabet k pool) ^ i) 6 = sum_more 26 (length (alphabet k pool)) 6 size in
     omega (arith, e, wide, wide_sum)
 
--- with costs it has four instructions at most, as those of five are too many
+-- with costs that is at most four, since there are more than 5,000,000 sequences of five
 pub narrow_lengths : (s : Settings) (w : Window) → IsWindow s w → s.left ≤ 5 → width_of s ≤ 5000000 → lengths_below s.costs (length w.seq) ≤ 5
 narrow_lengths s w i few narrow = bound s.costs refl
   where

@@ -1,4 +1,4 @@
--- The sequences below a window that the first listed state leaves, in the order in which they are tried.
+-- The sequences below a window that the first listed state doesn't tell from it, in the order in which they are tried.
 use Rattle.std.proofs.Common.{◌≡◌, ℕ, ◌+◌, ◌<◌, ◌≤◌, inl, inr, true, List, [], ◌∷◌, Contains, length, map, slice_get, get_or, Option, None, Some, sym, ◌∙◌, ap, subst, arith}
 use Rattle.std.specs.Prelude.{Any, All, IfSome}
 use Rattle.std.proofs.lemmas.Bool.{cases_lt}
@@ -66,7 +66,7 @@ lengths_rise k pool n a b six less low =
       | inr past ↦ omega (arith, mine, other, past)
     ]
 
--- ascending numbers of sequences of fewer than so many instructions, which are no more than those below a left side may have
+-- the numbers are ascending, and are those of sequences with fewer than `count` instructions, where `count` suffices for all below the left side
 record AreFound (costs : Option (List ℕ)) (k : ℕ) (pool : List ℕ) (left : List Instr) (count : ℕ) (numbers : List ℕ) : Type 0 where
   few : count ≤ 6
   short : count ≤ lengths_below costs (length left)
@@ -81,7 +81,7 @@ few_ordered : (costs : Option (List ℕ)) (instrs left : List Instr) (numbers : 
 few_ordered None instrs left numbers = omega arith
 few_ordered (Some costs) instrs left numbers = few_by_weight (weight_at (Some costs) instrs) (weight_under (Some costs) left) numbers
 
--- each is that of a sequence that is no longer and weighs less than the left side
+-- the number is that of a sequence that is no longer and weighs less than the left side
 record IsLighter (costs : Option (List ℕ)) (k : ℕ) (pool : List ℕ) (left : List Instr) (q : ℕ) : Type 0 where
   seq : List Instr
   at : slice_get (sequences k pool) q ≡ Some seq
@@ -102,7 +102,7 @@ from_ordered (Some costs) k pool left count numbers q f c =
     let is : weight_at (Some costs) (alphabet k pool) q ≡ weight_under (Some costs) one.0 = ap (weight_or_none (Some costs)) place.0 in
     record { seq = one.0; at = place.0; no_longer = omega (arith, place.1, short); lighter = (let low = from.1 in omega (arith, low, is)) }
 
--- and all such stay
+-- and the numbers of all such sequences stay in the list
 to_ordered : (costs : Option (List ℕ)) (instrs left : List Instr) (numbers : List ℕ) (q : ℕ) (seq : List Instr) → Contains numbers q → slice_get (sequences_of instrs) q ≡ Some seq → weight_under costs seq < weight_under costs left
     → Contains (in_order costs instrs left numbers) q
 to_ordered None instrs left numbers q seq c at less = c
@@ -110,7 +110,7 @@ to_ordered (Some costs) instrs left numbers q seq c at less =
     let is : weight_at (Some costs) instrs q ≡ weight_under (Some costs) seq = ap (weight_or_none (Some costs)) at in
     to_by_weight (weight_at (Some costs) instrs) (weight_under (Some costs) left) numbers q c (omega (arith, less, is))
 
--- the table's sequences, of which the first state leaves these numbers
+-- the numbers are those of the table's sequences that the first state doesn't tell from the window
 pub record AreLeft (s : Settings) (w : Window) (seqs : List (List Instr)) (instrs : List Instr) (t : Trial) (numbers : List ℕ) : Type 0 where
   pub window : IsWindow s w
   pub costs : IfSome s.costs AreCosts

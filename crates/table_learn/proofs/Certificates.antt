@@ -1,4 +1,4 @@
--- The solver's logs are proofs, and logs that spend a budget.
+-- The solver's logs pass the audit: as proofs of refutations, or as logs that spend the budget.
 use Rattle.std.specs.Global.{Global}
 use Rattle.std.proofs.Common.{◌≡◌, ℕ, zero, suc, ◌+◌, ◌-◌, ◌<◌, ◌≤◌, ◌^◌, ◌∷◌, ◌++◌, inl, inr, List, [], Option, Some, None, All, length, take, get_or, map, slice_get, nat_eq, refl, sym, ◌∙◌, ap, subst, arith, append_assoc, append-nil, length-append, true, false}
 use Rattle.std.specs.Prelude.{◌≢◌, ℤ, pos, Any, unsigned_abs, cond, Vec}
@@ -34,7 +34,7 @@ any_behind (x ∷ xs) ys a = let r = any_behind xs ys a in (suc r.0, r.1, omega 
 
 -- ---- lines, one after the other
 
--- each line teaches beside the clauses and those of the lines before it
+-- each line adds an asserting clause to the clauses and those of the lines before it
 abbrev pub AllTeach : List (List ℕ) → List Line → Type 0
 AllTeach clauses [] = Unit {0}
 AllTeach clauses (line ∷ lines) = Teaches clauses line × AllTeach (clauses ++ literals_in line ∷ []) lines
@@ -180,7 +180,7 @@ log_lines clauses (Adding a ∷ log) small t =
     (log_lines (clauses ++ a.literals.items ∷ []) log (omega (arith, small, l)) t.1)
 log_lines clauses (Deleting d ∷ log) small t = absurd t.0
 
--- ---- and one behind it that adds the empty clause
+-- ---- and one after it that adds the empty clause
 
 refuted_accepted : (clauses : List (List ℕ)) (front : List Line) (last : Line) → AllTeach clauses front → Refutes (with_log clauses front) last → AllAccepted (started clauses) (map content_of (front ++ last ∷ []))
 refuted_accepted clauses [] (Adding a) t r = (adds_accepted clauses a (subst (λ (cs : List (List ℕ)). Adds cs a) (append-nil clauses) r.0), tt)
@@ -241,7 +241,7 @@ refutation_lines budget formula lines small g =
           (refuted_lines (codes_of formula.clauses) r.0 r.1 (omega (arith, few, many, small)) (all_teach (codes_of formula.clauses) r.0 r.3) r.4)
     ])
 
--- the log of a search that spent its budget is one
+-- the log of a search that spent its budget is a log that spends the budget
 pub search_spends : (budget : ℕ) (formula : Cnf) (lines : List Content) → IsSpentSearch budget formula lines → IsSpentLog budget (codes_of formula.clauses) lines
 search_spends budget formula lines g = subst (λ (ls : List Content). IsSpentLog budget (codes_of formula.clauses) ls) g.says
     (let t = all_teach (codes_of formula.clauses) g.log.items g.spends.1 in
@@ -257,7 +257,7 @@ search_lines budget formula lines small g =
     subst (λ (ls : List Content). All IsLine ls) g.says
     (log_lines (codes_of formula.clauses) g.log.items (let n = g.spends.0 in omega (arith, many, small, n)) (all_teach (codes_of formula.clauses) g.log.items g.spends.1))
 
--- a side against itself is refuted by no line
+-- the formula that a side differs from itself is refuted by the empty log
 pub nothing_refutes : (side : List Instr) (mask k budget : ℕ) (log : Vec Line Global) → AreOver k side → log.items ≡ [] → IsRefutationOf budget (sides_formula side side mask k) []
 nothing_refutes side mask k budget log over e =
     let ends = itself_ends_in_empty side mask k over in

@@ -1,4 +1,4 @@
--- How many steps learning takes.
+-- How many steps learning takes at most: sums over candidates, windows and open numbers.
 use Rattle.std.proofs.Common.{◌≡◌, ℕ, suc, ◌+◌, ◌-◌, ◌*◌, ◌<◌, ◌≤◌, List, [], ◌∷◌, All, length, slice_get, Some, refl, sym, ◌∙◌, ap, subst, arith, true, nat_le}
 use Rattle.std.specs.Prelude.{sum_by}
 use Rattle.std.proofs.Math.Nat.{mul-le-mul_left, mul-le-mul_right}
@@ -16,7 +16,7 @@ use Rattle.common_lemmas.proofs.Numbers.{one_more_times}
 
 -- ---- how many there are ----
 
--- ascending numbers below a limit are no more than it
+-- there are no more ascending numbers below a limit than the limit
 pub few_numbers : (low n : ℕ) (xs : List ℕ) → low ≤ n → ascends_from low xs ≡ true → All (λ q. q < n) xs → low + length xs ≤ n
 unfolding ascends_from
 few_numbers low n [] h a all = omega (arith, h)
@@ -110,7 +110,7 @@ learn_more s before after start i w u v h k some more within =
     let j : drop_cost s w (v - 64) ≡ drop_cost s w (u - 64) + drop_cost s w (v - u) = subst (λ n. drop_cost s w n ≡ drop_cost s w (u - 64) + drop_cost s w (v - u)) (sym sum) g in
     omega (arith, h, k, d, e, f, j)
 
--- all windows: no open number is run on the first 64 states, which makes up for the outcomes
+-- all windows: open numbers are never run on the first 64 states, which makes up for the steps of the outcomes
 pub learn_all : (s : Settings) (after start w u : ℕ) → 1 ≤ s.left → 64 ≤ u → after ≤ start + (w * search_cost s u + drop_cost s w (u - 64)) → after ≤ start + learn_cost s w u
 learn_all s after start w u some many h =
     let x : ℕ = width_of s in

@@ -1,4 +1,4 @@
--- Names and entries that are gone through by value.
+-- The loops of `dropping`: the open numbers and entries of the code after some iterations, as filters of those of the definitions.
 use Rattle.std.proofs.Common.{◌≡◌, ℕ, ◌+◌, Bool, true, false, List, [], ◌∷◌, ◌++◌, cond, filter, length, map, refl, sym, ◌∙◌, ap, arith, append-nil, suc, ◌==◌, ◌*◌, eqb-true, zero-add}
 use Rattle.std.proofs.lemmas.List.{map_push, length-map}
 use Rattle.std.proofs.lemmas.List.Elements.{filter-append}

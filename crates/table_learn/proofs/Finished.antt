@@ -1,4 +1,4 @@
--- Learning as its loop sees it.
+-- The loop over windows: its invariant, one more window, and the bounds at its end.
 use Rattle.std.proofs.Common.{◌≡◌, ℕ, zero, suc, ◌+◌, ◌-◌, ◌*◌, ◌<◌, ◌≤◌, List, [], ◌∷◌, ◌++◌, length, map, get_or, take, refl, sym, ◌∙◌, ap, subst, arith}
 use Rattle.std.proofs.Math.Nat.{mul-le-mul_right}
 use Rattle.std.proofs.lemmas.List.{length-map, map_push, take_more, take_all, get_or-map, length-take}
@@ -95,7 +95,7 @@ learnt_whole s t ws n l table same narrow past h e = subst (λ (vs : Pairs). Lea
 pub fits_all : (s t : Settings) (ws : Pairs) (n : ℕ) (l : Learner) (table : Table) → t ≡ s → HasLearnt s (map window_of (take n ws)) l → table ≡ table_with t (states_in l) (rules_in l) → l.bytes ≤ text_limit → text_length table ≤ text_limit
 fits_all s t ws n l table same h e low = subst (λ j. j ≤ text_limit) (h.bytes ∙ ap (λ (u : Table). text_length u) (sym (e ∙ ap (λ u. table_with u (states_in l) (rules_in l)) same))) low
 
--- what the first n windows took is no more than what all may take
+-- the steps for the first n windows are no more than the bound for all
 pub cost_all : (s t : Settings) (ws : Pairs) (n after start : ℕ) (l : Learner) (table : Table) → 1 ≤ s.left → HasLearnt s (map window_of (take n ws)) l → n ≤ length ws → table ≡ table_with t (states_in l) (rules_in l) → after ≤ start + (n * search_cost s (length l.states.items) + drop_cost s (length ws) (length l.states.items - 64)) → after ≤ start + learn_cost s (length ws) (length table.states)
 cost_all s t ws n after start l table some learnt low e h =
     let size : length l.states.items ≡ length table.states = sym (ap (λ (u : Table). length u.states) e ∙ length-map l.states.items seen) in

@@ -1,4 +1,4 @@
--- Entries fit as more states are found, and pass the audit.
+-- The invariant of an entry is preserved while more states are found and open numbers dropped, and such entries pass the audit.
 use Rattle.std.proofs.Common.{◌≡◌, ℕ, suc, ◌+◌, ◌≤◌, ◌⊎◌, ◌==◌, inl, inr, Bool, true, false, not, List, [], ◌∷◌, ◌++◌, Option, Some, None, cond, filter, length, slice_get, refl, sym, ◌∙◌, ap, subst, arith, eqb-true, nat_le}
 use Rattle.std.proofs.lemmas.Bool.{or_cases, or_left, or_right, false≢true, true≢false, and_parts, leb-true, not-true}
 use Rattle.seq_enum.specs.Alphabet.{ascends_from}
@@ -38,7 +38,7 @@ no_dearer : (s : Settings) (e : Rule) → KeepsOrLowers s e → weight_in s e.ri
 no_dearer s e (inl same) = let w : weight_in s e.right ≡ weight_in s e.left = ap (weight_in s) same in omega (arith, w)
 no_dearer s e (inr lower) = let less = lower.1.lighter in omega (arith, less)
 
--- nothing is left untold
+-- each sequence below an entry's right side is distinguished by a state or left open
 none_untold : (s : Settings) (states : List Seen) (rules : List Rule) (e : Rule) → IsFit s states states e → (q : ℕ) (seq : List Instr) → IsUntold (table_with s states rules) e q seq → ⊥
 none_untold s states rules e f q seq u = elim (f.settles q seq u.below) [
   | inl named ↦ true≢false (sym named ∙ u.unnamed)
@@ -93,7 +93,7 @@ fit_more s tellers more silent e f = record {
 
 -- ---- filters ----
 
--- a filter that passes all of a number's names keeps the number named
+-- a filter that keeps all open sequences with a number leaves the number open
 pub named-filter : (p : Opened → Bool) (opens : List Opened) (q : ℕ) → ((o : Opened) → o.number ≡ q → p o ≡ true) → is_named opens q ≡ true → is_named (filter p opens) q ≡ true
 named-filter p [] q h k = absurd (cc)
 named-filter p (o ∷ opens) q h k =
@@ -118,7 +118,7 @@ ascends-filter p low (o ∷ opens) a =
       | false ↦ (let k : low ≤ o.number = leb-true low o.number parts.0 in ascends-filter p low opens (ascends_lower low (suc o.number) (numbers_of opens) (omega (arith, k)) parts.1))
     ]
 
--- ---- without what the found states tell ----
+-- ---- without what the found states distinguish ----
 
 pub fit_without : (s : Settings) (silent found : List Seen) (e : Rule) → IsFit s (silent ++ found) silent e → IsFit s (silent ++ found) (silent ++ found) (without_told s found e)
 fit_without s silent found e f = record {

@@ -1,4 +1,4 @@
--- One more window, and the table in the end.
+-- The learner's invariant before the first window and after one more, and the learnt table that follows from it at the end.
 use Rattle.std.proofs.Common.{◌≡◌, ℕ, zero, suc, ◌+◌, ◌-◌, ◌<◌, ◌≤◌, ◌^◌, ◌%◌, ◌/◌, ◌*◌, inl, inr, List, [], ◌∷◌, ◌++◌, Some, All, length, map, slice_get, take, refl, sym, ◌∙◌, ap, subst, arith, zero-add, length-append}
 use Rattle.std.proofs.lemmas.List.{take-append-le, take_all, map-append}
 use Rattle.std.proofs.lemmas.List.Elements.{All-nil, All-cons, All-append}
@@ -72,7 +72,7 @@ earned_later s windows w states more old new i x from at =
       | inr k ↦ record { place = length windows; window = w; is_window = push_at windows w; found = new i x k at }
     ]
 
--- states were found: what they tell is dropped
+-- one more entry and the states found for it, after the open numbers that these distinguish were dropped
 pub gain : (s : Settings) (windows : List Window) (w : Window) (states more : List Seen) (rules : List Rule) (e : Rule) → Progress s windows states rules → All IsState more → EarnedFrom s (length states) (states ++ more) w → learnt_from e ≡ w → IsFit s (states ++ more) states e
     → Progress s (windows ++ w ∷ []) (states ++ more) (map (without_told s more) (rules ++ e ∷ []))
 gain s windows w states more rules e g valid earned same fit = record {
@@ -171,7 +171,7 @@ over_instrs (i ∷ is) over = All-cons IsInstr i is (record { window = over.0; l
 side_instrs : (pool : List ℕ) (k : ℕ) (is : List Instr) → k ≤ 4 → IsOver k pool is → All IsInstr is
 side_instrs pool k is few over = over_instrs is (over_more k 4 is few (are_over k pool is (omega (arith, few)) over))
 
--- an open number is below the number of all sequences that count
+-- an open number is below the count of all sequences
 pub low_name : (s : Settings) (tellers silent : List Seen) (e : Rule) (i : ℕ) (o : Opened) → IsFit s tellers silent e → slice_get e.opens i ≡ Some o → o.number < width_of s
 low_name s tellers silent e i o f at =
     let name = f.names i o at in

@@ -1,4 +1,4 @@
--- How many sequences there are, at more registers and more instructions.
+-- The number of sequences is monotone in the numbers of registers and instructions.
 use Rattle.std.proofs.Common.{◌≡◌, ℕ, zero, suc, ◌+◌, ◌-◌, ◌*◌, ◌^◌, ◌<◌, ◌≤◌, List, length, sym, subst, arith}
 use Rattle.std.proofs.Math.Nat.{le_refl, le_trans, mul-le-mul, pow-le-pow_left}
 use Rattle.seq_enum.specs.Alphabet.{those_within, alphabet}

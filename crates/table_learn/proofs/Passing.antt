@@ -1,4 +1,4 @@
--- A learnt table is accepted, also where it is read back from its text.
+-- A learnt table passes the audit also after it is written and read back.
 use Rattle.std.proofs.Common.{◌≡◌, sym, subst, Ok}
 use Rattle.rule_table.specs.Table.{Table}
 use Rattle.rule_table.specs.Views.{table_of}

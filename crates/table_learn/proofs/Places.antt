@@ -1,4 +1,4 @@
--- Open numbers, as the code has them.
+-- Whether found states distinguish the sequence of an open number: the code's answer is that of the definition.
 use Rattle.std.proofs.Common.{◌≡◌, ℕ, Bool, false, List, Option, Some, None, map, refl, sym, ◌∙◌, ap}
 use Rattle.std.specs.List.{list_any}
 use Rattle.thumb_instr.specs.declared.instr.Instr.{Instr}

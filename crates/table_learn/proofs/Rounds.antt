@@ -1,4 +1,4 @@
--- A window more, with the length of the text.
+-- One more window in terms of the code: the learner's invariant with the text's length and the kept tables, and the steps.
 use Rattle.std.proofs.Common.{◌≡◌, ℕ, zero, suc, ◌+◌, ◌-◌, ◌*◌, ◌<◌, ◌≤◌, true, not, List, [], ◌∷◌, ◌++◌, Option, Some, None, All, filter, length, map, slice_get, drop, refl, sym, ◌∙◌, ap, subst, arith, length-append, length-drop, inl, inr}
 use Rattle.std.proofs.Math.Seq.{drop-append_seam}
 use Rattle.std.proofs.lemmas.List.{length-map, map_push}
@@ -90,7 +90,7 @@ sided s tellers silent e f = record { canonical = f.window.canonical; over = (si
 pub all_sided : (s : Settings) (windows : List Window) (old new : List Seen) (rules : List Rule) (e : Rule) → Progress s windows old rules → IsFit s new old e → All IsSided (rules ++ e ∷ [])
 all_sided s windows old new rules e g fit = All-append IsSided rules (e ∷ []) (All-from_slice_get IsSided rules (λ i z at. sided s old old z (g.fits i z at))) (All-cons IsSided e [] (sided s new old e fit) (All-nil IsSided))
 
--- how many open numbers an entry has, and how long it is
+-- an entry has no more open numbers, and its left side no more instructions, than the settings allow
 pub few_each : (s : Settings) (tellers silent : List Seen) (e : Rule) → IsFit s tellers silent e → (length e.opens ≤ width_of s) × (length e.left ≤ s.left)
 few_each s tellers silent e f =
     let opens : 0 + length e.opens ≤ width_of s = few_opens 0 (width_of s) e.opens (omega arith) f.ascending (λ i o at. low_name s tellers silent e i o f at) in
@@ -101,7 +101,7 @@ map-drop f zero xs = refl
 map-drop f (suc n) [] = refl
 map-drop f (suc n) (x ∷ xs) = map-drop f n xs
 
--- the same of what the code has
+-- the learner after one more window
 pub after_window : (s : Settings) (windows : List Window) (w : Window) (l : Learner) (states found : List WState) (entries later : List Entry) (entry : Entry) (lines whole freed : ℕ) → HasLearnt s windows l → IsGrown (states_in l) (map seen states) → EarnedFrom s (length l.states.items) (map seen states) w
     → learnt_from (rule_of entry) ≡ w → IsFit s (map seen states) (states_in l) (rule_of entry) → found ≡ drop (length l.states.items) states → entries ≡ l.entries.items ++ entry ∷ [] → map rule_of later ≡ map (without_told s (map seen found)) (map rule_of entries)
     → rules_length (map rule_of later) + freed ≡ rules_length (map rule_of entries) → lines ≡ lines_length (rule_items (rule_of entry)) + length found * 44 → whole ≡ l.bytes + lines
@@ -125,11 +125,11 @@ grown_length xs ys g =
     let c : length (map seen ys) ≡ length (map seen xs) + length g.more = ap length g.grown ∙ length-append (map seen xs) g.more in
     omega (arith, a, b, c)
 
--- the tables serve later states too
+-- the kept tables remain valid when states are appended
 pub kept_later : (pool : List ℕ) (old new : List Seen) (t : Tables) → IsGrown old new → 0 < length old → AreKept pool old t → AreKept pool new t
 kept_later pool old new t g some kept start at = kept start (sym (get_front old g.more 0 some) ∙ ap (λ ss. slice_get ss 0) (sym g.grown) ∙ at)
 
--- the alphabet of a table of them
+-- the alphabet of a kept table
 pub table_alphabet : (k : ℕ) (pool : List ℕ) (states : List WState) (e : Extent) → 0 < length states → IsOfFirst k pool (map seen states) e → e.alphabet ≡ alphabet k pool
 table_alphabet k pool [] e some is = absurd (omega (arith, some))
 table_alphabet k pool (s ∷ ss) e some is = (is s refl).alphabet

@@ -1,4 +1,4 @@
--- A search as its loop sees it.
+-- The loop over candidates: one more of them, and the three ways in which the search goes on or ends.
 use Rattle.std.specs.Global.{Global}
 use Rattle.std.proofs.Common.{◌≡◌, ℕ, ◌+◌, ◌<◌, ◌≤◌, List, [], ◌∷◌, ◌++◌, All, filter, length, map, get_or, take, drop, sym, ◌∙◌, ap, subst, append-nil}
 use Rattle.std.specs.Prelude.{Vec}
@@ -27,7 +27,7 @@ use Rattle.cnf_gates.proofs.Text.{drop_from}
 split_at : (candidates : List ℕ) (i d : ℕ) → i < length candidates → drop i candidates ≡ get_or candidates i d ∷ drop (i + 1) candidates
 split_at candidates i d low = drop_from candidates i (get_or candidates i d) (slice_get-get_or candidates i d low)
 
--- the candidate at a place is passed
+-- the candidate at an index was tried, and the search goes on
 pub search_next : (s : Settings) (w : Window) (old states later : List Seen) (opens more : List Opened) (candidates : List ℕ) (i d : ℕ) → i < length candidates
     → ((o : List Seen) (passed rest : List ℕ) → IsSearching s w o states opens passed (get_or candidates i d ∷ rest) → IsSearching s w o later more (passed ++ get_or candidates i d ∷ []) rest)
     → IsSearching s w old states opens (take i candidates) (drop i candidates) → IsSearching s w old later more (take (i + 1) candidates) (drop (i + 1) candidates)
@@ -35,7 +35,7 @@ search_next s w old states later opens more candidates i d low tried g =
     subst (λ ps. IsSearching s w old later more ps (drop (i + 1) candidates)) (sym (take_more candidates i d low))
     (tried old (take i candidates) (drop (i + 1) candidates) (subst (λ rs. IsSearching s w old states opens (take i candidates) rs) (split_at candidates i d low) g))
 
--- the candidate at a place is the right side
+-- the candidate at an index is the right side
 pub right_found : (s : Settings) (w : Window) (e : Rule) (old states later : List Seen) (opens more : List Opened) (candidates : List ℕ) (i d : ℕ) (right : List Instr × Vec Line Global) → learnt_from e ≡ w → IsWindow s w → IsMask w.mask → i < length candidates
     → IsSearching s w old states opens (take i candidates) (drop i candidates) → AreCandidates s old w candidates → (later ≡ states) × (more ≡ opens) × IsRightSide s w (get_or candidates i d) right → e.right ≡ right.0 → e.proof ≡ map content_of right.1.items
     → e.opens ≡ filter (is_below s w.seq right.0) more → IsFit s later old e

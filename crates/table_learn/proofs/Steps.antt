@@ -1,4 +1,4 @@
--- A search for the right side of a window, candidate by candidate.
+-- The invariant of the search for a right side (`IsSearching`) is preserved candidate by candidate, and gives the entry at the end.
 use Rattle.std.proofs.Common.{◌≡◌, ℕ, zero, suc, ◌<◌, ◌≤◌, ◌⊎◌, ◌==◌, inl, inr, true, false, List, [], ◌∷◌, ◌++◌, Some, All, Contains, filter, length, map, slice_get, take, refl, sym, ◌∙◌, ap, subst, arith, eq-eqb, append_assoc, append-nil, nat_le, nat_lt}
 use Rattle.std.specs.Option.{is_some}
 use Rattle.std.specs.List.{AllWithin, insert}
@@ -43,7 +43,7 @@ push_cases (y ∷ ys) x (suc i) s h = elim (push_cases ys x i s h) [ inl k ↦ i
 
 -- ---- one more open number ----
 
--- put in where a place parts those of lower numbers from the others
+-- an open number inserted at the index that separates the lower numbers from the others
 pub put_in_place : (name : code.Open) (opens : List code.Open) (place : ℕ) → place ≤ length opens → AllWithin (λ e. nat_lt e.number name.number ≡ true) opens 0 place → AllWithin (λ e. nat_lt e.number name.number ≡ false) opens place (length opens)
     → map opened_of (insert opens place name) ≡ put_in (opened_of name) (map opened_of opens)
 put_in_place name [] zero h before after = refl
@@ -109,14 +109,14 @@ module _ (s : Settings) (w : Window) (old : List Seen) where
     earned = λ i x from at. let within : i < length old = slice_get_within old i x at in absurd (omega (arith, from, within));
   }
 
-  -- the next one is passed
+  -- the next candidate moves to those that were tried
   moved : (passed rest : List ℕ) (n : ℕ) → AreInOrder (weight_against s w) (passed ++ n ∷ rest) → AreInOrder (weight_against s w) ((passed ++ n ∷ []) ++ rest)
   moved passed rest n o = subst (AreInOrder (weight_against s w)) (sym (append_assoc passed (n ∷ []) rest)) o
 
   passed_more : (opens : List Opened) (passed : List ℕ) (n i : ℕ) (o : Opened) → Contains passed o.number × IsOpenNumber s w old o → Contains (passed ++ n ∷ []) o.number × IsOpenNumber s w old o
   passed_more opens passed n i o name = (Contains-append_left passed (n ∷ []) o.number name.0, name.1)
 
-  -- its sequence is told already
+  -- a listed state already distinguishes the candidate
   pub search_passes : (states : List Seen) (opens : List Opened) (passed rest : List ℕ) (n : ℕ) (seq : List Instr) → IsSearching s w old states opens passed (n ∷ rest) → IsBelow s w.seq w.seq n seq → told states w.seq seq w.mask ≡ true
       → IsSearching s w old states opens (passed ++ n ∷ []) rest
   search_passes states opens passed rest n seq g at t = record {
@@ -139,7 +139,7 @@ module _ (s : Settings) (w : Window) (old : List Seen) where
       let within : i < length states = slice_get_within states i y at in
       subst (λ before. TellsFirst s before y w) (sym (take-append-le i states (x ∷ []) (omega (arith, within)))) g
 
-  -- a state was found that tells it
+  -- a state was found that distinguishes it
   pub search_finds : (states : List Seen) (opens : List Opened) (passed rest : List ℕ) (n : ℕ) (seq : List Instr) (x : Seen) → IsMask w.mask → IsState x → IsSearching s w old states opens passed (n ∷ rest)
       → IsBelow s w.seq w.seq n seq → told states w.seq seq w.mask ≡ false → tells_apart w.seq seq w.mask x ≡ true → IsSearching s w old (states ++ x ∷ []) opens (passed ++ n ∷ []) rest
   search_finds states opens passed rest n seq x m v g at t f =
@@ -204,7 +204,7 @@ module _ (s : Settings) (w : Window) (old : List Seen) where
     earned = g.earned;
   }
 
-  -- what is settled so far, also among the numbers that are no candidates
+  -- what is settled so far, also for sequences that aren't candidates
   settled : (states : List Seen) (opens : List Opened) (passed rest candidates : List ℕ) → IsSearching s w old states opens passed rest → AreCandidates s old w candidates → candidates ≡ passed ++ rest
       → (q : ℕ) (r : List Instr) → (Contains rest q → ⊥) → IsBelow s w.seq w.seq q r → (is_named opens q ≡ true) ⊎ (told states w.seq r w.mask ≡ true)
   settled states opens passed rest candidates g are e q r never here = elim (are.others q r here) [
@@ -215,7 +215,7 @@ module _ (s : Settings) (w : Window) (old : List Seen) where
     | inr does ↦ inr (subst (λ ys. told ys w.seq r w.mask ≡ true) (sym g.growth.grown) (told_more old g.growth.more w.seq r w.mask does))
   ]
 
--- it is the right side
+-- the candidate is the right side
 pub search_proves : (s : Settings) (e : Rule) (old states : List Seen) (opens : List Opened) (passed rest candidates : List ℕ) (n : ℕ) → IsWindow s (learnt_from e) → IsMask e.mask → IsSearching s (learnt_from e) old states opens passed (n ∷ rest)
     → AreCandidates s old (learnt_from e) candidates → candidates ≡ passed ++ n ∷ rest → IsBelow s e.left e.left n e.right → e.opens ≡ filter (is_below s e.left e.right) opens
     → IsProvedBySolver s e → All IsLine e.proof → IsFit s states old e
@@ -245,7 +245,7 @@ search_proves s e old states opens passed rest candidates n window mask g are sp
       ascending = subst (λ zs. ascends_from 0 (numbers_of zs) ≡ true) (sym o) (ascends-filter (is_below s e.left e.right) 0 opens g.ascending);
     }
 
--- none is left
+-- no candidate is left
 pub search_ends : (s : Settings) (e : Rule) (old states : List Seen) (opens : List Opened) (passed candidates : List ℕ) → IsWindow s (learnt_from e) → IsMask e.mask → IsSearching s (learnt_from e) old states opens passed []
     → AreCandidates s old (learnt_from e) candidates → candidates ≡ passed ++ [] → e.right ≡ e.left → e.opens ≡ opens → IsProvedBySolver s e → All IsLine e.proof → IsFit s states old e
 search_ends s e old states opens passed candidates window mask g are split r o proved lines = record {

@@ -1,4 +1,4 @@
--- The tests of telling, and what they test.
+-- The tests of `Tellings` decide the propositions that they stand for.
 use Rattle.std.proofs.Common.{◌≡◌, ℕ, ◌↔◌, ◌==◌, ◌||◌, inl, inr, Bool, true, false, not, IsTrue, List, [], ◌∷◌, ◌++◌, refl, sym, ◌∙◌, ap, subst, eq-eqb, eqb-true}
 use Rattle.std.specs.List.{list_any}
 use Rattle.std.proofs.lemmas.Bool.{cases_Bool, or_cases, or_left, or_right, true≢false, or_from as or_neither}
@@ -41,7 +41,7 @@ is_differ : (v w : Values) (mask : ℕ) → IsMask mask → Differ v w mask → 
 unfolding differ
 is_differ v w mask m d = any_of (λ x. not (v x == w x)) (items_in mask) d.0 (one_has mask d.0 d.1 (m d.0 d.1)) (not_same (v d.0) (w d.0) d.2)
 
--- a test that says whether a state tells is the one
+-- a Boolean that decides whether a state tells the sides apart equals the test
 pub test_is : (r : Bool) (left right : List Instr) (mask : ℕ) (s : Seen) → IsMask mask → IsTrue r ↔ Tells (values_in s) left right mask → r ≡ tells_apart left right mask s
 test_is r left right mask s m h = elim (cases_Bool (tells_apart left right mask s)) [
   | inl does ↦ (let t : r ≡ true = h.1 (differ_is (after_all left (values_in s)) (after_all right (values_in s)) mask does) in t ∙ sym does)

@@ -1,4 +1,4 @@
--- The length of a table's text, part by part.
+-- The length of a table's text is the sum of its parts' lengths, and a table without entries isn't too long.
 use Rattle.std.proofs.Common.{◌≡◌, ℕ, ◌+◌, ◌*◌, ◌<◌, ◌≤◌, ◌^◌, inl, inr, List, [], ◌∷◌, ◌++◌, All, map, length, take, get_or, refl, sym, ◌∙◌, ap, arith, length-append, append-nil, true, false, cond, nat_le, nat_lt}
 use Rattle.std.specs.Prelude.{decimal, sum_by, codes, Option, Some, None, IfSome}
 use Rattle.std.specs.List.{flat_map, list_all}
@@ -233,7 +233,7 @@ numbered_line x word n is small =
 row_line : (f : Field) (n : ℕ) → IsWithin f n → lines_length (Number f n ∷ []) ≤ length (row f).word + 21
 row_line f n is = numbered_line (Number f n) (row f).word n refl (within_small f n is)
 
--- the numbers' lines, the pool's and that of the costs
+-- a line of the header has at most 600 bytes
 head_short : (h : Header) → IsHeader h → (line : HeaderLine) → lines_length (said h line ∷ []) ≤ 600
 head_short h is (head.Number f) = omega (arith, row_line f (number_in h f) (is.numbers f), word_short f)
 head_short h is head.Pool =
@@ -261,7 +261,7 @@ heads_short h is (line ∷ lines) =
     let both = lines-append (line_items h line) (flat_map (line_items h) lines) in
     omega (arith, both, line_short h is line, heads_short h is lines)
 
--- of a hundred lines
+-- the header has at most 60,000 bytes
 pub short_header : (s : Settings) → IsHeader s → lines_length (header_items s) ≤ 60000
 short_header s is = (let few = heads_short s is heads in omega (arith, few))
 

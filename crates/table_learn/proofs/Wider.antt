@@ -1,4 +1,4 @@
--- The alphabet of more registers has each instruction of that of fewer.
+-- The alphabet of fewer registers is contained in that of more.
 use Rattle.std.proofs.Common.{ℕ, zero, suc, ◌≤◌, inl, inr, Bool, List, [], ◌∷◌, Contains, filter, map, subst, arith}
 use Rattle.std.specs.List.{flat_map}
 use Rattle.std.proofs.lemmas.List.Elements.{All-nil, All-cons, All-head, All-tail}
@@ -10,7 +10,7 @@ use Rattle.seq_enum.specs.Alphabet.{numbers_from, those_within, grid2, grid3, ro
 use Rattle.table_learn.proofs.Elements.{none_in, from_flat, to_flat, from_map, to_map, from_filter, to_filter}
 use Rattle.clause_arena.proofs.Lists.{Contains-first, Contains-later, Contains-cases}
 
--- each element of the one list is one of the other
+-- each element of the first list is in the second
 abbrev Are : {X : Type 0} → List X → List X → Type 0
 Are xs ys = (x : _) → Contains xs x → Contains ys x
 

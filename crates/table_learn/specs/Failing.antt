@@ -1,4 +1,4 @@
--- When each error of the learner comes, and how many steps it takes at most.
+-- When each error of the learner is returned, and how many steps learning takes at most.
 use Rattle.std.specs.Prelude.{ℕ, ◌≡◌, ◌<◌, ◌≤◌, ◌+◌, ◌*◌, List, length}
 use Rattle.rule_table.specs.Views.{table_of}
 use Rattle.table_learn.specs.declared.errors.LearnError.{LearnError}
@@ -6,7 +6,7 @@ use Rattle.table_learn.specs.declared.errors.LearnError.TheVariants.{Wide, Full,
 use Rattle.table_learn.specs.Learnt.{Settings, Window, IsFull}
 use Rattle.table_audit.specs.Acceptance.{width_of}
 
--- when each error comes
+-- what each error says
 abbrev pub FailsAs : Settings → List Window → LearnError → Type 0
 FailsAs s windows (Wide count) = (count ≡ width_of s) × (5000000 < count)
 FailsAs s windows (Full t bytes) = IsFull s windows (table_of t) bytes
@@ -14,11 +14,11 @@ FailsAs s windows Memory = Unit {0}
 
 -- ---- steps ----
 
--- with so many windows and listed states: runs on states, and decisions and conflicts of the solver, which has 200,000 variables at most
+-- the most steps with so many windows and listed states: runs on states, and decisions and conflicts of the solver, which has at most 200,000 variables
 abbrev pub learn_cost : Settings → ℕ → ℕ → ℕ
 learn_cost s windows states = 4 * (windows * (width_of s * (states * s.left))) + windows * (width_of s * ((s.budget + 1) * 200001))
 
--- before an error: none where there are too many sequences, and where a text is too long no more than the table of these states takes
+-- the steps before an error: none for `Wide`, and for `Full` no more than learning the table that it carries may take
 abbrev pub SpendsAs : Settings → ℕ → ℕ → ℕ → LearnError → Type 0
 SpendsAs s windows before after (Wide count) = after ≡ before
 SpendsAs s windows before after (Full t bytes) = after ≤ before + learn_cost s windows (length (table_of t).states)

@@ -1,4 +1,4 @@
--- What becomes of a sequence below a window.
+-- What trying a sequence below a window finds.
 use Rattle.std.specs.Prelude.{ℕ, ◌≡◌, true, false, List, All, map}
 use Rattle.thumb_instr.specs.declared.instr.Instr.{Instr}
 use Rattle.window_exec.specs.State.{seen, Seen}
@@ -15,14 +15,14 @@ use Rattle.table_learn.specs.Searching.{formula_for}
 abbrev pub window_in : code.Window → Window
 window_in w = record { seq = w.left; mask = w.mask.items.bits }
 
--- a state tells a sequence from the window, or the solver's log refutes that any does, or the log spends the budget
+-- the solver's answer: a state distinguishes the sequence from the window, or a log proves that none does, or a log spends the budget
 abbrev pub IsAnswer : ℕ → code.Window → List Instr → Finding → Type 0
 IsAnswer budget w seq Told = ⊥
 IsAnswer budget w seq (State s) = (tells_apart w.left seq w.mask.items.bits (seen s) ≡ true) × IsState (seen s)
 IsAnswer budget w seq (Proof log) = IsRefutation budget (sides_formula w.left seq w.mask.items.bits w.k) (map content_of log.items) × All IsLine (map content_of log.items)
 IsAnswer budget w seq (Log log) = IsSpentSearch budget (sides_formula w.left seq w.mask.items.bits w.k) (map content_of log.items) × All IsLine (map content_of log.items)
 
--- a listed state tells it, or none does and the solver answers so
+-- the result of trying: a listed state distinguishes the sequence; or none does, and this is the solver's answer
 abbrev pub IsFinding : Settings → List Seen → Window → List Instr → Finding → Type 0
 IsFinding s states w seq Told = told states w.seq seq w.mask ≡ true
 IsFinding s states w seq (State x) = (told states w.seq seq w.mask ≡ false) × (tells_apart w.seq seq w.mask (seen x) ≡ true) × IsState (seen x)

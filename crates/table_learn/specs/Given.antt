@@ -1,4 +1,4 @@
--- What is asked of the settings and the windows that are given.
+-- What the learner requires of its settings and windows.
 use Rattle.std.specs.Prelude.{◌≢◌, ◌≤◌, List, All, length}
 use Rattle.thumb_instr.specs.declared.instr.Instr.{Instr}
 use Rattle.thumb_instr.specs.declared.items.Mask.{Mask}
@@ -13,7 +13,7 @@ use Rattle.table_learn.specs.Learnt.{Settings, Window}
 abbrev pub settings_of : code.Header → Settings
 settings_of s = header_of s
 
--- each lies in the limits of its line; a table is learnt in version 1 or 2, or by costs in version 4
+-- each setting lies within the limits of its line; a table is learnt in version 1 or 2, or with costs in version 4
 pub record AreInLimits (s : Settings) : Type 0 where
   pub header : IsHeader s
   pub version : s.version ≢ 3
@@ -21,7 +21,7 @@ pub record AreInLimits (s : Settings) : Type 0 where
 abbrev pub window_of : List Instr × Mask → Window
 window_of p = record { seq = p.0; mask = p.1.items.bits }
 
--- a window is its own canonical form, no longer than the settings say, and over the registers that it names and the pool; its mask has no other register
+-- a window is its own canonical form, keeps the settings' limits of length and registers, and has no numbers but the pool's; its mask has no other registers
 pub record IsWindow (s : Settings) (w : Window) : Type 0 where
   pub canonical : IsCanonicalSide w.seq
   pub short : length w.seq ≤ s.left

@@ -1,4 +1,4 @@
--- Settings, and the tables learnt by them.
+-- What a learnt table is: the learner's main theorem.
 use Rattle.std.specs.Prelude.{ℕ, List, ◌≡◌, ◌<◌, ◌≤◌, ◌⊎◌, Some, All, Vec, length, map, slice_get, take}
 use Rattle.thumb_instr.specs.declared.instr.Instr.{Instr}
 use Rattle.rule_table.specs.Header.{Header}
@@ -14,7 +14,7 @@ use Rattle.rule_table.specs.Text.{text_of}
 use Rattle.table_audit.specs.Shorter.{formula_of, formula_against, IsBelow, IsTold, values_in}
 use Rattle.table_audit.specs.Acceptance.{IsAccepted}
 
--- What is learnt from, and with which limits.
+-- What a table is learnt from, and with which limits.
 
 -- the settings are the header that the table gets
 abbrev pub Settings : Type 0
@@ -29,11 +29,11 @@ pub record Window : Type 0 where
 
 -- ---- entries ----
 
--- the window that an entry is of
+-- the window that an entry was learnt from
 abbrev pub learnt_from : Rule → Window
 learnt_from e = record { seq = e.left; mask = e.mask }
 
--- the right side is the left side or below it
+-- the right side is the left side, or a sequence below it
 abbrev pub KeepsOrLowers : Settings → Rule → Type 0
 KeepsOrLowers s e = (e.right ≡ e.left) ⊎ ((number : ℕ) × IsBelow s e.left e.left number e.right)
 
@@ -49,17 +49,17 @@ pub record IsSpentSearch (budget : ℕ) (formula : Cnf) (lines : List Content) :
   pub spends : VerdictOf formula budget (Spent log)
   pub says : map content_of log.items ≡ lines
 
--- the proof is the solver's, of the formula of the two sides
+-- the proof is the solver's refutation of the formula that the two sides differ
 abbrev pub IsProvedBySolver : Settings → Rule → Type 0
 IsProvedBySolver s e = IsRefutation s.budget (formula_of s e) e.proof
 
--- a number's log is the solver's, of the formula of the left side and the number's sequence
+-- the log of an open number is that of the solver's search on the formula that the left side and the number's sequence differ
 abbrev pub IsOpenBySolver : Settings → Rule → Opened → Type 0
 IsOpenBySolver s e o = (seq : List Instr) → IsBelow s e.left e.right o.number seq → IsSpentSearch s.budget (formula_against s e seq) o.log
 
 -- ---- states ----
 
--- a state tells a window from a sequence below it that no state before tells from it
+-- a state distinguishes a window from a sequence below it, and no earlier state does
 pub record TellsFirst (s : Settings) (before : List Seen) (x : Seen) (w : Window) : Type 0 where
   pub number : ℕ
   pub other : List Instr
@@ -67,21 +67,21 @@ pub record TellsFirst (s : Settings) (before : List Seen) (x : Seen) (w : Window
   pub tells : Tells (values_in x) w.seq other w.mask
   pub first : IsTold before w.seq other w.mask → ⊥
 
--- it does so for some window of the list
+-- the state does so for some window of the list
 pub record IsEarned (s : Settings) (windows : List Window) (before : List Seen) (x : Seen) : Type 0 where
   pub place : ℕ
   pub window : Window
   pub is_window : slice_get windows place ≡ Some window
   pub found : TellsFirst s before x window
 
--- each state past the seed's 64
+-- each state after the seed's 64 does so
 abbrev pub AreEarned : Settings → List Window → List Seen → Type 0
 AreEarned s windows states = (i : ℕ) (x : Seen) → 64 ≤ i → slice_get states i ≡ Some x → IsEarned s windows (take i states) x
 
 -- ---- tables ----
 
--- the table's header is the settings, it has an entry for each window in order, whose right side is the left side or below it, no state past the
--- seed's that isn't needed, and the audit accepts it; proofs and logs are the solver's
+-- the table's header is the settings; it has an entry for each window, in order, whose right side is the left side or below it; each state after the seed's
+-- distinguishes something that no earlier one does; the audit accepts the table; proofs and logs are the solver's
 pub record Learnt (s : Settings) (windows : List Window) (t : Table) : Type 0 where
   pub header : t.header ≡ s
   pub entries : map learnt_from t.rules ≡ windows
@@ -93,14 +93,14 @@ pub record Learnt (s : Settings) (windows : List Window) (t : Table) : Type 0 wh
 
 -- ---- refusals ----
 
--- how many bytes a table's text has at most
+-- the most bytes of a table's text
 abbrev pub text_limit : ℕ
 text_limit = 67108864
 
 abbrev pub text_length : Table → ℕ
 text_length t = length (text_of t)
 
--- the first windows, at least one, give a table of which a text could be read, but for its length
+-- the table of the first windows, at least one, is learnt and valid, but its text is too long
 pub record IsFull (s : Settings) (windows : List Window) (t : Table) (bytes : ℕ) : Type 0 where
   pub count : ℕ
   pub some : 1 ≤ count

@@ -11,7 +11,7 @@ use Rattle.table_audit.specs.declared.errors.AuditError.TheVariants.{Memory}
 use Rattle.table_audit.specs.Acceptance.{TableVerdict}
 use Rattle.table_learn.specs.Learnt.{Settings, Window, Learnt}
 
--- what the audit answers of the table that is read of a learnt table's text is no refusal
+-- if a table is read from a learnt table's text, the audit doesn't refuse it; only memory may run out
 abbrev pub LearntPass : Type 0
 LearntPass = (s : Settings) (windows : List Window) (t : Table) (read : code.Table) (answer : Result code.Table AuditError) → Learnt s windows t → IsTable t
     → Reads (text_of t) (Ok read) → Answers Memory answer (TableVerdict (table_of read)) → IfErr answer (λ e. e ≡ Memory)

@@ -1,4 +1,4 @@
--- What holds after some windows.
+-- The invariant of the learner after some windows, and the steps of one more.
 use Rattle.std.specs.Prelude.{ℕ, ◌≡◌, ◌≤◌, ◌+◌, ◌*◌, List, [], Some, All, length, map, slice_get, take}
 use Rattle.window_exec.specs.State.{seen, Seen}
 use Rattle.fingerprints.specs.Seeded.{seeded_states}
@@ -14,7 +14,7 @@ use Rattle.table_learn.specs.Keeping.{AreKept}
 abbrev pub table_with : Settings → List Seen → List Rule → Table
 table_with s states rules = record { header = s; states = states; rules = rules; families = [] }
 
--- the states and entries that some windows gave
+-- what holds of the states and entries that were learnt from some windows
 pub record Progress (s : Settings) (windows : List Window) (states : List Seen) (rules : List Rule) : Type 0 where
   pub long : 64 ≤ length states
   pub begins : take 64 states ≡ seeded_states s.seed
@@ -29,13 +29,13 @@ states_in l = map seen l.states.items
 abbrev pub rules_in : Learner → List Rule
 rules_in l = map rule_of l.entries.items
 
--- the learner has those, the length of their text, and tables of outcomes of the first state
+-- the learner has such states and entries, the length of their table's text, and tables of outcomes of the first state
 pub record HasLearnt (s : Settings) (windows : List Window) (l : Learner) : Type 0 where
   pub progress : Progress s windows (states_in l) (rules_in l)
   pub bytes : l.bytes ≡ text_length (table_with s (states_in l) (rules_in l))
   pub kept : AreKept s.pool (states_in l) l.tables
 
--- the steps of a window's outcomes and its search, and of the dropping behind it, where so many states are listed in the end and so many entries are there
+-- the most steps of a window: of its outcomes and its search, if so many states are listed at the end; and of the dropping after it, with so many entries
 abbrev pub search_cost : Settings → ℕ → ℕ
 search_cost s states = width_of s * (1 + states * (s.left + s.left) + (s.budget + 1) * 200001)
 

@@ -1,4 +1,4 @@
-//! Open numbers that a later state tells are dropped, with their logs.
+//! Drops open numbers, with their logs, whose sequences a state that was found later distinguishes from the window.
 ghost use Rattle.std.specs.Prelude.{◌≡◌, ◌<◌, ◌≤◌, ◌+◌, ◌*◌, All, IfOk, OnOk, filter, length, map};
 ghost use Rattle.window_exec.specs.State.{seen};
 ghost use Rattle.thumb_model.specs.Effect.{AreOver};
@@ -21,7 +21,7 @@ use step_ledger::{Ledger, Steps};
 use thumb_instr::Seq;
 use window_exec::WState;
 
-/// The open numbers whose sequences are below a right side.
+/// Those of the open numbers whose sequences are below the right side: shorter, or with costs cheaper.
 pub(crate) fn keep_below(
     alloc: Global,
     settings: &Settings,
@@ -43,7 +43,7 @@ pub(crate) fn keep_below(
     Ok(kept)
 }
 
-/// Whether one of the states tells the window from the sequence of a number, where that is below the right side.
+/// Whether the sequence of this number is below the right side and one of the states distinguishes it from the window.
 fn tells_open<L: Ledger>(
     settings: &Settings,
     found: &[WState],
@@ -65,7 +65,7 @@ fn tells_open<L: Ledger>(
     }
 }
 
-/// The entry without the open numbers that one of the states tells, and how many bytes shorter its text is.
+/// The entry without the open numbers whose sequences one of the states distinguishes from the left side, and how many bytes shorter its text is.
 fn drop_told<L: Ledger>(
     alloc: Global,
     settings: &Settings,
@@ -104,7 +104,7 @@ fn drop_told<L: Ledger>(
     Ok((entry, freed))
 }
 
-/// The entries without the open numbers that one of the found states tells, and how many bytes shorter their text is.
+/// The entries without the open numbers whose sequences one of the found states distinguishes, and how many bytes shorter their text is.
 pub(crate) fn drop_all_told<L: Ledger>(
     alloc: Global,
     settings: &Settings,

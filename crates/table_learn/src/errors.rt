@@ -1,4 +1,4 @@
-//! Why no table is learnt; `Full` carries the table that would be too long, for its size is told.
+//! Why no table is learnt. `Full` carries the table whose text is too long, so that contracts can speak of it.
 ghost use Rattle.std.specs.Prelude.{◌≡◌};
 
 use rule_table::Table;
@@ -9,13 +9,13 @@ use thiserror::Error;
 /// Why no table is learnt.
 #[derive(Drop, Error)]
 pub enum LearnError {
-    /// How many sequences a window of the most instructions and registers may have to be told from, where these are more than 5,000,000.
+    /// A window of the most instructions and registers may have to be distinguished from this many sequences, which are more than 5,000,000.
     #[error("{0} sequences are too many")]
     Wide(u64),
-    /// The table of the first windows, whose text has so many bytes, which are more than 67,108,864.
+    /// The text of this table, of the windows so far, has this many bytes, which are more than 67,108,864.
     #[error("the table's text has {bytes} bytes")]
     Full { table: Table, bytes: u64 },
-    /// The memory didn't suffice.
+    /// Memory ran out.
     #[error("out of memory")]
     Memory,
 }

@@ -1,8 +1,8 @@
-//! Tables of what each sequence leaves of the first listed state, kept from window to window: one for each count of registers, as long as the
+//! Tables of the outcome of each sequence from the first listed state, kept from window to window: one for each count of registers, as long as the
 //! windows so far needed.
 //!
-//! The first state tells nearly all sequences, and what it leaves is run on the other listed states. So a state that is listed later needs no
-//! other table.
+//! The first state distinguishes nearly all sequences from a window; the few that are left are run on the other listed states. So states that are
+//! listed later need no tables.
 ghost use Rattle.std.specs.Prelude.{◌≡◌, ◌<◌, ◌≤◌, ◌+◌, IfOk, length, map};
 ghost use Rattle.thumb_model.specs.Effect.{AreOver};
 ghost use Rattle.window_exec.specs.State.{seen};
@@ -21,15 +21,15 @@ use std::alloc::{AllocError, Global};
 use step_ledger::{Ledger, Steps};
 use window_exec::{WState, run_seq};
 
-/// The sequences below a window that are to be tried: their numbers, and the table that has the sequence of each.
+/// The sequences below a window that are to be tried: their numbers, and the table in which each is found by its number.
 #[derive(Drop)]
 pub(crate) struct ShortList {
     pub numbers: Vec<u64>,
     pub outcomes: Outcomes,
 }
 
-/// The sequences below a window that the first listed state doesn't tell from it, in the order in which they are tried, with a step for each
-/// sequence that the table of the window's registers gets. That table is taken out of the kept ones; once the sequences are tried it goes back.
+/// The sequences below a window that the first listed state doesn't distinguish from it, in the order in which they are tried. Each sequence that is
+/// added to the table of the window's registers counts as a step. The table is taken out of the kept ones; the caller puts it back afterwards.
 pub(crate) fn candidates<L: Ledger>(
     alloc: Global,
     tables: &mut Tables,

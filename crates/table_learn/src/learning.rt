@@ -1,4 +1,4 @@
-//! The learner's one call: window by window an entry is learnt, with the states that its queries found, until a table's text would be too long.
+//! The learner's one call: it learns an entry for each window in turn, and keeps the states that the solver finds, until the table's text is too long.
 ghost use Rattle.std.specs.Prelude.{◌≡◌, ◌<◌, ◌≤◌, ◌+◌, ◌-◌, ◌∷◌, ◌++◌, [], List, IfErr, IfOk, drop, length, map};
 ghost use Rattle.rule_table.specs.Table.{IsTable};
 ghost use Rattle.window_exec.specs.State.{seen};
@@ -30,11 +30,11 @@ use window_exec::{States, WState};
 /// The greatest number of bytes of a table's text.
 const TEXT_LIMIT: u64 = 67_108_864;
 
-/// How many bytes the line of a state has.
+/// How many bytes the line of a state has, with its newline.
 const STATE_LINE: u64 = 44;
 
-/// What the windows so far gave: the listed states, the entries, how many bytes their table's text has, and the tables of
-/// outcomes.
+/// What was learnt from the windows so far: the listed states, the entries, the length in bytes of their table's text, and the
+/// tables of outcomes.
 #[derive(Drop)]
 pub(crate) struct Learner {
     pub states: Vec<WState>,
@@ -50,7 +50,7 @@ fn table_of(alloc: Global, settings: Settings, states: Vec<WState>, entries: Vec
     Table::new(settings, States::new(states), entries, Vec::new(alloc))
 }
 
-/// Before the first window there are the states of the seed alone.
+/// The learner before the first window, with the states of the seed alone.
 fn begin(alloc: Global, settings: Settings) -> Result<(Settings, Learner), AllocError>
     requires limits { AreInLimits (settings_of settings) }
     ensures header { IfOk result (λ _. IsHeader (settings_of settings)) }
@@ -71,7 +71,7 @@ fn begin(alloc: Global, settings: Settings) -> Result<(Settings, Learner), Alloc
     Ok((settings, learner))
 }
 
-/// The states behind so many.
+/// The states after the first `count`.
 fn behind(states: &[WState], count: usize) -> &[WState]
     requires { count ≤ length states.now }
     ensures { result.now ≡ drop count states.now }
@@ -128,16 +128,16 @@ fn learn_window<L: Ledger>(
 
 /// Learns a table from windows, each with the items that may be live after it.
 ///
-/// For each window in turn, the sequences below it are gone through: those of the alphabet of the registers that it names and the pool that are
-/// shorter than it, or where the settings have costs those that are cheaper and no longer. They come by length or cost, then by number. One that
-/// a listed state tells from the window is passed. Of any other the solver finds a state that tells it, which is
-/// listed from then on, or a proof that none does, and then the sequence is the right side, or it spends its budget, and then the
-/// sequence is named open. Where none is left, the right side is the window itself. Open numbers that aren't those of sequences below the
-/// right side, or that a state listed later tells, are dropped.
+/// For each window in turn, the sequences below it are tried: those over its registers, a scratch register if the settings allow one, and the pool,
+/// that are shorter than it, or with costs cheaper and no longer. They are tried by length or cost, then by number. A sequence that a listed state
+/// distinguishes from the window is skipped. For any other one the solver is asked. It may find a state that distinguishes the two, which is listed
+/// from then on; or a proof that none does, and then the sequence is the right side; or it spends its budget, and then the sequence is left open.
+/// If no sequence is left, the right side is the window itself. Open numbers are dropped if their sequences aren't below the right side, or if a
+/// state listed later distinguishes them.
 ///
-/// `Wide` comes where there are more than 5,000,000 sequences that are shorter than the longest windows, or with costs no longer than these; `Full`
-/// at the first window after which the table's text has more than 67,108,864 bytes. A step is an instruction that is run on a listed state, a
-/// sequence whose outcome is worked out, or a decision or a conflict of the solver.
+/// `Wide` is returned if more than 5,000,000 sequences are shorter than the longest windows, or with costs no longer than these; `Full` at the first
+/// window after which the table's text has more than 67,108,864 bytes. A step is an instruction that is run on a listed state, a sequence whose
+/// outcome is worked out, or a decision or a conflict of the solver.
 pub fn learn<L: Ledger>(
     alloc: Global,
     windows: Vec<(Seq, Mask)>,

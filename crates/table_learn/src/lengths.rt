@@ -1,4 +1,4 @@
-//! How many bytes the lines of a table's text have, without writing the whole.
+//! The lengths in bytes of the lines of a table's text, newlines included, computed without writing the table.
 ghost use Rattle.std.specs.Prelude.{◌≡◌, ◌<◌, ◌+◌, ◌*◌, [], ◌∷◌, IfOk, map, sum_by};
 ghost use Rattle.lrat_check.specs.Text.{content_of};
 ghost use Rattle.rule_table.specs.Text as item;
@@ -13,7 +13,7 @@ use std::alloc::{AllocError, Global};
 use thumb_instr::{Instr, Mask};
 use thumb_syntax::{Parsed, write_instr};
 
-/// A sum; where it has more than 64 bits, so long a text has no room.
+/// A sum; if it overflows 64 bits, no memory could hold so long a text.
 pub(crate) fn plus(total: u64, more: u64) -> Result<u64, AllocError>
     ensures { IfOk result (λ sum. sum ≡ total + more) }
 {
@@ -23,7 +23,7 @@ pub(crate) fn plus(total: u64, more: u64) -> Result<u64, AllocError>
     }
 }
 
-/// A product; where it has more than 64 bits, so long a text has no room.
+/// A product; if it overflows 64 bits, no memory could hold so long a text.
 pub(crate) fn times(count: u64, each: u64) -> Result<u64, AllocError>
     ensures { IfOk result (λ product. product ≡ count * each) }
 {
@@ -52,7 +52,7 @@ fn log_length(lines: &[Line]) -> Result<u64, AllocError>
     Ok(total)
 }
 
-/// A line of a word of so many bytes and an instruction.
+/// A line of an instruction, with a first word of `word` bytes, its blank included.
 fn instr_length(alloc: Global, word: u64, instr: Instr) -> Result<u64, AllocError>
     requires { word < 10 }
     ensures { IfOk result (λ n. n ≡ instr_length word instr) }
@@ -61,7 +61,7 @@ fn instr_length(alloc: Global, word: u64, instr: Instr) -> Result<u64, AllocErro
     Ok(word + text.len() as u64 + 1)
 }
 
-/// Lines of a word of so many bytes and an instruction each.
+/// Lines of an instruction each, with a first word of `word` bytes.
 fn side_length(alloc: Global, word: u64, instrs: &[Instr]) -> Result<u64, AllocError>
     requires { word < 10 }
     ensures { IfOk result (λ n. n ≡ sum_by (instr_length word) instrs.now) }
@@ -73,7 +73,7 @@ fn side_length(alloc: Global, word: u64, instrs: &[Instr]) -> Result<u64, AllocE
     Ok(total)
 }
 
-/// An item of so many bytes, where the mask has it.
+/// The `size` of an item's text if the mask has it, and else 0.
 fn item_length(mask: Mask, item: u8, size: u64) -> u64
     requires few { item < 19 }
     requires small { size < 10 }

@@ -1,4 +1,4 @@
-//! The learning of a table of rules from windows: for each window the shortest sequence that leaves the same, or the cheapest, with its proof.
+//! Learns a table of rules from windows: for each window the shortest sequence with the same effect, or with costs the cheapest, and its proof.
 #![tactic(auto)]
 
 mod dropping;

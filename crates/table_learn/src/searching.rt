@@ -1,4 +1,4 @@
-//! The right side of a window: the first of the sequences below it that no state tells from it.
+//! Searches the right side of a window: the first sequence below it that is proved to have the same effect.
 ghost use Rattle.std.specs.Prelude.{◌≡◌, ◌<◌, ◌≤◌, ◌+◌, ◌*◌, true, IfOk, OnOk, length, map};
 ghost use Rattle.window_exec.specs.State.{seen};
 ghost use Rattle.seq_enum.specs.Alphabet.{ascends_from, alphabet};
@@ -31,7 +31,7 @@ struct Candidate {
     seq: Seq,
 }
 
-/// Puts an open number at its place among others.
+/// Inserts an open number into others that are in ascending order.
 fn put_in(opens: &mut Vec<Open>, name: Open) -> Result<(), AllocError>
     requires { ascends_from 0 (numbers_of (map opened_of opens.old.items)) ≡ true }
     ensures { IfOk result (λ _. map opened_of opens.new.items ≡ put_in (opened_of name) (map opened_of opens.old.items)) }
@@ -41,8 +41,8 @@ fn put_in(opens: &mut Vec<Open>, name: Open) -> Result<(), AllocError>
     Ok(())
 }
 
-/// Tries a candidate: a state that tells it is listed, and where the solver spends its budget its number is named open. The sequence with its
-/// proof, where no state tells it.
+/// Tries a candidate. If the solver finds a state that distinguishes it, the state is listed; if the solver spends its budget, the number is added to
+/// `opens`. Returns the sequence with its proof if no state distinguishes it.
 fn try_candidate<L: Ledger>(
     alloc: Global,
     settings: &Settings,
@@ -71,8 +71,8 @@ fn try_candidate<L: Ledger>(
     Ok(None)
 }
 
-/// The entry of a window, where a listed state tells each sequence below it but those of the list. The states that the solver finds are put
-/// behind the listed ones.
+/// The entry of a window. Each sequence below the window that isn't in the list has to be distinguished by a listed state. The states that the solver
+/// finds are appended to the listed ones.
 pub(crate) fn search<L: Ledger>(
     alloc: Global,
     settings: &Settings,

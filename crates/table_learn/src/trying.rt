@@ -1,4 +1,4 @@
-//! One sequence below a window: the listed states, and then the solver.
+//! Tries one sequence below a window: first on the listed states, then by the solver.
 ghost use Rattle.std.specs.Prelude.{◌≡◌, ◌<◌, ◌≤◌, ◌+◌, ◌*◌, OnOk, IfOk, length, map};
 ghost use Rattle.std.specs.List.{list_any};
 ghost use Rattle.thumb_model.specs.Effect.{AreOver};
@@ -20,20 +20,20 @@ use step_ledger::{Ledger, Steps};
 use thumb_instr::{Mask, Seq};
 use window_exec::{WState, tells};
 
-/// What becomes of a sequence below a window.
+/// What trying a sequence below a window found.
 #[derive(Drop)]
 pub(crate) enum Finding {
-    /// A listed state tells it from the window.
+    /// A listed state distinguishes it from the window.
     Told,
-    /// This state does.
+    /// This state, which the solver found, distinguishes it from the window.
     State(WState),
-    /// None does, by the proof.
+    /// No state does, as the proof shows.
     Proof(Vec<Line>),
-    /// The solver spent its budget on it.
+    /// The solver spent its budget on it, with this log.
     Log(Vec<Line>),
 }
 
-/// So many steps.
+/// Counts so many steps.
 pub(crate) fn count_steps<L: Ledger>(count: usize, steps: &mut Steps<L>)
     ensures { steps.new ≤ steps.old + count }
 {
@@ -42,8 +42,8 @@ pub(crate) fn count_steps<L: Ledger>(count: usize, steps: &mut Steps<L>)
     }
 }
 
-/// Whether some of the states tells two sequences apart under a mask. They are tried from the last to the first: those that were found for a sequence alike tell
-/// most often.
+/// Whether some of the states distinguishes two sequences under a mask. The states are tried from the last to the first, since those that were found for
+/// similar sequences succeed most often.
 pub(crate) fn is_told<L: Ledger>(
     states: &[WState],
     left: &Seq,
@@ -66,7 +66,7 @@ pub(crate) fn is_told<L: Ledger>(
     false
 }
 
-/// What the solver finds of a sequence that no listed state tells from the window.
+/// What the solver finds about a sequence that no listed state distinguishes from the window.
 fn ask<L: Ledger>(
     alloc: Global,
     window: &Window,
@@ -92,7 +92,7 @@ fn ask<L: Ledger>(
     }
 }
 
-/// What becomes of a sequence that is no longer than the window: the listed states are run on it, and where none tells it the solver is asked.
+/// Tries a sequence that is no longer than the window: it is run on the listed states, and if none distinguishes it, the solver is asked.
 pub(crate) fn try_sequence<L: Ledger>(
     alloc: Global,
     states: &[WState],

@@ -1,4 +1,4 @@
-//! A window that is learnt. The number of registers that sequences against it may name is worked out once here.
+//! A window from which an entry is learnt, with the number of registers that the sequences compared with it may name.
 ghost use Rattle.std.specs.Prelude.{◌≡◌, ◌<◌, ◌≤◌, ◌-◌, IfSome, length, min};
 ghost use Rattle.thumb_model.specs.Effect.{AreOver};
 ghost use Rattle.table_audit.specs.Shorter.{alphabet_registers, IsCanonicalSide, below_at, weight_in};
@@ -9,7 +9,7 @@ use seq_enum::weight;
 use table_audit::{below_at, named_count, with_scratch};
 use thumb_instr::{Mask, Seq};
 
-/// A window, the items that may be live after it, and how many registers the sequences have that stand against it.
+/// A window, the items that may be live after it, and how many registers the sequences compared with it may name: the first `k`.
 #[derive(Drop)]
 pub(crate) struct Window {
     pub left: Seq,
@@ -18,7 +18,7 @@ pub(crate) struct Window {
 }
 
 impl Window {
-    /// A copy of a window that is its own canonical form, with its mask, as it is learnt with the settings.
+    /// A window that is its own canonical form, copied, with its mask and the number of registers that the settings give.
     #[tactic(auto, using(table_audit::proofs::Fitting::ordered_of))]
     pub fn new(left: &Seq, mask: Mask, settings: &Settings) -> Window
         requires { IsCanonicalSide left.now }
@@ -43,7 +43,7 @@ impl Window {
         self.left.len() as u8
     }
 
-    /// How many instructions the sequences below it have at most: no more than it has, and fewer than it weighs, as each weighs something.
+    /// How many instructions the sequences below it have at most: no more than it has, and fewer than its weight, as each instruction weighs at least 1.
     pub fn longest_below(&self, settings: &Settings) -> u8
         ensures { result ≡ min (length self.now.left) (weight_in (settings_of settings.now) self.now.left - 1) }
     {
@@ -51,7 +51,7 @@ impl Window {
         u32::from(self.len()).min(weight.saturating_sub(1)) as u8
     }
 
-    /// The sequence of a number, where it is below a side of the window's entry.
+    /// The sequence of this number, if it is below `side`, a side of the window's entry.
     pub fn below_at(&self, settings: &Settings, side: &Seq, number: u64) -> Option<Seq>
         requires some { 0 < self.now.k }
         requires few { self.now.k ≤ 4 }
@@ -71,7 +71,7 @@ impl Window {
     }
 }
 
-/// The same sequence once more.
+/// A copy of a sequence.
 pub(crate) fn copied(seq: &Seq) -> Seq
     ensures { result ≡ seq.now }
 {

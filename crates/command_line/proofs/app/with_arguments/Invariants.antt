@@ -4,7 +4,7 @@ use Rattle.clap.specs.declared.builder.Command.TheViews.{out-Command as fields_o
 use Rattle.command_line.specs.App.{argument, with_all}
 use Rattle.command_line.proofs.app.with_arguments.Given as goal
 
--- what is left leads to the same
+-- adding the remaining arguments gives the same command in the end
 abbrev pub invariant-loop-id : goal.invariant-loop-id
 invariant-loop-id l =
     (with_all (argument l.are_options) (app_of l.command) (map (λ s. s.now) (drop l.id-index l.ids)) ≡ with_all (argument l.are_options) (app_of l.initial.command) (map (λ s. s.now) l.ids))

@@ -6,7 +6,7 @@ use Rattle.command_runs.specs.Plans.{AreTexts, fetchings}
 use Rattle.command_runs.proofs.StageLemmas.{gathers_more, gathers_stop, fetched_more, same_again, grows_again, counts_again}
 use Rattle.command_runs.proofs.stages.fetch_all.Goals as goal
 
--- a name by its place
+-- a name by its index
 name_at : (ns : List (Bor (List ℕ))) (i : ℕ) (d : Bor (List ℕ)) → i < length ns → slice_get (map (λ (n : Bor (List ℕ)). n.now) ns) i ≡ Some (get_or ns i d).now
 name_at ns i d l = slice_get-map (λ (n : Bor (List ℕ)). n.now) ns i ∙ ap (option_map (λ (n : Bor (List ℕ)). n.now)) (slice_get-get_or ns i d l)
 
@@ -17,7 +17,7 @@ returns-in-Err-clause-gathers g c =
     gathers_stop (map (λ (n : Bor (List ℕ)). n.now) c.args.names.now) (map (λ (t : Vec ℕ Global). t.items) c.loop-name.texts.items) c.loop-name.name-index name (g.S.Store.seen c.args.store.now) (g.S.Store.seen c.loop-name.store)
     (g.S.Store.seen c.fetch.new.store) (name_at c.args.names.now c.loop-name.name-index d c.loop-name-test.true) c.loop-name.invariant.grows c.loop-name.invariant.held c.loop-name.invariant.read c.loop-name.invariant.events c.in-Err.status c.in-Err.ensures.reads
 
--- memory was refused to hold a text that was fetched
+-- memory ran out when a fetched text was appended
 pub returns-in-Err-push-clause-gathers : goal.returns-in-Err-push-clause-gathers
 returns-in-Err-push-clause-gathers g c =
     let d : Bor (List ℕ) = record { ref_ptr = (0, 0); now = [] } in

@@ -7,7 +7,7 @@ use Rattle.command_runs.proofs.StageLemmas.{as_many_texts}
 use Rattle.command_runs.proofs.RunLemmas.{finished, short}
 use Rattle.command_runs.proofs.stages.run.Goals as goal
 
--- the texts were fetched and come to the outcome, and that was finished
+-- the texts were fetched and have the outcome, and that was finished
 pub returns-in-Ok-compute-clause-runs : goal.returns-in-Ok-compute-clause-runs
 returns-in-Ok-compute-clause-runs g c =
     let comes = subst (λ (ts : List (Vec ℕ Global)). g.C.TextCommand.comes c.args.command.now (map (λ (t : Vec ℕ Global). t.items) ts) (outcome_view c.in-Ok-compute.outcome)) c.deref.ensures.value c.in-Ok-compute.ensures in
@@ -15,7 +15,7 @@ returns-in-Ok-compute-clause-runs g c =
     (g.S.Store.seen c.args.store.now) (g.S.Store.seen c.fetch_all.new.store) (g.S.Store.seen c.finish.new.store) (g.O.Sink.sunk c.args.sink.now) (g.O.Sink.sunk c.finish.new.sink) c.finish.result
     c.in-Ok.ensures.gathers c.in-Ok.ensures.held c.in-Ok.ensures.grows comes c.finish.ensures.finishes
 
--- memory was refused where the outcome was computed
+-- memory ran out while the outcome was computed
 pub returns-in-Err-compute-clause-runs : goal.returns-in-Err-compute-clause-runs
 returns-in-Err-compute-clause-runs g c =
     short (record { names = map (λ n. n.now) c.args.names.now; comes = g.C.TextCommand.comes c.args.command.now }) (map (λ t. t.items) c.in-Ok.texts.items)

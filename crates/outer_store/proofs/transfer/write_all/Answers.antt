@@ -5,7 +5,7 @@ use Rattle.std.specs.Io.KnownBytes.{Appends}
 use Rattle.std.proofs.KnownBytes.{Appends-trans}
 use Rattle.outer_store.proofs.transfer.write_all.Goals as goal
 
--- what was written, and then the front of what was left
+-- what was written before and a prefix of the rest make a longer prefix
 longer : (xs : List ℕ) (i n : ℕ) → take i xs ++ take n (take (length xs - i) (drop i xs)) ≡ take (i + n) xs
 longer xs i n = ap (λ (ys : List ℕ). take i xs ++ take n ys) (take_rest xs i) ∙ sym (take-add i n xs)
 

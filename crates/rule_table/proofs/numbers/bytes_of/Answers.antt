@@ -4,7 +4,7 @@ use Rattle.std.proofs.lemmas.List.{get_or-map, length-map}
 use Rattle.std.proofs.lemmas.List.Elements.{All-head, All-tail}
 use Rattle.rule_table.proofs.numbers.bytes_of.Goals as goal
 
--- where a word is none of what can stand, the words are none of it
+-- if one word isn't the numeral of an allowed number, the words aren't those of a list of allowed numbers
 read_stops : {X : Type 0} (P : X → Type 0) (f : X → List ℕ) (xs : List X) (i : ℕ) (w : List ℕ) → All P xs → i < length (map f xs) → get_or (map f xs) i w ≡ w → ((x : X) → P x → f x ≡ w → ⊥) → ⊥
 read_stops P f [] i w h b e n = omega arith
 read_stops P f (x ∷ xs) zero w h b e n = n x (All-head P x xs h) e

@@ -3,7 +3,7 @@ use Rattle.std.proofs.lemmas.Bool.{cases_lt}
 use Rattle.rule_table.specs.Scratch.{is_free}
 use Rattle.rule_table.proofs.scratch.free_scratch.Goals as goal
 
--- one that isn't free more
+-- one more register that isn't free
 none_more : (free : ℕ → Bool) (n m : ℕ) → m ≡ n → free m ≡ false → ((x : ℕ) → x < n → free x ≡ false) → (x : ℕ) → x < n + 1 → free x ≡ false
 none_more free n m e here before x h = elim (cases_lt x n) [
   | inl l ↦ before x l

@@ -5,7 +5,7 @@ use Rattle.std.proofs.lemmas.List.Elements.{All-head, All-tail}
 use Rattle.lrat_check.specs.Reading.{all_now}
 use Rattle.rule_table.proofs.tails.raised_of.Goals as goal
 
--- words behind the first ones
+-- two equal lists of words have the same words after the first
 later : (v w : List ℕ) (vs ws words : List (List ℕ)) → v ∷ vs ≡ words → w ∷ ws ≡ words → vs ≡ ws
 later v w vs ws words e f = cc
 

@@ -20,7 +20,7 @@ of_kind c = record {
   window = c.requires.left;
 }
 
--- what is asked of one register or number
+-- what is asked of one operand
 abbrev Field : Role → ℕ → ℕ → List Low → Type 0
 Field role own other registers = number_under registers role own ≡ other
 
