@@ -1,4 +1,4 @@
--- The ways of a place as the code holds them.
+-- When the code's ways of a place are those of the model.
 use Rattle.std.specs.Prelude.{◌≡◌, ℕ, ◌+◌, List, [], ◌∷◌, Option, Some, None}
 use Rattle.thumb_instr.specs.Items.{one_of, has}
 use Rattle.thumb_model.specs.Flow.{Way as ModelWay, Leads, Onward, ToPlace, AnyPoint, Out}
@@ -23,13 +23,13 @@ abbrev pub way_list : Option Ways → List Way
 way_list None = []
 way_list (Some ws) = ws.first ∷ second_list ws.second
 
--- the code's way is the model's: it has the items that are read and those that are written, and leads there
+-- the code's way is the model's: it reads and writes the same items, and leads to the same place
 pub record IsWay (p : ℕ) (m : ModelWay) (w : Way) : Type 0 where
   pub uses : (x : ℕ) → has w.uses.bits x ≡ one_of x m.reads
   pub writes : (x : ℕ) → has w.writes.bits x ≡ one_of x m.writes
   pub leads : w.next ≡ next_of p m.leads
 
--- one by one, and as many
+-- the two lists have the same length, and their ways are the same one by one
 abbrev pub AreWays : ℕ → List ModelWay → List Way → Type 0
 AreWays p [] [] = Unit {0}
 AreWays p (m ∷ ms) (w ∷ ws) = IsWay p m w × AreWays p ms ws

@@ -1,4 +1,4 @@
--- Marking what is reached, place by place.
+-- The invariant of the search for reached places: what is marked, and what is still to be followed.
 use Rattle.std.specs.Prelude.{◌≡◌, ℕ, ◌+◌, ◌<◌, Bool, true, List, [], ◌∷◌, length, Some, slice_get, ◌⊎◌, if◌then◌else◌}
 use Rattle.thumb_instr.specs.Items.{one_of}
 use Rattle.thumb_model.specs.Listing.{Code, IsPoint}
@@ -31,14 +31,14 @@ IsFollowed code marks p = (k : ℕ) (w : Way) (q : ℕ) → slice_get (ways code
 abbrev pub HasAllPoints : Code → List Bool → Type 0
 HasAllPoints code marks = (q : ℕ) → IsPoint code q → q < length marks → marked marks q ≡ true
 
--- what is marked is reached, and its ways are followed, but for those that wait and these
+-- what is marked is reached, and its ways are followed, except those of places that wait or are among the others
 pub record IsReaching (code : Code) (others : List ℕ) (r : Reaching) : Type 0 where
   pub len : length r.marks.items ≡ length code.places
   pub sound : (q : ℕ) → marked r.marks.items q ≡ true → Reached code q
   pub waiting : (q : ℕ) → one_of q r.waiting.items ≡ true → marked r.marks.items q ≡ true
   pub followed : (p : ℕ) → marked r.marks.items p ≡ true → (one_of p r.waiting.items ≡ true) ⊎ (one_of p others ≡ true) ⊎ IsFollowed code r.marks.items p
 
--- more places are marked than before, and no more visits there may be
+-- what was marked still is, and as many visits may still come as before
 pub record MarksMore (r s : Reaching) : Type 0 where
   pub len : length s.marks.items ≡ length r.marks.items
   pub kept : (q : ℕ) → marked r.marks.items q ≡ true → marked s.marks.items q ≡ true

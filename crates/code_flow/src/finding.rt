@@ -36,7 +36,7 @@ fn only(way: Way) -> Ways
     }
 }
 
-/// What leaves the listing takes r0 to r11, sp and lr along.
+/// What a run that leaves the listing hands out: r0 to r11, sp and lr.
 fn left() -> Items
     ensures { (x : ℕ) → has result.bits x ≡ one_of x registers_left }
 {
@@ -50,14 +50,14 @@ fn handed() -> Items
     Items::of(&[0, 1, 2, 3, SP])
 }
 
-/// What a call out of the listing brings back: what a callee needn't keep.
+/// What a call out of the listing may change: all that a callee needn't preserve.
 pub fn answered() -> Items
     ensures { (x : ℕ) → has result.bits x ≡ one_of x answered }
 {
     Items::of(&[0, 1, 2, 3, 12, LR, N, Z, C, V])
 }
 
-/// To the next place, by the instruction's shape.
+/// The way to the next place, which reads and writes what the instruction's shape says.
 fn onward(instr: &Instr, place: u32) -> Way
     requires { place < 2 ^ 32 - 1 }
     ensures { IsWay place (way (uses_of instr.now) (writes_of instr.now) Onward) result }
@@ -70,7 +70,7 @@ fn onward(instr: &Instr, place: u32) -> Way
     }
 }
 
-/// By a direct branch that reads these: to its place, or out.
+/// The way of a direct branch that reads these items: to its target, or out of the listing where it has none there.
 fn jump(reads: Items, target: Option<u32>) -> Way
     ensures { (p : ℕ) (list : List ℕ) → ((x : ℕ) → has reads.bits x ≡ one_of x list) → IsWay p (jump_way list target) result }
 {
@@ -88,7 +88,7 @@ fn jump(reads: Items, target: Option<u32>) -> Way
     }
 }
 
-/// By `bl`: to its place, or out and back.
+/// The way of `bl`: to its target, or out of the listing and back to the next place.
 fn call(target: Option<u32>, place: u32) -> Way
     requires { place < 2 ^ 32 - 1 }
     ensures { IsWay place (call_way target) result }
@@ -107,7 +107,7 @@ fn call(target: Option<u32>, place: u32) -> Way
     }
 }
 
-/// `bx`: to a code point, or out.
+/// The ways of `bx`: to any code point, or out of the listing.
 fn branches_by(source: General) -> Ways
     ensures { (p : ℕ) (aim : Option ℕ) → AreWays p (ways_of aim (Instr.Bx source)) (way_list (Some result)) }
 {
@@ -126,7 +126,7 @@ fn branches_by(source: General) -> Ways
     }
 }
 
-/// `blx`: to a code point, or out and back.
+/// The ways of `blx`: to any code point, or out of the listing and back to the next place.
 fn calls_by(source: General, place: u32) -> Ways
     requires { place < 2 ^ 32 - 1 }
     ensures { (aim : Option ℕ) → AreWays place (ways_of aim (Instr.Blx source)) (way_list (Some result)) }
@@ -146,7 +146,7 @@ fn calls_by(source: General, place: u32) -> Ways
     }
 }
 
-/// `pop`: to the next place, or with pc to a code point or out.
+/// The ways of `pop`: to the next place, or, if pc is loaded, to any code point or out of the listing.
 fn pops(list: StackList, place: u32) -> Ways
     requires { place < 2 ^ 32 - 1 }
     ensures { (aim : Option ℕ) → AreWays place (ways_of aim (Instr.Pop list)) (way_list (Some result)) }
@@ -158,7 +158,7 @@ fn pops(list: StackList, place: u32) -> Ways
     }
 }
 
-/// `pop` with pc: to a code point, or out with what it leaves of r0 to r11, sp and lr.
+/// The ways of `pop` with pc: to any code point, or out, where r0 to r11, sp and lr are read but for those that it loads.
 fn returns_by(list: StackList) -> Ways
     requires { 256 ≤ list.number }
     ensures { (p : ℕ) (aim : Option ℕ) → AreWays p (ways_of aim (Instr.Pop list)) (way_list (Some result)) }
@@ -179,7 +179,7 @@ fn returns_by(list: StackList) -> Ways
     }
 }
 
-/// A conditional branch that reads these: to its place or out, or to the next place.
+/// The ways of a conditional branch that reads these items: to its target or out of the listing, or to the next place.
 fn branches_if(reads: Items, target: Option<u32>, place: u32) -> Ways
     requires { place < 2 ^ 32 - 1 }
     ensures { (list : List ℕ) → ((x : ℕ) → has reads.bits x ≡ one_of x list) → AreWays place (jump_way list target ∷ way list [] Onward ∷ []) (way_list (Some result)) }

@@ -2,7 +2,7 @@
 
 ghost use Rattle.code_flow.specs.Shapes.{FirstWayIsShape};
 
-/// What an instruction reads and writes by its first way is its shape, where a direct branch goes to a place of the listing.
+/// By its first way an instruction reads and writes what its shape says; a direct branch or call does where its target is in the listing.
 pub fn first_way_is_shape()
     ensures { FirstWayIsShape }
 {}

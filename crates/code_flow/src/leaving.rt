@@ -10,7 +10,7 @@ use crate::finding::ways_of;
 use crate::way::Ways;
 use listing_parser::{Listing, Mention, Place};
 
-/// The ways on from a place: what stands there, and where it may go on. None exactly at a data word or past the last place.
+/// The ways on from a place. None exactly where no instruction stands: at a data word or past the last place.
 pub fn ways(listing: &Listing, place: u32) -> Option<Ways>
     ensures some { is_some result ≡ is_op_place (slice_get (places_of listing.now) place) }
     ensures ways { AreWays place (ways (code_of listing.now) place) (way_list result) }
@@ -29,7 +29,7 @@ pub fn ways(listing: &Listing, place: u32) -> Option<Ways>
     }
 }
 
-/// The place of the code label that is mentioned.
+/// The place of the code label that is mentioned, if any.
 pub fn target(listing: &Listing, mention: Option<&Mention>) -> Option<u32>
     ensures { result ≡ aim_of (code_of listing.now) (option_map (λ r. mention_view r.now) mention.entry) }
 {

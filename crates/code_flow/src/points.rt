@@ -1,4 +1,4 @@
-//! The places of code points: those of code labels, and the places behind calls.
+//! The places of code points: those of code labels, and the places right after calls.
 ghost use Rattle.std.specs.Prelude.{◌≡◌, ℕ, ◌+◌, ◌<◌, ◌==◌, ◌&&◌, ◌||◌, length, map, slice_get, IfOk};
 ghost use Rattle.thumb_model.specs.Effect.{one_of};
 ghost use Rattle.thumb_model.specs.Listing.{code_of, is_op_place, label_places, labels_from, places_of, return_places};
@@ -9,7 +9,7 @@ ghost use Rattle.code_flow.specs.Points.{HasPoints, is_call_statement, some_name
 use listing_parser::{Listing, ListingLine, Statement, is_call};
 use std::alloc::{AllocError, Global};
 
-/// Which places are those of code points. The place behind the last one is among them.
+/// For each place, and for the one past the last, whether it is a code point.
 pub fn all_points(alloc: Global, listing: &Listing) -> Result<Vec<bool>, AllocError>
     ensures len { IfOk result (λ marks. length marks.items ≡ length (places_of listing.now) + 1) }
     ensures points { IfOk result (λ marks. HasPoints (code_of listing.now) marks.items) }
@@ -19,7 +19,7 @@ pub fn all_points(alloc: Global, listing: &Listing) -> Result<Vec<bool>, AllocEr
     Ok(marks)
 }
 
-/// Marks the code points of lines, which are the listing's: the places of code labels, and those behind calls.
+/// Marks the code points of lines, which are the listing's: the places of code labels, and those right after calls.
 fn mark_lines(marks: &mut Vec<bool>, listing: &Listing, lines: &[ListingLine])
     requires len { length marks.old.items ≡ length (places_of listing.now) + 1 }
     requires lines { map line_view lines.now ≡ listing.now }
@@ -37,7 +37,7 @@ fn mark_lines(marks: &mut Vec<bool>, listing: &Listing, lines: &[ListingLine])
     }
 }
 
-/// Marks a place, where it is to be marked.
+/// Marks a place if it is a code point.
 fn mark(marks: &mut Vec<bool>, place: usize, is_point: bool)
     requires { place < length marks.old.items }
     ensures len { length marks.new.items ≡ length marks.old.items }
@@ -48,7 +48,7 @@ fn mark(marks: &mut Vec<bool>, place: usize, is_point: bool)
     }
 }
 
-/// Whether a line, before which so many places stand, has a label and an instruction stands behind it.
+/// Whether a line has a label and an instruction stands at `place`, the first place from the line on.
 fn labels_code(line: &ListingLine, listing: &Listing, place: u32) -> bool
     ensures { result ≡ (some_name (line_view line.now).names && is_op_place (slice_get (places_of listing.now) place)) }
 {

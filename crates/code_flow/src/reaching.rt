@@ -42,7 +42,7 @@ impl Reaching {
         Ok(reaching)
     }
 
-    /// Marks a place, and lets its ways be followed, where it is one of the listing's that is not marked yet.
+    /// Marks a place, so that its ways are followed later, unless it is marked already or past the last place.
     fn reach(&mut self, place: u32) -> Result<(), AllocError>
         ensures reaching { OnOk result ((code : Code) (others : List ℕ) → IsReached code place → IsReaching code others self.old → IsReaching code others self.new) }
         ensures more { OnOk result (MarksMore self.old self.new) }
@@ -57,7 +57,7 @@ impl Reaching {
         Ok(())
     }
 
-    /// Marks the place to which a way leads that names one.
+    /// Marks the place to which a way leads, if it leads to a single one. The code points are marked already.
     fn follow(&mut self, next: Next) -> Result<(), AllocError>
         ensures reaching { OnOk result ((code : Code) (others : List ℕ) → ((q : ℕ) → GoesTo next q → IsReached code q) → IsReaching code others self.old → IsReaching code others self.new) }
         ensures more { OnOk result (MarksMore self.old self.new) }
@@ -69,7 +69,7 @@ impl Reaching {
         }
     }
 
-    /// Marks the places to which the ways of one lead.
+    /// Marks the places to which the ways of a place lead.
     fn follow_all(&mut self, listing: &Listing, place: u32) -> Result<(), AllocError>
         requires place { marked self.old.marks.items place ≡ true }
         requires reaching { IsReaching (code_of listing.now) (place ∷ []) self.old }

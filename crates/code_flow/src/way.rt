@@ -4,9 +4,9 @@ use thumb_instr::Items;
 /// Where a way leads.
 #[derive(Clone, Copy, Debug, PartialEq, Eq)]
 pub enum Next {
-    /// To this place. The place behind the last one may be its number: there nothing stands.
+    /// To this place. It may be one past the last place, where nothing stands.
     Place(u32),
-    /// To any code point: the place of a code label, or a return point, which is the place behind a `bl` or `blx`.
+    /// To any code point: the place of a code label, or a return point, which is the place right after a `bl` or `blx`.
     Points,
     /// Out of the listing.
     Out,

@@ -59,7 +59,7 @@ lines_counted write n r is ls o = count_replaced write n is ls r o
 
 -- ---- a label at an item's line ----
 
--- an item that is emitted behind so many places
+-- an item that is emitted after so many places
 IsBehind : ℕ → Item → Type 0
 IsBehind q (AsGiven p) = q ≤ p
 IsBehind q (New i home) = Unit {0}
@@ -77,7 +77,7 @@ all_behind c q zero (New i p ∷ xs) x s h k e = subst (IsBehind q) (same_Some (
 all_behind c q (suc r) (AsGiven p ∷ xs) x s h k e = less (suc p) q x (let a = s.0 in omega arith) (all_behind (suc p) (suc p) r xs x s.1 (omega arith) (omega arith) e)
 all_behind c q (suc r) (New i p ∷ xs) x s h k e = less (suc p) q x (let a = s.0 in omega arith) (all_behind p (suc p) r xs x s.1 (omega arith) (omega arith) e)
 
--- its line is among those behind a line with k places
+-- its line is among those after a line with k places
 line_behind : (p k : ℕ) (l : ListingLine) (ls : List ListingLine) (x : Item) → k ≡ length (places_in l.statement) → IsBehind (p + k) x → (is_op l.statement ≡ true → 0 < k) → item_labelled (p + k) ls x ≡ item_labelled p (l ∷ ls) x
 unfolding IsBehind
 line_behind p k l ls (New i q) e h o = refl

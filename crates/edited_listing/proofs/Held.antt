@@ -1,4 +1,4 @@
--- What is kept holds at first, and where a window gives way.
+-- The invariant of `EditedListing` holds at first, and is preserved where a window gives way.
 use Rattle.std.proofs.Common.{◌≡◌, ℕ, zero, suc, ◌+◌, ◌<◌, ◌≤◌, ◌^◌, Bool, true, false, List, [], ◌∷◌, ◌++◌, ◌&&◌, length, drop, replicate, Some, refl, sym, ap, ◌∙◌, subst, ◌⊎◌, arith, true≢false}
 use Rattle.std.specs.Prelude.{slice_get}
 use Rattle.std.proofs.lemmas.List.{length-replicate}

@@ -1,4 +1,4 @@
--- Which rows of the lines now are joined to the one before.
+-- Which rows of the lines now are joined to the row before, by the table of the given lines.
 use Rattle.std.proofs.Common.{◌≡◌, ◌≢◌, ℕ, zero, suc, ◌+◌, ◌-◌, ◌<◌, ◌≤◌, ◌==◌, ◌&&◌, Bool, true, false, List, [], ◌∷◌, ◌++◌, length, length-append, map, drop, Some, refl, sym, ap, ◌∙◌, subst, inl, inr, arith, true≢false}
 use Rattle.std.specs.Prelude.{slice_get}
 use Rattle.std.proofs.lemmas.Bool.{cases_Bool, eqb-true, eqb-false}
@@ -101,7 +101,7 @@ module _ (write : Instr → List ℕ) (at : ℕ → Bool) where
 
   -- ---- the first row ----
 
-  -- it is joined where all places up to its home are, and what stands before is
+  -- the first row is joined where all places up to its home are, and what stands before is
   First : ℕ → List ListingLine → (List Item → List ListingLine) → Type 0
   First p ls behind = (b carried before : Bool) (y : Item) (xs : List Item) → b ≡ (before && carried) → Agrees p carried ls → AreSorted p p (y ∷ xs) → WordsStand p (y ∷ xs) ls → home_of y < p + length (places_of ls) →
       joined_at (rows_from b (behind (y ∷ xs))) 0 ≡ (before && all_from at p (suc (home_of y - p)))
@@ -206,7 +206,7 @@ module _ (write : Instr → List ℕ) (at : ℕ → Bool) where
 
   -- ---- the row behind an instruction's ----
 
-  -- it is joined where all places from the one's home to the other's are
+  -- the next row is joined where all places from one home to the other are
   Next : ℕ → List ListingLine → (List Item → List ListingLine) → Type 0
   Next p ls behind = (b carried : Bool) (k : ℕ) (x y : Item) (xs : List Item) → Agrees p carried ls → AreSorted p p xs → WordsStand p xs ls → slice_get xs k ≡ Some x → slice_get xs (suc k) ≡ Some y →
       is_op_place (slice_get (places_of (behind xs)) k) ≡ true → home_of y < p + length (places_of ls) → joined_at (rows_from b (behind xs)) (suc k) ≡ all_from at (suc (home_of x)) (home_of y - home_of x)
@@ -330,7 +330,7 @@ module _ (write : Instr → List ℕ) (at : ℕ → Bool) where
         rw op (step_next l.statement p k x y xs ls (λ ys. lines_from write (p + n) ys ls) op words.0 words.1 (next_now ls (p + n)) (b && is_unlabelled l.names) (carried && is_unlabelled l.names) a e f o' h)
   ]
 
-  -- the row of an item is joined to that of the instruction before where all places from the one's home to the other's are
+  -- the row of an item is joined to that of the instruction before, where all places from one home to the other are
   pub joined_now : (ls : List ListingLine) (k : ℕ) (x y : Item) (xs : List Item) → ((j : ℕ) → joined_at (rows_from false ls) j ≡ at j) → AreSorted 0 0 xs → WordsStand 0 xs ls → slice_get xs k ≡ Some x → slice_get xs (suc k) ≡ Some y →
       is_op_place (slice_get (places_of (lines_from write 0 xs ls)) k) ≡ true → home_of y < length (places_of ls) → joined_at (rows_from false (lines_from write 0 xs ls)) (suc k) ≡ all_from at (suc (home_of x)) (home_of y - home_of x)
   unfolding Next

@@ -1,4 +1,4 @@
--- What is kept of a listing that is being changed stays so when a window gives way.
+-- `IsEdited`, the invariant on what stands at each place, is preserved when a window gives way.
 use Rattle.std.proofs.Common.{◌≡◌, ℕ, zero, suc, ◌+◌, ◌-◌, ◌<◌, ◌≤◌, ◌==◌, Bool, true, false, List, [], ◌∷◌, ◌++◌, length, map, drop, Some, refl, sym, ap, ◌∙◌, subst, ◌⊎◌, inl, inr, arith, true≢false}
 use Rattle.std.specs.Prelude.{slice_get, Option, None}
 use Rattle.std.proofs.lemmas.Bool.{cases_lt, eq-eqb, or_right}

@@ -1,4 +1,4 @@
--- What is seen of kept places.
+-- What the tables of the given places say of kept places now: their home, what is joined, labels and instructions.
 use Rattle.std.proofs.Common.{◌≡◌, ◌↔◌, ℕ, zero, suc, ◌+◌, ◌-◌, ◌<◌, ◌≤◌, ◌||◌, ◌⊎◌, Bool, true, false, List, [], ◌∷◌, length, drop, Option, Some, None, refl, sym, ap, ◌∙◌, subst, inl, inr, arith, true≢false, if◌then◌else◌}
 use Rattle.std.specs.Prelude.{slice_get, is_some}
 use Rattle.std.proofs.lemmas.Option.{same_Some, slice_get_past}
@@ -54,7 +54,7 @@ home_here : (ps : List Place) (y : Item) → has_home (slice_get ps) y ≡ true 
 home_here ps (AsGiven p) e = place_here ps p e
 home_here ps (New i p) e = place_here ps p (op_here (slice_get ps p) e)
 
--- its home is a place
+-- the home of a kept place is a place that was given
 pub home_within : (e : Edited) (p : ℕ) → IsEdited e → p < length e.stands → is_gone (marks e) p ≡ false → home_of_place e.stands p < length (places_of e.given)
 home_within e p is h k =
     let y = item_here e p h k in
@@ -98,7 +98,7 @@ joined_follows e p q is h =
 
 -- ---- what is labelled ----
 
--- the place behind the home of the kept place before, or the first place
+-- one past the home of the kept place before, or the first place
 abbrev pub IsBehind : Edited → ℕ → ℕ → Type 0
 IsBehind e from q = ((from ≡ 0) × (rank (marks e) q ≡ 0)) ⊎ ((p : ℕ) × (p < length e.stands) × (is_gone (marks e) p ≡ false) × (rank (marks e) q ≡ suc (rank (marks e) p)) × (from ≡ suc (home_of_place e.stands p)))
 
@@ -188,7 +188,7 @@ instr_stops e begins p is h k b j =
     ∙ ap (λ t. if t || joined_at (rows_from false (lines_now e)) (rank (marks e) p) then instr_in (slice_get (padded e).places p) else None) (sym b)
     ∙ sym (instr_is e begins p is h k)
 
--- where a run goes on an instruction stands
+-- where a run goes on, an instruction stands
 instr_op : (o : Option Place) (i : Instr) → instr_in o ≡ Some i → is_op_place o ≡ true
 instr_op None i e = absurd (cc)
 instr_op (Some (Op j m)) i e = refl

@@ -21,7 +21,7 @@ abbrev before : ℕ → List Item → ℕ
 before m [] = 0
 before m (x ∷ xs) = if nat_lt (home_of x) m then suc (before m xs) else before m xs
 
--- none, where all have it there or behind
+-- none, where all have it at that place or later
 before_none : (m c g : ℕ) (xs : List Item) → m ≤ c → m ≤ g → AreSorted c g xs → before m xs ≡ 0
 before_none m c g [] h k s = refl
 before_none m c g (AsGiven p ∷ xs) h k s =
@@ -35,12 +35,12 @@ before_more m x xs h = let yes : nat_lt (home_of x) m ≡ true = lt-ltb (home_of
 before_same : (m : ℕ) (x : Item) (xs : List Item) → m ≤ home_of x → before m (x ∷ xs) ≡ before m xs
 before_same m x xs h = let no : nat_lt (home_of x) m ≡ false = le-ltb (home_of x) m h in rw no refl
 
--- behind an item whose home is there or behind, there is none
+-- after an item whose home is at that place or later, there is none
 none_behind : (m c g : ℕ) (x : Item) (xs : List Item) → m ≤ home_of x → AreSorted c g (x ∷ xs) → before m xs ≡ 0
 none_behind m c g (AsGiven p) xs h s = before_none m (suc p) (suc p) xs (omega arith) (omega arith) s.1
 none_behind m c g (New i p) xs h s = before_none m p (suc p) xs (omega arith) (omega arith) s.1
 
--- at most the items up to one, where its home is there or behind, and more where it isn't
+-- one item more raises the count by one at most, and by one where its home is before the place
 few_step : (m c g r : ℕ) (x : Item) (xs : List Item) → AreSorted c g (x ∷ xs) → before m xs ≤ r → before m (x ∷ xs) ≤ suc r
 few_step m c g r x xs s h = elim (cases_lt (home_of x) m) [
   | inl l ↦ (let more = before_more m x xs l in omega arith)
@@ -99,7 +99,7 @@ least_home : (p : ℕ) (xs : List Item) → AreSorted p p xs → before p xs ≡
 least_home p xs s = before_none p p p xs (omega arith) (omega arith) s
 
 module _ (write : Instr → List ℕ) (f : ℕ → ℕ) where
-  -- each label stands behind as many places as items have their home before it
+  -- each label stands after as many places as items have their home before it
   Stands : ℕ → List ListingLine → (List Item → List ListingLine) → Type 0
   Stands p ls behind = (c : ℕ) (xs : List Item) → AreSorted p p xs → WordsStand p xs ls → ((m : ℕ) → p ≤ m → f m ≡ c + before m xs) → labels_from c (behind xs) ≡ map (at f) (labels_from p ls)
 
@@ -176,11 +176,11 @@ labels_stand write ls xs s v = stands_now write (λ m. before m xs) ls 0 0 xs s 
 
 -- ---- the labels right before an item ----
 
--- the place behind the item before the item of a number, or the first place
+-- one past the home of the item before the r-th, or the first place
 abbrev pub IsFrom : ℕ → ℕ → List Item → Type 0
 IsFrom from r xs = ((from ≡ 0) × (r ≡ 0)) ⊎ ((k : ℕ) × (x : Item) × (r ≡ suc k) × (slice_get xs k ≡ Some x) × (from ≡ suc (home_of x)))
 
--- so many items are before the places from there up to the item's home
+-- r items have their home before each place from there up to the r-th item's home
 count_within : (m r from : ℕ) (xs : List Item) (y : Item) → AreSorted 0 0 xs → slice_get xs r ≡ Some y → IsFrom from r xs → before m xs ≡ r → (from ≤ m) × (m ≤ home_of y)
 count_within m r from xs y s e (inl h) b = (omega (arith, h.0), up)
   where
@@ -201,7 +201,7 @@ within_count m r from xs y s e (inr h) l g =
     let many = before_many m 0 0 h.0 xs h.1 s h.3 (omega (arith, h.4)) in
     omega (arith, h.2)
 
--- a label stands right before the item in the lines now where one does between in the given lines
+-- a label stands right before the r-th item in the lines now, where one stands from there up to its home in the given lines
 pub labels_between : (write : Instr → List ℕ) (ls : List ListingLine) (xs : List Item) (r from : ℕ) (y : Item) → AreSorted 0 0 xs → WordsStand 0 xs ls → slice_get xs r ≡ Some y → IsFrom from r xs →
     HasLabelIn (labels_from 0 ls) from (home_of y) ↔ HasLabelAt (labels_from 0 (lines_from write 0 xs ls)) r
 labels_between write ls xs r from y s v e i = (forth, back)

@@ -1,4 +1,4 @@
--- What the tables of the places that were given tell.
+-- What the tables of the given places mean: breaks between instructions, and labels.
 use Rattle.std.proofs.Common.{◌≡◌, ◌↔◌, ℕ, zero, suc, ◌+◌, ◌-◌, ◌<◌, ◌≤◌, ◌&&◌, ◌||◌, Bool, true, false, List, [], ◌∷◌, ◌++◌, length, length-append, replicate, Some, refl, sym, ap, ◌∙◌, inl, inr, arith, true≢false, if◌then◌else◌}
 use Rattle.std.specs.Prelude.{slice_get, nat_le, nat_lt}
 use Rattle.std.proofs.lemmas.Bool.{cases_lt, lt-ltb, le-ltb, le-leb, lt-leb, leb-true}
@@ -32,7 +32,7 @@ break_behind : (t at all : Bool) (p last c : ℕ) → c ≤ p → t ≡ at → (
 break_behind true at all p last c h t = ap (λ u. nat_le last c && (u && all)) t
 break_behind false at all p last c h t = ap (λ u. u && all) (lt-leb (suc p) c (omega arith)) ∙ off_here (nat_le last c) all ∙ ap (λ u. nat_le last c && (u && all)) t
 
--- the last break up to the place behind j others, where all that is asked for is behind
+-- by the last break up to the place after j others, where all places in question are among these
 breaks_in : (rs : List WindowPlace) (j p last b c : ℕ) (at : ℕ → Bool) → c ≤ p → slice_get (last_breaks p last rs) j ≡ Some b → ((k : ℕ) → joined_at rs k ≡ at (p + k)) → nat_le b c ≡ (nat_le last c && all_from at p (suc j))
 breaks_in [] j p last b c at h e a = absurd (cc)
 breaks_in (r ∷ rs) zero p last b c at h e a = break_here r.is_joined (at p) p last b c h (a 0 ∙ ap at (let z : p + 0 ≡ p = omega arith in z)) (same_Some _ b e)
@@ -40,7 +40,7 @@ breaks_in (r ∷ rs) (suc j) p last b c at h e a =
     breaks_in rs j (suc p) (if r.is_joined then last else suc p) b c at (omega arith) e (λ k. a (suc k) ∙ ap at (let z : p + suc k ≡ suc p + k = omega arith in z))
     ∙ break_behind r.is_joined (at p) (all_from at (suc p) (suc j)) p last c h (a 0 ∙ ap at (let z : p + 0 ≡ p = omega arith in z))
 
--- and where some places are before what is asked for
+-- and where some of these come before the places in question
 breaks_past : (rs : List WindowPlace) (j d p last b : ℕ) (at : ℕ → Bool) → last ≤ p → d ≤ suc j → slice_get (last_breaks p last rs) j ≡ Some b → ((k : ℕ) → joined_at rs k ≡ at (p + k)) → nat_le b (p + d) ≡ all_from at (p + d) (suc j - d)
 breaks_past rs j zero p last b at h k e a =
     breaks_in rs j p last b (p + 0) at (omega arith) e a

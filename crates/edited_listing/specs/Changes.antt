@@ -29,7 +29,7 @@ giving (suc n) is home (standing.Gone ∷ ss) = standing.Gone ∷ giving (suc n)
 giving (suc n) [] home (s ∷ ss) = standing.Gone ∷ giving n [] home ss
 giving (suc n) (i ∷ is) home (s ∷ ss) = standing.New i home ∷ giving n is home ss
 
--- the first n kept places from place p on do
+-- the same of the first n kept places from place p on
 abbrev pub giving_from : ℕ → ℕ → List Instr → ℕ → List Standing → List Standing
 giving_from p n is home [] = []
 giving_from zero n is home (s ∷ ss) = giving n is home (s ∷ ss)

@@ -12,12 +12,12 @@ abbrev pub some_name : List Name → Bool
 some_name [] = false
 some_name (n ∷ ns) = true
 
--- whether the line of the instruction behind r places has a label
+-- whether the line of the instruction after r places has a label
 abbrev pub is_labelled : ℕ → List ListingLine → Bool
 is_labelled r [] = false
 is_labelled r (l ∷ ls) = if is_op l.statement && (r == 0) then some_name l.names else is_labelled (r - length (places_in l.statement)) ls
 
--- of each place, whether its line is an instruction's with a label
+-- for each place, whether its line is an instruction's with a label
 abbrev pub labels_in : Bool → Statement → List Bool
 labels_in some Nothing = []
 labels_in some (Instruction i mention) = some ∷ []

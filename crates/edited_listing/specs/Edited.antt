@@ -51,7 +51,7 @@ instr_in None = None
 instr_in (Some (Op i m)) = window_instr i m
 instr_in (Some (Word v)) = None
 
--- a standing for each place: the kept ones are in the order of their homes, where instructions were given, and no data word gives way
+-- one standing for each place; kept places are in the order of their homes, a new instruction's home held an instruction, and no data word gives way
 pub record IsEdited (e : Edited) : Type 0 where
   pub as_many : length e.stands ≡ length (places_of e.given)
   pub sorted : AreSorted 0 0 (items_from 0 e.stands)

@@ -11,7 +11,7 @@ is_given_at p [] = false
 is_given_at p (AsGiven q ∷ xs) = q == p
 is_given_at p (New i home ∷ xs) = false
 
--- the lines of the next items that are new and have their home at p, and then the lines of the items behind them
+-- the lines of the next items that are new and have their home at p, and then the lines of the items after them
 abbrev pub emit_at : (Instr → List ℕ) → ℕ → List Item → (List Item → List ListingLine) → List ListingLine
 emit_at write p [] behind = behind []
 emit_at write p (AsGiven q ∷ xs) behind = behind (AsGiven q ∷ xs)

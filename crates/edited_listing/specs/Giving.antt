@@ -16,7 +16,7 @@ are_free n [] = true
 are_free zero (l ∷ ls) = true
 are_free (suc n) (l ∷ ls) = if is_op l.statement then is_unlabelled l.names && are_free n ls else (length (places_in l.statement) == 0) && are_free (suc n) ls
 
--- behind r places of lines stands an instruction, and behind it n others without labels
+-- after r places of lines comes an instruction, and after it n others without labels
 abbrev pub are_free_from : ℕ → ℕ → List ListingLine → Bool
 are_free_from r n [] = true
 are_free_from r n (l ∷ ls) =
@@ -31,7 +31,7 @@ is_word p = false
 abbrev pub WordsStand : ℕ → List Item → List ListingLine → Type 0
 WordsStand p xs ls = (k : ℕ) → is_word (slice_get (places_of ls) k) ≡ true → has_given (p + k) xs ≡ true
 
--- what gives way among the items does so in the lines
+-- where items give way, the same instructions are replaced in the lines
 abbrev pub LinesGiveWay : Type 0
 LinesGiveWay =
     (write : Instr → List ℕ) (r n p : ℕ) (is : List Instr) (xs : List Item) (ls : List ListingLine) → AreSorted p p xs → WordsStand p xs ls → are_free_from r n (lines_from write p xs ls) ≡ true →

@@ -1,4 +1,4 @@
--- Lines that are gone through where they stand.
+-- What the code's lines in place stand for: those that are emitted, and those that are left.
 use Rattle.std.specs.Prelude.{◌≤◌, ◌++◌, drop, length, map, take}
 use Rattle.listing_parser.specs.Views.{line_view}
 use Rattle.edited_listing.specs.Progress.{Progress}

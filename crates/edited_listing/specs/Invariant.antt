@@ -1,4 +1,4 @@
--- What is kept beside the listing that was given.
+-- The invariant of `EditedListing`: what its fields say of the given lines.
 use Rattle.std.specs.Prelude.{◌≡◌, ℕ, ◌<◌, ◌^◌, List, Bool, false, length}
 use Rattle.thumb_model.specs.Listing.{ListingLine}
 use Rattle.listing_parser.specs.Targets.{DefineOnce}
@@ -8,7 +8,7 @@ use Rattle.edited_listing.specs.Changes.{marks_of}
 use Rattle.edited_listing.specs.Counting.{op_labels}
 use Rattle.edited_listing.specs.Edited.{IsEdited, lines_now}
 
--- what stands at the places of the given lines, which of them are gone, whether anything changed, on which instructions' lines labels stand, and how many lines there are; where the given lines define no name twice, the lines now don't either
+-- the fields agree with what stands at the places of the given lines; where these define no name twice, the lines now don't either
 pub record Holds (given : List ListingLine) (stands : List Standing) (gone : List Bool) (changed : Bool) (labelled : List Bool) (lines : ℕ) : Type 0 where
   pub edited : IsEdited (record { given = given; stands = stands })
   pub once : DefineOnce given → DefineOnce (lines_now (record { given = given; stands = stands }))

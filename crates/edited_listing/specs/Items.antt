@@ -1,10 +1,10 @@
--- What stands at the places of a listing that is being changed.
+-- The kept places of a listing that is being changed, in order, each with the place on whose line it is emitted.
 use Rattle.std.specs.Prelude.{ℕ, zero, suc, ◌≤◌, ◌==◌, ◌||◌, Bool, false, List, [], ◌∷◌, ◌++◌, map, drop}
 use Rattle.thumb_instr.specs.declared.instr.Instr.{Instr}
 use Rattle.edited_listing.specs.declared.standing.Standing.{Standing}
 use Rattle.edited_listing.specs.declared.standing.Standing.TheVariants as standing
 
--- a place that is kept: one that stands as it was given, or a new instruction and the place at whose line it is emitted
+-- a place that is kept: one that stands as it was given, or a new instruction and the place on whose line it is emitted
 pub data Item : Type 0 where
   AsGiven : (place : ℕ) → Item
   New : (i : Instr) (home : ℕ) → Item
@@ -26,7 +26,7 @@ has_given p [] = false
 has_given p (AsGiven q ∷ xs) = (q == p) || has_given p xs
 has_given p (New i home ∷ xs) = has_given p xs
 
--- homes ascend, from one on where an item is new and from another where it is as given; nothing else is emitted at the line of a place that is as given
+-- homes ascend, from `new` on for a new item, from `given` on for one as given; nothing else is emitted on the line of a place that is as given
 abbrev pub AreSorted : ℕ → ℕ → List Item → Type 0
 AreSorted new given [] = Unit {0}
 AreSorted new given (AsGiven p ∷ xs) = (given ≤ p) × AreSorted (suc p) (suc p) xs

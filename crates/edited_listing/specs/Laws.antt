@@ -35,13 +35,13 @@ pub record IsWindowAt (e : Edited) (p count : ℕ) (new : List Instr) (s : Stand
   pub window : (k : ℕ) → k < count → is_op_place (slice_get (places_of (lines_now e)) (rank (marks e) p + k)) ≡ true
   pub unlabelled : (k : ℕ) (l : Label) → slice_get (labels_from 0 (lines_now e)) k ≡ Some l → (l.place ≤ rank (marks e) p) ⊎ (rank (marks e) p + count ≤ l.place)
 
--- a window that gives way does so in the lines now
+-- where a window gives way, it is replaced in the lines now
 abbrev pub EditsReplaceLines : Type 0
 EditsReplaceLines =
     (e : Edited) (p count : ℕ) (new : List Instr) (s : Standing) → IsEdited e → IsWindowAt e p count new s →
     IsEdited (after_giving e p count new s) × (lines_now (after_giving e p count new s) ≡ replaced_lines own_line (rank (marks e) p) count new (lines_now e))
 
--- and in the padded code
+-- and its places are exchanged in the padded code
 abbrev pub EditsExchangePlaces : Type 0
 EditsExchangePlaces =
     (e : Edited) (p count : ℕ) (new : List Instr) (s : Standing) (ps : List ℕ) → length ps ≡ count → AreRanked (marks e) (rank (marks e) p) ps →
@@ -51,13 +51,14 @@ EditsExchangePlaces =
 abbrev pub PlacesAreKept : Type 0
 PlacesAreKept = (e : Edited) → IsEdited e → places_of (lines_now e) ≡ kept (marks e) (padded e).places
 
--- how many lines there are when a window gives way: one more where the first instruction's line, as it was given, has labels
+-- how many lines there are after a window gave way: one more where the first instruction's line, as it was given, has labels
 abbrev pub EditsCountLines : Type 0
 EditsCountLines =
     (e : Edited) (p count : ℕ) (new : List Instr) (s : Standing) → IsEdited e → IsWindowAt e p count new s →
     count + length (lines_now (after_giving e p count new s)) ≡ length (lines_now e) + length new + one_if (item_labelled 0 e.given (item_of p s))
 
--- the lines now are read again, joined, where those before a window gave way were: the new instructions name no label, each label of code is still one, and there are no more lines than a listing may have
+-- after a window gave way the text of the lines is read as these lines, if it was before, the new instructions name no label, each code label is still one,
+-- and there are no more lines than a listing may have
 abbrev pub EditsReadAgain : Type 0
 EditsReadAgain =
     (bytes : List ℕ) (e : Edited) (p count : ℕ) (new : List Instr) (s : Standing) → IsEdited e → IsWindowAt e p count new s → IsListing bytes (lines_now e) → list_all names_no_label new ≡ true →

@@ -6,7 +6,7 @@ use Rattle.edited_listing.specs.declared.standing.Standing.{Standing}
 use Rattle.edited_listing.specs.Changes.{home_at}
 use Rattle.edited_listing.specs.Edited.{Edited, lines_now, marks}
 
--- the place at whose line is emitted what stands at place p
+-- the place on whose line what stands at place p is emitted
 abbrev pub home_in : ℕ → Option Standing → ℕ
 home_in p None = p
 home_in p (Some s) = home_at p s
@@ -14,7 +14,7 @@ home_in p (Some s) = home_at p s
 abbrev pub home_of_place : List Standing → ℕ → ℕ
 home_of_place stands p = home_in p (slice_get stands p)
 
--- the kept place q is the next one behind p, where an instruction stands
+-- q is the next kept place after the kept place p, and an instruction stands at p
 pub record IsNextKept (e : Edited) (p q : ℕ) : Type 0 where
   pub p_within : p < length e.stands
   pub p_kept : is_gone (marks e) p ≡ false

@@ -10,7 +10,7 @@ abbrev pub item_place : (ℕ → Option Place) → Item → Option Place
 item_place at (AsGiven p) = at p
 item_place at (New i home) = Some (plain i)
 
--- a new item's home was given with an instruction, and an item as given was given
+-- a new item's home was given as an instruction, and an item that is as given is a place that was given
 abbrev pub has_home : (ℕ → Option Place) → Item → Bool
 has_home at (AsGiven p) = is_some (at p)
 has_home at (New i home) = is_op_place (at home)

@@ -1,8 +1,8 @@
--- Lines that are gone through.
+-- How far a pass over lines has come.
 use Rattle.std.specs.Prelude.{List}
 use Rattle.thumb_model.specs.Listing.{ListingLine}
 
--- those that are emitted, and those that are left
+-- the lines that are emitted, and those that are left
 pub record Progress : Type 0 where
   pub emitted : List ListingLine
   pub left : List ListingLine

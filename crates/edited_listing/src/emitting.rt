@@ -1,4 +1,4 @@
-//! The lines of a changed listing, in one pass over the lines that were given: those that stay do so in place, and go down where lines before them are gone.
+//! The lines of a changed listing, made in one pass over the given lines. Lines that stay aren't copied: they only move down where lines before them are gone.
 ghost use Rattle.std.specs.Prelude.{◌≡◌, ◌+◌, ◌<◌, ◌≤◌, ◌^◌, ◌++◌, ◌||◌, [], List, length, map, not, IfOk, OnOk};
 ghost use Rattle.thumb_model.specs.Listing.{ListingLine as LineModel, places_of};
 ghost use Rattle.thumb_model.specs.Replaced.{is_op};
@@ -16,7 +16,7 @@ use listing_parser::{ListingLine, Memory, add_labels, add_new, is_op};
 use std::alloc::Global;
 use thumb_instr::Instr;
 
-/// The next instruction from a place on, where it is new and has its home at another place.
+/// The instruction at the next kept place from `from` on, where it is new and has this home.
 fn next_new(stands: &[Standing], kept: &mut KeptPlaces, from: u32, home: u32) -> Option<Instr>
     requires marks { kept.old ≡ marks_of stands.now }
     requires within { from ≤ length stands.now }
@@ -30,7 +30,7 @@ fn next_new(stands: &[Standing], kept: &mut KeptPlaces, from: u32, home: u32) ->
     }
 }
 
-/// Whether the next kept place from one on is a place that stands as it was given.
+/// Whether the next kept place from `from` on is `place`, and stands as it was given.
 fn is_given_at(stands: &[Standing], kept: &mut KeptPlaces, from: u32, place: u32) -> bool
     requires marks { kept.old ≡ marks_of stands.now }
     requires within { from ≤ length stands.now }
@@ -44,7 +44,7 @@ fn is_given_at(stands: &[Standing], kept: &mut KeptPlaces, from: u32, place: u32
     }
 }
 
-/// Whether a line stays as it is: it has no instruction, or the next kept place from one on is its own, which stands as it was given.
+/// Whether a line stays as it is: it has no instruction, or the next kept place from `from` on is the line's own and stands as it was given.
 fn stays(
     line: &ListingLine,
     place: u32,
@@ -64,7 +64,7 @@ fn stays(
     }
 }
 
-/// Adds the lines of the next new instructions with their home at a place. The place behind them.
+/// Adds the lines of the next new instructions that have this home. Answers the place after them.
 fn emit_new(
     alloc: Global,
     out: &mut Vec<ListingLine>,
@@ -95,7 +95,7 @@ struct Passed {
     from: u32,
 }
 
-/// Emits the next line. How far lines are emitted then.
+/// Emits what the next line has become. Answers how far lines are emitted then.
 fn emit_line(
     alloc: Global,
     lines: &mut InPlace,
@@ -132,7 +132,7 @@ fn emit_line(
     Ok(Passed { place: next, from })
 }
 
-/// The lines now.
+/// The lines of the changed listing.
 pub(crate) fn emit(
     alloc: Global,
     given: Vec<ListingLine>,

@@ -10,7 +10,7 @@ use window_runs::rows::{WindowPlace, rows};
 
 /// A listing as it was given. Contracts see its lines.
 ///
-/// `rows` has its places as windows see them. `breaks` tells of each place one more than the last place up to it that isn't joined to the place before,
+/// `rows` has its places as windows see them. `breaks` has for each place one more than the last place up to it that isn't joined to the place before,
 /// `labels` one more than the place of the last label up to it; 0 is none.
 #[derive(Drop)]
 pub(crate) struct GivenListing {
@@ -33,7 +33,7 @@ impl Model for GivenListing {
     ghost invariant = { IsKnown };
 }
 
-/// Of each place of rows, one more than the last place up to it that isn't joined to the place before; 0 where there is none.
+/// For each place of rows, one more than the last place up to it that isn't joined to the place before; 0 where there is none.
 fn last_breaks(alloc: Global, rows: &[WindowPlace]) -> Result<Vec<usize>, AllocError>
     ensures { IfOk result (λ breaks. breaks.items ≡ last_breaks 0 0 rows.now) }
 {
@@ -55,7 +55,7 @@ impl GivenListing {
     ghost use Rattle.edited_listing.specs.Edited.{instr_in};
     ghost use Rattle.edited_listing.specs.Known.{all_from, joined_at, last_labels, HasLabelIn};
 
-    /// What is known of a listing. `labels` has of each place one more than the place of the last label up to it.
+    /// The given listing with its tables. `labels` has for each place one more than the place of the last label up to it.
     pub(crate) fn new(
         alloc: Global,
         listing: Listing,
@@ -105,7 +105,7 @@ impl GivenListing {
         self.breaks[to as usize] <= from as usize + 1
     }
 
-    /// Whether a label stands at one of the places from one to another.
+    /// Whether a label stands at one of the places from `from` up to and including `to`.
     pub(crate) fn has_label(&self, from: u32, to: u32) -> bool
         requires { to < length (places_of self.now) }
         ensures { (result ≡ true) ↔ HasLabelIn (labels_from 0 self.now) from to }

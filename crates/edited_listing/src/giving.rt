@@ -8,7 +8,7 @@ use crate::standing::Standing;
 use kept_places::KeptPlaces;
 use thumb_instr::Instr;
 
-/// What stands at the next place that gives way, where so many did before it.
+/// What comes to stand at the next place that gives way, where `before` places did so already.
 fn next_standing(new: &[Instr], before: u32, home: u32) -> Standing
     ensures { result ≡ next_standing (drop before new.now) home }
 {
@@ -21,7 +21,7 @@ fn next_standing(new: &[Instr], before: u32, home: u32) -> Standing
     }
 }
 
-/// Notes that a place is gone, where it is.
+/// Removes a place from the kept ones, if nothing stands there now.
 fn note(kept: &mut KeptPlaces, place: u32, standing: &Standing)
     requires within { place < length kept.old }
     requires kept { is_gone kept.old place ≡ false }
@@ -34,7 +34,7 @@ fn note(kept: &mut KeptPlaces, place: u32, standing: &Standing)
     }
 }
 
-/// Puts what stands at the next kept place from one on. That place.
+/// Sets what stands at the next kept place from `from` on. Answers that place.
 fn put(stands: &mut Vec<Standing>, kept: &mut KeptPlaces, from: u32, standing: Standing) -> u32
     requires marks { kept.old ≡ marks_of stands.old.items }
     requires some { 1 ≤ length (items_from 0 (drop from stands.old.items)) }
@@ -49,7 +49,7 @@ fn put(stands: &mut Vec<Standing>, kept: &mut KeptPlaces, from: u32, standing: S
     place
 }
 
-/// Lets the first kept places from one on give way.
+/// Lets the first `count` kept places from `place` on give way to new instructions with this home.
 pub(crate) fn give_way(
     stands: &mut Vec<Standing>,
     kept: &mut KeptPlaces,

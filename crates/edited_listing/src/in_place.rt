@@ -9,8 +9,8 @@ use std::mem::replace;
 
 /// Lines of which the first are emitted, and the others are left. Contracts see both lists.
 ///
-/// In `lines` the first `done` are emitted ones, those from `next` on are left, and what stands between is no more. The emitted lines behind the first are
-/// `waiting` until there is room for them there.
+/// Of `lines` the first `done` are emitted, those from `next` on are left, and those between are free. Lines that are emitted after the first `done` are in
+/// `waiting` until there is room for all of them.
 #[derive(Drop)]
 pub(crate) struct InPlace {
     lines: Vec<ListingLine>,
@@ -31,7 +31,7 @@ impl Model for InPlace {
     ghost invariant = { IsInPlace };
 }
 
-/// Moves a line down over another, if it stands behind it.
+/// Moves the line at `from` down to `to`, unless both are one.
 fn move_down(lines: &mut Vec<ListingLine>, to: usize, from: usize)
     requires order { to ≤ from }
     requires within { from < length lines.old.items }
@@ -62,7 +62,7 @@ fn take_out(alloc: Global, lines: &mut Vec<ListingLine>, at: usize) -> ListingLi
     replace(&mut lines[at], nothing)
 }
 
-/// Puts lines over those from one on.
+/// Puts lines over those from `from` on.
 fn put(lines: &mut Vec<ListingLine>, from: usize, new: &mut Vec<ListingLine>)
     requires { from + length new.old.items ≤ length lines.old.items }
     ensures lines { lines.new.items ≡ take from lines.old.items ++ (new.old.items ++ drop (from + length new.old.items) lines.old.items) }
@@ -79,7 +79,7 @@ impl InPlace {
     ghost use Rattle.std.specs.Prelude.{◌≡◌, ◌<◌, ◌++◌, ◌∷◌, ◌==◌, [], drop, length, map, take, IfOk, OnOk};
     ghost use Rattle.listing_parser.specs.Views.{line_view};
 
-    /// Lines that all are left.
+    /// Lines of which none is emitted yet.
     pub(crate) fn new(alloc: Global, lines: Vec<ListingLine>) -> Self
         ensures { result ≡ record { emitted = []; left = map line_view lines.items } }
     {
@@ -106,7 +106,7 @@ impl InPlace {
         &self.lines[self.next]
     }
 
-    /// Lets the emitted lines that wait stand behind the first, if there is room for all of them.
+    /// Puts the waiting lines behind the first `done`, if there is room for all of them.
     fn settle(&mut self)
         ensures { self.new ≡ self.old }
     {

@@ -16,7 +16,7 @@ pub(crate) struct Labels {
     pub(crate) labelled: Vec<bool>,
 }
 
-/// What is known of labels at each place of lines. `places` is how many are made room for.
+/// What is known of labels at each place of lines. Room is reserved for `places` places.
 pub(crate) fn labels_of(
     alloc: Global,
     lines: &[ListingLine],
@@ -37,7 +37,7 @@ pub(crate) fn labels_of(
     Ok(Labels { lasts, labelled })
 }
 
-/// One more than a place, if a label stands there; or else what it was of the last one before.
+/// One more than `place` if a label stands there, or else `before`.
 fn last_with(is_labelled: bool, place: usize, before: usize) -> usize
     requires { place < 2 ^ 63 }
     ensures { result ≡ (if is_labelled then suc place else before) }
@@ -55,7 +55,7 @@ fn add_times(numbers: &mut Vec<usize>, number: usize, times: usize) -> Result<()
     Ok(())
 }
 
-/// Adds the places of a statement.
+/// Adds for each place of a statement whether a label stands on its instruction's line.
 fn add_places(
     labels: &mut Vec<bool>,
     statement: &Statement,
@@ -73,7 +73,7 @@ fn add_places(
     }
 }
 
-/// Adds data words.
+/// Adds data words, which have no instruction's line.
 fn add_words(labels: &mut Vec<bool>, values: &[Value]) -> Result<(), AllocError>
     ensures { OnOk result (labels.new.items ≡ labels.old.items ++ labels_in false (Words (map value_view values.now))) }
 {

@@ -28,12 +28,12 @@ pub fn places_are_kept()
     ensures { PlacesAreKept }
 {}
 
-/// How many lines there are when a window gives way.
+/// How many lines there are after a window gave way.
 pub fn edits_count_lines()
     ensures { EditsCountLines }
 {}
 
-/// The lines now are read again where a window gave way.
+/// The text of the lines after a window gave way is read as exactly these lines, under the premises of `EditsReadAgain`.
 pub fn edits_read_again()
     ensures { EditsReadAgain }
 {}

@@ -1,4 +1,4 @@
-//! A listing whose instructions give way to others while the numbers of its places stay.
+//! A listing whose instructions give way to others while the numbers of its places stay, so that what is kept for each place needs no renumbering.
 #![tactic(auto)]
 
 mod emitting;

@@ -1,4 +1,4 @@
-//! A listing whose instructions give way to others while the numbers of its places stay.
+//! The listing that rewriting edits: what stands at each place, which windows begin there, and the lines that come of it at the end.
 ghost use Rattle.std.specs.Prelude.{◌≡◌, ◌<◌, ◌^◌, ◌&&◌, Bool, Some, length, replicate, slice_get, IfOk};
 ghost use Rattle.std.specs.Option.{option_map};
 ghost use Rattle.listing_parser.specs.Views.{place_view};
@@ -23,9 +23,9 @@ use thumb_instr::Instr;
 use window_runs::rows::window_instr;
 
 /// A listing whose instructions give way to others while the numbers of its places stay. Contracts see the lines that were given and what stands at each
-/// of their places now; `lines_now` and `padded` of these are the lines now, and the code of all places with a nop where one is gone.
+/// of their places now. `lines_now` of these are the lines now, `padded` the code of all places with a nop where one is gone.
 ///
-/// `kept` has the places that are kept, `labelled` tells of each place whether a label stands on its instruction's line, and `line_count` is how many lines
+/// `kept` has the places that are kept, `labelled` says of each place whether a label stands on its instruction's line, and `line_count` is how many lines
 /// there are now.
 #[derive(Drop)]
 pub struct EditedListing {
@@ -196,8 +196,8 @@ impl EditedListing {
         self.listing.has_label(from, home(&self.stands, place))
     }
 
-    /// The instructions that stand one behind the other from a kept place on and may stand in a window, with no label and no alignment line between them:
-    /// as many as there are, and at most so many; and their places.
+    /// The longest run of instructions from a kept place on, at most `most`, that may stand in a window and have no label and no alignment line between them;
+    /// and their places.
     pub fn run(&mut self, place: u32, most: usize) -> Run
         requires within { place < length self.old.stands }
         requires kept { is_gone (marks self.old) place ≡ false }
@@ -217,7 +217,7 @@ impl EditedListing {
         self.line_count
     }
 
-    /// How many lines there are when a window gives way to so many instructions.
+    /// How many lines there would be if a window gave way to `new_count` instructions.
     pub fn lines_after(&self, place: u32, count: u32, new_count: usize) -> usize
         requires within { place < length self.now.stands }
         requires kept { is_gone (marks self.now) place ≡ false }
@@ -231,7 +231,7 @@ impl EditedListing {
         self.line_count + new_count + labels - count as usize
     }
 
-    /// Whether an instruction stands behind so many kept places from one on: whether a label behind them is still a label of code when they are gone.
+    /// Whether an instruction stands right after the first `count` kept places from `place` on: if so, a label before these is still a code label when they go.
     pub fn is_op_behind(&mut self, place: u32, count: u32) -> bool
         requires { place < length self.old.stands }
         ensures op { result ≡ is_op_place (slice_get (places_of (lines_now self.old)) (rank (marks self.old) place + count)) }

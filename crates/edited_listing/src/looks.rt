@@ -16,7 +16,7 @@ use arrayvec::ArrayVec;
 use kept_places::KeptPlaces;
 use thumb_instr::{Instr, Seq, in_window};
 
-/// Instructions that may stand in a window, one behind the other with no label and no alignment line between them, and their places.
+/// Consecutive instructions that may stand in a window, with no label and no alignment line between them, and their places.
 #[derive(Drop)]
 pub struct Run {
     pub instrs: Seq,
@@ -43,7 +43,7 @@ fn standing_instr(given: &GivenListing, stands: &[Standing], place: u32) -> Opti
     }
 }
 
-/// The place at whose line is emitted what stands at a place.
+/// The place on whose line what stands at `place` is emitted.
 pub(crate) fn home(stands: &[Standing], place: u32) -> u32
     requires { place < length stands.now }
     ensures { result ≡ home_of_place stands.now place }
@@ -51,7 +51,7 @@ pub(crate) fn home(stands: &[Standing], place: u32) -> u32
     stands[place as usize].home(place)
 }
 
-/// Whether neither a label nor an alignment line stands between an instruction and the kept place behind it.
+/// Whether neither a label nor an alignment line stands between an instruction and the next kept place.
 fn is_joined(given: &GivenListing, stands: &[Standing], before: u32, place: u32) -> bool
     requires edited { IsEdited (record { given = given.now; stands = stands.now }) }
     requires follows { IsNextKept (record { given = given.now; stands = stands.now }) before place }
@@ -62,7 +62,7 @@ fn is_joined(given: &GivenListing, stands: &[Standing], before: u32, place: u32)
     given.is_joined(from, to)
 }
 
-/// The instruction of a place that a run goes on with behind another place, or begins with.
+/// The instruction at `place`, if a run may begin with it, or go on with it after the one at `before`.
 pub(crate) fn next_instr(
     given: &GivenListing,
     stands: &[Standing],
@@ -86,7 +86,7 @@ pub(crate) fn next_instr(
     }
 }
 
-/// The instructions that stand one behind the other from a kept place on and may stand in a window, with no label and no alignment line between them.
+/// The longest run of instructions from a kept place on, at most `most`, that may stand in a window and have no label and no alignment line between them.
 pub(crate) fn run_from(
     given: &GivenListing,
     stands: &[Standing],

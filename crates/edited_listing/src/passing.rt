@@ -1,4 +1,4 @@
-//! Kept places that are passed, in order, and what stands behind them.
+//! Going over kept places in order, and what stands right after them.
 ghost use Rattle.std.specs.Prelude.{◌≡◌, ◌+◌, ◌<◌, ◌≤◌, ◌^◌, drop, length, slice_get};
 ghost use Rattle.kept_places.specs.Marks.{rank};
 ghost use Rattle.thumb_model.specs.Listing.{is_op_place, places_of};
@@ -10,7 +10,7 @@ use crate::standing::Standing;
 use kept_places::KeptPlaces;
 use listing_parser::Listing;
 
-/// The place behind the next kept one from a place on, or the end.
+/// One past the next kept place from `from` on, or the end.
 pub(crate) fn pass_one(stands: &[Standing], kept: &mut KeptPlaces, from: u32) -> u32
     requires marks { kept.old ≡ marks_of stands.now }
     requires within { from ≤ length stands.now }
@@ -27,7 +27,7 @@ pub(crate) fn pass_one(stands: &[Standing], kept: &mut KeptPlaces, from: u32) ->
     }
 }
 
-/// The place behind so many kept ones from a place on, or the end.
+/// One past the first `count` kept places from `from` on, or the end.
 pub(crate) fn pass(stands: &[Standing], kept: &mut KeptPlaces, from: u32, count: usize) -> u32
     requires marks { kept.old ≡ marks_of stands.now }
     requires within { from ≤ length stands.now }
@@ -55,7 +55,7 @@ fn is_op_at(listing: &Listing, standing: &Standing, place: u32) -> bool
     }
 }
 
-/// Whether an instruction stands behind so many kept places from one on.
+/// Whether an instruction stands right after the first `count` kept places from `from` on.
 pub(crate) fn is_op_behind(
     listing: &Listing,
     stands: &[Standing],

@@ -7,11 +7,11 @@ use thumb_instr::Instr;
 /// What stands at a place of a listing that is being changed.
 #[derive(Clone, Copy)]
 pub enum Standing {
-    /// What the listing was given with.
+    /// What the given listing has there.
     Given,
     /// Nothing: it is gone.
     Gone,
-    /// Another instruction, which is emitted at the line of a place: its home.
+    /// A new instruction, which is emitted on the line of a given place: its home.
     New { instr: Instr, home: u32 },
 }
 
@@ -38,7 +38,7 @@ impl Standing {
         }
     }
 
-    /// The place at whose line it is emitted, where it stands at that place.
+    /// The place on whose line it is emitted, where it stands at `place`.
     pub(crate) fn home(&self, place: u32) -> u32
         ensures { result ≡ home_at place self.now }
     {

@@ -1,4 +1,4 @@
--- The alignments and the loose mentions of blocks, and what stays of blocks whose alignments are noted.
+-- The alignments and the loose mentions of blocks, and that noting alignments changes nothing else.
 use Rattle.std.proofs.Common.{◌≡◌, ◌∙◌, inl, inr, ℕ, zero, suc, ◌-◌, ◌/◌, ◌%◌, ◌<◌, ◌≤◌, true, List, [], ◌∷◌, ◌++◌, length, map, drop, get_or, Some, refl, sym, ap, subst, arith, div-add-mod'}
 use Rattle.std.specs.Prelude.{slice_get, slice_set, Contains}
 use Rattle.std.proofs.lemmas.Bool.{cases_lt}
@@ -64,7 +64,7 @@ are_callers_same xs ys e a = λ t i d g c.
     let len = map_length unaligned xs ys e in
     omega arith
 
--- none lies before where it was noted
+-- no block has a lag at first
 pub no_lag : (l : Lag) (n : ℕ) → l.border ≡ 0 → l.shift ≡ 0 → lag_of l n ≡ 0
 no_lag l n border shift = lag_behind l n (omega (arith, border)) ∙ shift
 
@@ -143,7 +143,7 @@ alignments_on all last alignment number ss n s t h e f g =
       ];
     }
 
--- by 4, where the last one of literals and their labels is known
+-- 4 divides the alignments up to the last block of literals and their labels
 pub fours_all : (all : List Block) (last alignment number : ℕ) (ss : List Block) → HaveAlignments all last alignment number ss → number ≤ 0 → ((i : ℕ) (s : Block) → slice_get all i ≡ Some s → literal_last i s.head ≤ last)
     → (i j : ℕ) (s : Footprint) (d : Block) → slice_get (footprints_of all) i ≡ Some s → slice_get ss j ≡ Some d → j ≤ literal_last i s.head → Divides 4 d.alignment
 fours_all all last alignment number ss h none known i j s d e f l =
@@ -158,7 +158,7 @@ fours_all all last alignment number ss h none known i j s d e f l =
 
 -- ---- loose mentions ----
 
--- those below a number are known
+-- the loose mentions of the blocks below a number are listed
 pub record AreFound (of : Loose) (ss : List Block) (number : ℕ) (loose : List ℕ) : Type 0 where
   pub all : (j : ℕ) (s : Block) → j < number → slice_get ss j ≡ Some s → is_loose of j s.head ≡ true → Contains loose j
   pub within : (j : ℕ) → Contains loose j → j < length ss
@@ -190,6 +190,6 @@ found_other of ss number following loose s a e not f = record {
 pub found_all : (of : Loose) (ss : List Block) (loose : List ℕ) → ((j : ℕ) (s : Block) → slice_get ss j ≡ Some s → is_loose of j s.head ≡ true → Contains loose j) → ((j : ℕ) → Contains loose j → j < length ss) → AreFound of ss (length ss) loose
 found_all of ss loose all within = record { all = λ j s l. all j s; within = within }
 
--- read twice, a block begins with the same
+-- a block that is read twice begins with the same
 pub head_read : (ss : List Block) (n : ℕ) (s t : Block) → n < length ss → s ≡ get_or ss n s → slice_get ss n ≡ Some t → s.head ≡ t.head
 head_read ss n s t h e f = let g = slice_get_read ss (length ss) n s refl h e in let one : s ≡ t = cc in ap (λ (x : Block). x.head) one

@@ -26,7 +26,7 @@ use Rattle.kept_layout.proofs.Nearing.{slack_none}
 aims_at : (h : Head) (a : Aim) (t : ℕ) → h ≡ head.Aims a → a.to ≡ Some (location.Block t) → mentioned h ≡ Some t
 aims_at h a t e f = ap mentioned e ∙ ap block_in f
 
--- none was moved yet, and their alignments and the loose mentions are known
+-- no block was moved yet, and the alignments and loose mentions are known
 pub record IsUnmoved (k : KeptLayout) : Type 0 where
   pub border : k.lag.border ≡ 0
   pub shift : k.lag.shift ≡ 0

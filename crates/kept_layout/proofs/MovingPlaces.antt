@@ -1,4 +1,4 @@
--- Places of blocks, and standing at another one.
+-- Places of blocks, and layouts with another current block.
 use Rattle.std.proofs.Common.{◌≡◌, ◌∙◌, inl, inr, ℕ, zero, suc, ◌+◌, ◌-◌, ◌<◌, ◌≤◌, List, [], ◌∷◌, length, take, Some, refl, sym, ap, arith}
 use Rattle.std.proofs.lemmas.Bool.{cases_lt}
 use Rattle.std.specs.Prelude.{slice_get}
@@ -8,13 +8,13 @@ use Rattle.kept_layout.specs.declared.block.Block.{Block}
 use Rattle.kept_layout.specs.Blocks.{Footprint, footprint_of, footprints_of, total_places}
 use Rattle.kept_layout.specs.Kept.{IsLaid, IsNear}
 
--- those of one block more
+-- the places of one block more
 pub places_more : (ss : List Block) (n : ℕ) (s : Block) → slice_get ss n ≡ Some s → total_places (take (suc n) (footprints_of ss)) ≡ total_places (take n (footprints_of ss)) + s.places
 places_more [] n s e = absurd (cc)
 places_more (x ∷ ss) zero s e = let same : x ≡ s = cc in let p = ap (λ (y : Block). y.places) same in omega arith
 places_more (x ∷ ss) (suc n) s e = let h = places_more ss n s e in omega arith
 
--- those of all
+-- the places of all blocks
 pub places_all : (ss : List Block) (n : ℕ) → length ss ≤ n → total_places (take n (footprints_of ss)) ≡ total_places (footprints_of ss)
 places_all [] zero h = refl
 places_all [] (suc n) h = refl
@@ -27,7 +27,7 @@ footprint_at [] n s e = absurd (cc)
 footprint_at (x ∷ ss) zero s e = let same : x ≡ s = cc in ap (λ (y : Block). Some (footprint_of y)) same
 footprint_at (x ∷ ss) (suc n) s e = footprint_at ss n s e
 
--- a layout that stands at another of its blocks
+-- the invariant holds with another current block
 pub elsewhere : (k : KeptLayout) (here first : ℕ) → IsLaid k → here < length k.blocks.items → first ≡ total_places (take here (footprints_of k.blocks.items)) → IsLaid (record k { here = here; first = first })
 elsewhere k here first l h f = record {
   in_code = l.in_code;
@@ -51,7 +51,7 @@ elsewhere k here first l h f = record {
   walls = l.walls;
 }
 
--- none stand before the first block
+-- no place comes before the first block
 pub not_first : (k : KeptLayout) → IsLaid k → 0 < k.first → 0 < k.here
 not_first k l h = elim (cases_lt 0 k.here) [
   | inl some ↦ some
@@ -61,7 +61,7 @@ not_first k l h = elim (cases_lt 0 k.here) [
       omega arith)
 ]
 
--- at the block before
+-- with the block before as the current one
 pub back_one : (k : KeptLayout) (s : Block) → IsLaid k → 0 < k.first → slice_get k.blocks.items (k.here - 1) ≡ Some s
     → (s.places ≤ k.first) × IsLaid (record k { here = k.here - 1; first = k.first - s.places })
 back_one k s l h e =
@@ -72,7 +72,7 @@ back_one k s l h e =
     let first = l.first ∙ sym (ap (λ (n : ℕ). total_places (take n (footprints_of k.blocks.items))) same) ∙ more in
     (omega arith, elsewhere k (k.here - 1) (k.first - s.places) l (omega arith) (omega arith))
 
--- at the block behind
+-- with the next block as the current one
 pub on_one : (k : KeptLayout) (s : Block) → IsLaid k → k.here + 1 < length k.blocks.items → slice_get k.blocks.items k.here ≡ Some s → IsLaid (record k { here = k.here + 1; first = k.first + s.places })
 on_one k s l h e =
     let more = places_more k.blocks.items k.here s e in

@@ -1,4 +1,4 @@
--- By how many bytes mentions of addresses that are set may come nearer.
+-- Slack: by how many bytes mentions of addresses that are set may move and stay within reach.
 use Rattle.std.proofs.Common.{◌≡◌, inl, inr, ℕ, suc, ◌+◌, ◌-◌, ◌<◌, ◌≤◌, min, true, false, List, length, Option, Some, None, refl, sym, ap, subst, arith, true≢false}
 use Rattle.std.specs.Prelude.{nat_le, slice_get}
 use Rattle.std.proofs.lemmas.Bool.{and_parts, cases_Bool, cases_lt, leb-true}
@@ -19,7 +19,7 @@ use Rattle.kept_layout.proofs.ShrinkingPlaces.{count_of, moved_before, moved_beh
 
 -- ---- one mention ----
 
--- what reaches has none at least
+-- a mention that is within reach has slack 0
 pub slack_none : (starts : List ℕ) (at : ℕ) (h : Head) → head_fault starts at h ≡ None → HasSlack 0 at h
 slack_none starts at head.Plain e = tt
 slack_none starts at (head.Pads size most) e = tt
@@ -30,7 +30,7 @@ slack_none starts at (head.Aims a) e = go a.to e
     go (Some (location.Block t)) f = tt
     go (Some (location.Address to)) f = λ d l m. subst (λ n. aim_fault n a.instr (Some to) a.plus ≡ None) (let same : at ≡ at - d = omega arith in same) f
 
--- and fewer bytes than it has
+-- and with some slack it has any smaller one
 pub slack_fewer : (n m at : ℕ) (h : Head) → m ≤ n → HasSlack n at h → HasSlack m at h
 slack_fewer n m at head.Plain l s = tt
 slack_fewer n m at (head.Pads size most) l s = tt
@@ -41,7 +41,7 @@ slack_fewer n m at (head.Aims a) l s = go a.to s
     go (Some (location.Block t)) r = tt
     go (Some (location.Address to)) r = λ d x y. r d (omega arith) y
 
--- it has less where it came nearer
+-- by a move the slack gets less by as many bytes
 slack_moves : (n by at : ℕ) (h : Head) → by ≤ n → by ≤ at → HasSlack n at h → HasSlack (n - by) (at - by) h
 slack_moves n by at head.Plain l m s = tt
 slack_moves n by at (head.Pads size most) l m s = tt
@@ -54,7 +54,7 @@ slack_moves n by at (head.Aims a) l m s = go a.to s
 
 -- ---- all of them ----
 
--- what is no mention of an address that is set has as many as are told
+-- what isn't a mention of a set address has any slack
 slack_other : (n at j : ℕ) (h : Head) → is_loose sort.Address j h ≡ false → HasSlack n at h
 slack_other n at j head.Plain e = tt
 slack_other n at j (head.Pads size most) e = tt
@@ -65,14 +65,14 @@ slack_other n at j (head.Aims a) e = go a.to e
     go (Some (location.Block t)) f = tt
     go (Some (location.Address to)) f = absurd (true≢false f)
 
--- by so many bytes what a block begins with may come nearer then
+-- the slack of what block j begins with, after the move
 abbrev pub HasOwn : KeptLayout → List ℕ → ℕ → ℕ → ℕ → Type 0
 HasOwn k new by slack j = (at : ℕ) (s : Block) → slice_get k.blocks.items j ≡ Some s → slice_get (moved_starts k new by) j ≡ Some at → HasSlack slack at s.head
 
 own_fewer : (k : KeptLayout) (new : List ℕ) (by n m j : ℕ) → m ≤ n → HasOwn k new by n j → HasOwn k new by m j
 own_fewer k new by n m j l h at s e f = slack_fewer n m at s.head l (h at s e f)
 
--- those that move by themselves were looked at up to a number
+-- the blocks that move by themselves were looked at up to a number
 pub record IsLeft (k : KeptLayout) (new : List ℕ) (by number slack : ℕ) : Type 0 where
   pub few : slack ≤ k.slack - by
   pub among : (j : ℕ) → k.here < j → j < number → HasOwn k new by slack j
@@ -110,7 +110,7 @@ left_all k new by number slack l m enough h left j at s from e f =
       ]
     ]
 
--- those were looked at that mention an address that is set, up to an index
+-- the mentions of set addresses were looked at up to an index of their list
 abbrev pub AreTried : KeptLayout → List ℕ → ℕ → ℕ → ℕ → Type 0
 AreTried k new by index slack = (n j : ℕ) → n < index → slice_get k.absolute.items n ≡ Some j → k.here < j → HasOwn k new by slack j
 

@@ -12,7 +12,7 @@ use Rattle.kept_layout.specs.Kept.{AreRooms, IsLaid}
 use Rattle.kept_layout.proofs.MovingPlaces.{places_more, footprint_at}
 use Rattle.common_lemmas.proofs.Lists.{get_front}
 
--- ---- those of the first ones ----
+-- ---- the places of the first blocks ----
 
 taken_grow : (n m : ℕ) (ss : List Footprint) → n ≤ m → total_places (take n ss) ≤ total_places (take m ss)
 taken_grow zero m ss l = omega arith
@@ -39,7 +39,7 @@ taken_behind (suc h) bytes gone (suc n) (x ∷ ss) s l e g = let r = taken_behin
 
 -- ---- a block loses places ----
 
--- its group has them
+-- the block's group has the places that go
 pub room_has : (rooms : List ℕ) (footprints : List Footprint) (h gone : ℕ) (s : Footprint) → AreRooms rooms footprints → slice_get footprints h ≡ Some s → gone ≤ s.places → (r : ℕ) → slice_get rooms (h / 128) ≡ Some r → gone ≤ r
 room_has rooms footprints h gone s are e g r f =
     let is = are (h / 128) r f in
@@ -80,7 +80,7 @@ rooms_lessen rooms more footprints h bytes gone s are e few own others g room f 
 
 -- ---- counting ----
 
--- the full groups before a number were counted, and so many places behind them
+-- the full groups before `number` were counted, and the `places` places of the blocks after them
 pub record IsCounted (footprints : List Footprint) (found : List ℕ) (from places number : ℕ) : Type 0 where
   pub start : from ≡ length found * 128
   pub low : from ≤ number
@@ -143,7 +143,7 @@ rooms_of k found e r = subst (λ (xs : List Block). AreRooms k.rooms.items (foot
 
 -- ---- going over a group ----
 
--- ---- the block that it stands at loses places ----
+-- ---- the current block loses places ----
 
 pub rooms_within : (k l : KeptLayout) (gone : ℕ) → IsLaid k → l ≡ (record k { blocks = l.blocks }) → ((s : Footprint) → slice_get (footprints_of k.blocks.items) k.here ≡ Some s → gone ≤ s.places) → (r : ℕ) → slice_get l.rooms.items (l.here / 128) ≡ Some r → gone ≤ r
 rooms_within k l gone laid fields some r e =

@@ -1,4 +1,4 @@
--- What gives way and what comes in its place sets no address for a name.
+-- Neither the instructions that give way nor the new ones set an address for a name.
 use Rattle.std.proofs.Common.{◌≡◌, ◌∙◌, inl, inr, ℕ, zero, suc, ◌-◌, ◌==◌, ◌&&◌, true, List, [], ◌∷◌, ◌++◌, length, map, Option, refl, sym, ap, true≢false}
 use Rattle.std.proofs.lemmas.Bool.{and_parts, cases_Bool}
 use Rattle.thumb_instr.specs.declared.instr.Instr.{Instr}

@@ -1,4 +1,4 @@
--- What is seen on the way over blocks that move: a mention is within reach or not as soon as it is known where both of its ends lie.
+-- What the walk over blocks that move finds: whether a mention is within reach is decided as soon as the new addresses of both its ends are known.
 use Rattle.std.proofs.Common.{◌≡◌, ◌∙◌, ◌⊎◌, inl, inr, ℕ, suc, ◌+◌, ◌-◌, ◌<◌, ◌≤◌, Bool, true, false, List, [], ◌∷◌, ◌++◌, length, map, take, drop, Option, Some, None, refl, sym, ap, subst, arith, append_assoc, length-append}
 use Rattle.std.specs.Prelude.{slice_get, Contains}
 use Rattle.std.proofs.lemmas.Bool.{cases_Bool, cases_lt, lt-ltb, ltb-true}
@@ -21,7 +21,7 @@ use Rattle.common_lemmas.proofs.Lists.{get_front}
 
 -- ---- lists that begin alike ----
 
--- they are alike up to a number
+-- the lists are alike up to number n
 abbrev pub AreAlike : ℕ → List ℕ → List ℕ → Type 0
 AreAlike n xs ys = (j : ℕ) → j < n → slice_get xs j ≡ slice_get ys j
 
@@ -33,7 +33,7 @@ fronts_alike xs ys zs ws n h = λ j l. elim (cases_lt j (length xs)) [
       ∙ sym (get_back xs (ys ++ ws) (j - length xs) j (omega arith) ∙ get_front ys ws (j - length xs) (omega arith))
 ]
 
--- those up to the new addresses
+-- the addresses are alike up to the end of the new ones
 pub starts_alike : (k : KeptLayout) (new zs ws : List ℕ) → k.here < length k.blocks.items → AreAlike (end_of k new) (take (suc k.here) (starts_of k) ++ (new ++ zs)) (take (suc k.here) (starts_of k) ++ (new ++ ws))
 starts_alike k new zs ws h =
     let count = count_of k in
@@ -62,7 +62,7 @@ fault_alike n j at xs ys head.Plain same l = refl
 fault_alike n j at xs ys (head.Pads size most) same l = refl
 fault_alike n j at xs ys (head.Aims aim) same l = ap (λ (t : Option ℕ). aim_fault at aim.instr t aim.plus) (target_alike n j xs ys aim.to same l)
 
--- a mention both ends of which lie where the lists are alike
+-- a mention both of whose ends lie where the lists are alike is right in both
 pub right_alike : (n j : ℕ) (xs ys : List ℕ) (ss : List Block) (s : Block) → AreAlike n xs ys → slice_get ss j ≡ Some s → later_end j s.head < n → IsRight xs ss j → IsRight ys ss j
 right_alike n j xs ys ss s same e low r = λ other at f g.
     let one : s ≡ other = cc in
@@ -78,7 +78,7 @@ later_is_to n j (Some (location.Block t)) e = elim (cases_lt j t) [
 ]
 later_is_to n j (Some (location.Address a)) e = inl e
 
--- the later end is the block, or the one whose label it mentions
+-- the later end is the block itself, or the one whose label it mentions
 later_is : (n j : ℕ) (h : Head) → later_end j h ≡ n → (j ≡ n) ⊎ ((a : Aim) × (h ≡ head.Aims a) × (a.to ≡ Some (location.Block n)))
 later_is n j head.Plain e = inl e
 later_is n j (head.Pads size most) e = inl e
@@ -87,18 +87,18 @@ later_is n j (head.Aims aim) e = elim (later_is_to n j aim.to e) [
   | inr other ↦ inr (aim, refl, other)
 ]
 
--- ---- what is known on the way ----
+-- ---- what is known on the walk ----
 
 pub known_first : (k : KeptLayout) → AreKnownRight k [] 0
 known_first k = λ j s e low high. absurd (omega arith)
 
--- however far those behind move together
+-- it stays right however far the blocks after those move together
 pub known_shifted : (k : KeptLayout) (new : List ℕ) (by : ℕ) → k.here < length k.blocks.items → AreKnownRight k new 0 → AreKnownRight k new by
 known_shifted k new by h known = λ j s e low high.
     right_alike (end_of k new) j (moved_starts k new 0) (moved_starts k new by) k.blocks.items s
     (starts_alike k new (map (λ a. a - 0) (drop (end_of k new) (starts_of k))) (map (λ a. a - by) (drop (end_of k new) (starts_of k))) h) e high (known j s e low high)
 
--- one more begins at a new address
+-- one block more has a new address
 longer_alike : (k : KeptLayout) (new : List ℕ) (at : ℕ) → k.here < length k.blocks.items → AreAlike (end_of k new) (moved_starts k new 0) (moved_starts k (new ++ at ∷ []) 0)
 longer_alike k new at h =
     let longer : List ℕ = new ++ at ∷ [] in
@@ -106,7 +106,7 @@ longer_alike k new at h =
     subst (λ (xs : List ℕ). AreAlike (end_of k new) (moved_starts k new 0) (take (suc k.here) (starts_of k) ++ xs)) (sym (append_assoc new (at ∷ []) rest))
     (starts_alike k new (map (λ a. a - 0) (drop (end_of k new) (starts_of k))) ((at ∷ []) ++ rest) h)
 
--- it and what mentions its label was looked at
+-- a block's mention and the mentions of its label were looked at
 pub record IsSeen (k : KeptLayout) (new : List ℕ) (number : ℕ) : Type 0 where
   pub own : IsRightIf true k new 0 number
   pub callers : (j : ℕ) (d : Block) → slice_get k.blocks.items number ≡ Some d → Contains d.callers.items j → IsRightIf true k new 0 j
@@ -134,13 +134,13 @@ seen_on k new items by at n d l count there known e b own callers =
     } in
     subst (λ (xs : List ℕ). AreKnownRight k xs 0) (sym e) (known_more k new at n d l count there known seen)
 
--- as long as none moves together with others
+-- the move where no blocks move together yet
 pub not_together : (k : KeptLayout) (new : List ℕ) (by : ℕ) → by ≡ 0 → end_of k new ≤ length k.blocks.items → IsMove k new by
 not_together k new by b h = subst (IsMove k new) (sym b) (record { within = h; low = λ j a l e. omega arith; literals = λ i s e f. (0, refl) })
 
--- ---- a refusal on the way ----
+-- ---- a refusal on the walk ----
 
--- where all is within reach, so is what is seen on the way
+-- where all is within reach, so is all that the walk looks at
 pub seen_by_reach : (k : KeptLayout) (bytes gone : ℕ) (new : List ℕ) (at next : ℕ) → k.here < length k.blocks.items → IsWalked k bytes new at next → AllReach k.base (lessen k.here bytes gone (footprints_of k.blocks.items)) → (j : ℕ) → IsRightIf true k new 0 j
 seen_by_reach k bytes gone new at next h w reach j s e known =
     let footprints = lessen k.here bytes gone (footprints_of k.blocks.items) in
@@ -161,14 +161,14 @@ pub right_of : (known is : Bool) (k : KeptLayout) (new : List ℕ) (by j : ℕ) 
     → IsRight (moved_starts k new by) k.blocks.items j
 right_of known is k new by j within told same r = let there = present_at k.blocks.items j within in r there.0 there.1 (sym (told there.0 there.1) ∙ same)
 
--- ---- at the end of the way ----
+-- ---- at the end of the walk ----
 
 -- neither end moves
 stays_right : (k : KeptLayout) (new : List ℕ) (by j : ℕ) (s : Block) → IsLaid k → IsMove k new by → slice_get k.blocks.items j ≡ Some s → later_end j s.head < suc k.here → IsRight (moved_starts k new by) k.blocks.items j
 stays_right k new by j s l m e low =
     right_alike (suc k.here) j (starts_of k) (moved_starts k new by) k.blocks.items s (λ i h. sym (moved_before k new by i m (omega arith))) e low (λ t at f g. l.reach j (footprint_of t) at (footprint_at k.blocks.items j t f) g)
 
--- what is known, and what is looked at then, is all
+-- with what is known from the walk, and what is looked at after it, all mentions are right
 pub open_right : (k : KeptLayout) (new : List ℕ) (by j : ℕ) → IsLaid k → IsMove k new by → AreKnownRight k new by → j < length k.blocks.items → IsRightIf false k new by j → IsRight (moved_starts k new by) k.blocks.items j
 open_right k new by j l m known within r =
     let there = present_at k.blocks.items j within in

@@ -1,4 +1,4 @@
--- What is noted of blocks once they moved.
+-- The addresses that are noted for blocks after a move: less their lags they are the new ones, and the layout's invariant is preserved.
 use Rattle.std.proofs.Common.{◌≡◌, ◌∙◌, inl, inr, ℕ, zero, suc, ◌+◌, ◌-◌, ◌<◌, ◌≤◌, true, List, [], ◌∷◌, length, map, take, drop, Some, refl, sym, ap, subst, arith}
 use Rattle.std.specs.Prelude.{nat_eq, nat_le, slice_get, slice_set, Contains}
 use Rattle.std.proofs.lemmas.Bool.{and_parts, cases_lt, eqb-true, leb-true}
@@ -31,7 +31,7 @@ set_else (y ∷ xs) zero (suc q) x d = refl
 set_else (y ∷ xs) (suc p) zero x d = refl
 set_else (y ∷ xs) (suc p) (suc q) x d = set_else xs p q x (λ e. d (ap suc e))
 
--- another address of one of them leaves all else
+-- another noted address of one block leaves all else as it is
 pub same_set : (ss : List Block) (n : ℕ) (s t : Block) → slice_get ss n ≡ Some s → unplaced t ≡ unplaced s → map unplaced (slice_set ss n t) ≡ map unplaced ss
 same_set [] n s t e f = absurd (cc)
 same_set (x ∷ ss) zero s t e f = let same : x ≡ s = cc in ap (λ y. y ∷ map unplaced ss) (f ∙ ap unplaced (sym same))
@@ -45,7 +45,7 @@ map_length f xs ys e = sym (length_map f xs) ∙ ap length e ∙ length_map f ys
 pub notes_begin : (k : KeptLayout) (bytes : ℕ) (new : List ℕ) (by : ℕ) (lag : Lag) (from : ℕ) → AreNotedIn k bytes new by lag from from k.blocks.items
 notes_begin k bytes new by lag from = record { same = refl; notes = λ j s d h m. absurd (omega arith); low = λ j h. refl; rest = λ j h. refl }
 
--- it is told of a layout that stands at the same block
+-- a note depends on the layout only by its current block and its wall
 note_alike : (l k : KeptLayout) (bytes : ℕ) (new : List ℕ) (by : ℕ) (lag : Lag) (j old note : ℕ) → l.here ≡ k.here → wall_of l ≡ wall_of k → IsNote l bytes new by lag j old note → IsNote k bytes new by lag j old note
 note_alike l k bytes new by lag j old note here wall n = record {
   before = λ h. n.before (omega arith);
@@ -75,9 +75,9 @@ notes_on k l bytes new by lag from number following more past fields n same othe
   rest = λ j m. others j (λ x. omega arith) ∙ n.rest j (omega arith);
 }
 
--- ---- those that aren't noted anew ----
+-- ---- blocks that aren't noted anew ----
 
--- it lies further before its note by as many bytes as it moves
+-- the note of a block stays right where its lag grows by just the bytes by which it moves
 still_noted : (k : KeptLayout) (bytes : ℕ) (new : List ℕ) (by : ℕ) (lag : Lag) (j at moves : ℕ) → lag_of k.lag j + moves ≤ at → lag_of lag j ≡ lag_of k.lag j + moves → (j ≤ k.here → moves ≡ 0) → (k.here < j → j < wall_of k → moves ≡ bytes) → (k.here < j → wall_of k ≤ j → (wall_of k + length new ≤ j) × (moves ≡ by))
     → IsNote k bytes new by lag j (located k.lag j at) at
 still_noted k bytes new by lag j at moves low is before calm behind = record {
@@ -87,7 +87,7 @@ still_noted k bytes new by lag j at moves low is before calm behind = record {
   behind = λ h m. let from = behind h (omega arith) in let all = from.1 in omega arith;
 }
 
--- what moves together behind the border
+-- so it does for blocks that move together, after the border
 still_behind : (k : KeptLayout) (bytes : ℕ) (new : List ℕ) (by : ℕ) (lag : Lag) (j : ℕ) (s : Block) → IsLaid k → IsMove k (news k bytes new) by → IsLagAfter k bytes new by lag → wall_of k + length new ≤ j → k.lag.border ≤ j → slice_get k.blocks.items j ≡ Some s → IsNote k bytes new by lag j (located k.lag j s.at) s.at
 still_behind k bytes new by lag j s l m a h b e =
     let from = (bounds k l).from in
@@ -100,7 +100,7 @@ still_behind k bytes new by lag j s l m a h b e =
     let low = m.low j (located k.lag j s.at) (omega arith) (lies_at k j s l e) in
     still_noted k bytes new by lag j s.at by (omega arith) (omega arith) (λ x. absurd (omega arith)) (λ x y. absurd (omega arith)) (λ x y. (h, refl))
 
--- what doesn't move, before all that lies before its note
+-- for blocks that don't move, before all that have a lag
 still_before : (k : KeptLayout) (bytes : ℕ) (new : List ℕ) (by : ℕ) (lag : Lag) (j : ℕ) (s : Block) → IsLaid k → IsLagAfter k bytes new by lag → j ≤ k.here → j < k.lag.from → j < k.lag.border → slice_get k.blocks.items j ≡ Some s → IsNote k bytes new by lag j (located k.lag j s.at) s.at
 still_before k bytes new by lag j s l a h f b e =
     let from = (bounds k l).from in
@@ -110,7 +110,7 @@ still_before k bytes new by lag j s l a h f b e =
     let new_lag = lag_before lag j (omega arith) (omega arith) in
     still_noted k bytes new by lag j s.at 0 (omega arith) (omega arith) (λ x. refl) (λ x y. absurd (omega arith)) (λ x y. absurd (omega arith))
 
--- the calm ones that lay before their notes already
+-- for calm blocks that have the gap as their lag already
 still_calm : (k : KeptLayout) (bytes : ℕ) (new : List ℕ) (by : ℕ) (lag : Lag) (j : ℕ) (s : Block) → IsLaid k → ((s : Footprint) → slice_get (footprints_of k.blocks.items) k.here ≡ Some s → bytes ≤ s.bytes) → IsLagAfter k bytes new by lag → keeps_gap k ≡ true → k.here < j → k.lag.from ≤ j → j < wall_of k → slice_get k.blocks.items j ≡ Some s
     → IsNote k bytes new by lag j (located k.lag j s.at) s.at
 still_calm k bytes new by lag j s l few a keeps h f w e =
@@ -127,7 +127,7 @@ still_calm k bytes new by lag j s l few a keeps h f w e =
     let low = few_low k bytes j (located k.lag j s.at) l few h (lies_at k j s l e) in
     still_noted k bytes new by lag j s.at bytes (omega arith) (omega arith) (λ x. absurd (omega arith)) (λ x y. refl) (λ x y. absurd (omega arith))
 
--- ---- where they lie then ----
+-- ---- where blocks lie after the move ----
 
 note_value : (k : KeptLayout) (bytes : ℕ) (new : List ℕ) (by : ℕ) (lag : Lag) (j old note x : ℕ) → IsLaid k → IsMove k (news k bytes new) by → slice_get (starts_of k) j ≡ Some old → IsNote k bytes new by lag j old note → slice_get (moved_starts k (news k bytes new) by) j ≡ Some x → note ≡ x + lag_of lag j
 note_value k bytes new by lag j old note x l m is n e =
@@ -151,7 +151,7 @@ note_value k bytes new by lag j old note x l m is n e =
       ]
     ]
 
--- all of them, where each one is noted so
+-- all blocks are noted, where each one is noted so
 noted_all : (k : KeptLayout) (bytes : ℕ) (new : List ℕ) (by : ℕ) (lag : Lag) (ss : List Block) → IsLaid k → IsMove k (news k bytes new) by → map unplaced ss ≡ map unplaced k.blocks.items
     → ((j : ℕ) (s d : Block) → slice_get k.blocks.items j ≡ Some s → slice_get ss j ≡ Some d → IsNote k bytes new by lag j (located k.lag j s.at) d.at) → AreNoted k (news k bytes new) by lag ss
 noted_all k bytes new by lag ss l m same notes = record {
@@ -165,7 +165,7 @@ noted_all k bytes new by lag ss l m same notes = record {
 at_same : (k : KeptLayout) (bytes : ℕ) (new : List ℕ) (by : ℕ) (lag : Lag) (j : ℕ) (s d : Block) → s ≡ d → IsNote k bytes new by lag j (located k.lag j s.at) s.at → IsNote k bytes new by lag j (located k.lag j s.at) d.at
 at_same k bytes new by lag j s d one n = subst (λ (x : Block). IsNote k bytes new by lag j (located k.lag j s.at) x.at) one n
 
--- where all were noted from the first one on that moved or moves up to the last one
+-- where all were noted from the first block that moved before or moves now up to the last
 pub noted_most : (k : KeptLayout) (bytes : ℕ) (new : List ℕ) (by : ℕ) (lag : Lag) (from until : ℕ) (ss : List Block) → IsLaid k → IsMove k (news k bytes new) by → IsLagAfter k bytes new by lag → from ≤ suc k.here → from ≤ k.lag.from → from ≤ k.lag.border → wall_of k + length new ≤ until → k.lag.border ≤ until
     → AreNotedIn k bytes new by lag from until ss → AreNoted k (news k bytes new) by lag ss
 noted_most k bytes new by lag from until ss l m a h f b o u n = noted_all k bytes new by lag ss l m n.same (λ j s d e g. elim (cases_lt j from) [
@@ -176,7 +176,7 @@ noted_most k bytes new by lag from until ss l m a h f b o u n = noted_all k byte
   ]
 ])
 
--- where calm ones keep their notes
+-- where calm blocks keep their notes
 pub noted_few : (k middle : KeptLayout) (bytes : ℕ) (new : List ℕ) (by : ℕ) (lag : Lag) (from until end : ℕ) (ss : List Block) → IsLaid k → IsMove k (news k bytes new) by → ((s : Footprint) → slice_get (footprints_of k.blocks.items) k.here ≡ Some s → bytes ≤ s.bytes) → IsLagAfter k bytes new by lag → keeps_gap k ≡ true
     → from ≤ suc k.here → from ≤ k.lag.from → until ≤ wall_of k → ((j : ℕ) → until ≤ j → j < wall_of k → (k.here < j) × (k.lag.from ≤ j)) → wall_of k + length new ≤ end → k.lag.border ≤ end → middle ≡ (record k { blocks = middle.blocks })
     → AreNotedIn k bytes new by lag from until middle.blocks.items → AreNotedIn middle bytes new by lag (wall_of k) end ss → AreNoted k (news k bytes new) by lag ss
@@ -200,7 +200,7 @@ noted_few k middle bytes new by lag from until end ss l m few a keeps h f w calm
 
 -- ---- one that takes fewer bytes ----
 
--- one of them, but for its bytes and places
+-- d is the j-th block, but for its bytes and places
 record IsOne (k : KeptLayout) (new : List ℕ) (by : ℕ) (lag : Lag) (j : ℕ) (d : Block) : Type 0 where
   s : Block
   is : slice_get k.blocks.items j ≡ Some s
@@ -316,7 +316,7 @@ moved_count : (k : KeptLayout) (new : List ℕ) (by bytes gone : ℕ) → IsMove
 moved_count k new by bytes gone m =
     ap length (sym (m.starts gone)) ∙ starts_length k.base (lessen k.here bytes gone (footprints_of k.blocks.items)) ∙ lessen_length k.here bytes gone (footprints_of k.blocks.items) ∙ footprints_length k.blocks.items
 
--- where they begin
+-- where its blocks begin
 laid_lies : (k : KeptLayout) (new : List ℕ) (by bytes gone : ℕ) (ss : List Block) (after : KeptLayout) → IsMoved k bytes new by → IsAfter k new by bytes gone ss after → (j : ℕ) (d : Block) → slice_get after.blocks.items j ≡ Some d → (x : ℕ) × (slice_get (moved_starts k (news k bytes new) by) j ≡ Some x) × (d.at ≡ x + lag_of after.lag j)
 laid_lies k new by bytes gone ss after m a j d e =
     let count = moved_count k new by bytes gone m in
@@ -329,7 +329,7 @@ laid_starts k new by bytes gone ss after m a =
     addresses_are after.lag after.blocks.items (moved_starts k (news k bytes new) by) (moved_count k new by bytes gone m ∙ sym (laid_length k new by bytes gone ss after a))
     (λ n d e. let r = laid_lies k new by bytes gone ss after m a n d e in let v = r.2 in r.1 ∙ ap (λ x. Some x) (let same : r.0 ≡ d.at - lag_of after.lag n = omega arith in same))
 
--- who mentions a label
+-- which blocks mention a label
 laid_callers : (k : KeptLayout) (new : List ℕ) (by bytes gone : ℕ) (ss : List Block) (after : KeptLayout) → IsLaid k → IsAfter k new by bytes gone ss after
     → (i t : ℕ) (s d : Block) (aim : Aim) → slice_get after.blocks.items i ≡ Some s → s.head ≡ head.Aims aim → aim.to ≡ Some (location.Block t) → slice_get after.blocks.items t ≡ Some d → Contains d.callers.items i
 laid_callers k new by bytes gone ss after l a i t s d aim e f g h =
@@ -337,7 +337,7 @@ laid_callers k new by bytes gone ss after l a i t s d aim e f g h =
     let to = laid_at k new by bytes gone ss after t d a h in
     subst (λ xs. Contains xs i) (sym to.callers) (l.callers i t from.s to.s aim from.is (sym from.head ∙ f) g to.is)
 
--- the same ones are calm
+-- the same blocks are calm
 walls_lessen : (walls : List ℕ) (n bytes gone : ℕ) (footprints : List Footprint) → AreWalls walls footprints → AreWalls walls (lessen n bytes gone footprints)
 walls_lessen walls n bytes gone footprints are i wall e =
     let is = are i wall e in
@@ -352,7 +352,7 @@ walls_lessen walls n bytes gone footprints are i wall e =
       };
     }
 
--- it is a layout
+-- its invariant holds
 pub laid_after : (k : KeptLayout) (new : List ℕ) (by bytes gone : ℕ) (ss : List Block) (after : KeptLayout) → IsLaid k → IsMoved k bytes new by → AllReach k.base (lessen k.here bytes gone (footprints_of k.blocks.items)) → IsAfter k new by bytes gone ss after → IsLaid after
 laid_after k new by bytes gone ss after l m r a =
     let base = a.base in
@@ -392,7 +392,7 @@ laid_after k new by bytes gone ss after l m r a =
       walls = subst (AreWalls after.walls.items) (sym footprints) (walls_lessen after.walls.items k.here bytes gone (footprints_of k.blocks.items) (subst (λ (xs : List ℕ). AreWalls xs (footprints_of k.blocks.items)) (sym a.walls) l.walls));
     }
 
--- the footprint of one that is noted
+-- the footprint of a block that is noted anew
 pub noted_footprint : (k : KeptLayout) (ss : List Block) (n : ℕ) (s : Block) → map unplaced ss ≡ map unplaced k.blocks.items → slice_get ss n ≡ Some s → slice_get (footprints_of k.blocks.items) n ≡ Some (footprint_of s)
 noted_footprint k ss n s e f = ap (λ (xs : List Footprint). slice_get xs n) (sym (footprints_same ss k.blocks.items e)) ∙ footprint_at ss n s f
 

@@ -1,4 +1,4 @@
--- Where blocks lie by what is noted, and where they lie once those behind one moved.
+-- Where blocks lie by their noted addresses and lags, and where they lie after a move.
 use Rattle.std.proofs.Common.{◌≡◌, ◌∙◌, inl, inr, ℕ, zero, suc, ◌+◌, ◌-◌, ◌<◌, ◌≤◌, List, [], ◌∷◌, ◌++◌, length, map, take, drop, Some, refl, sym, ap, subst, arith}
 use Rattle.std.specs.Prelude.{nat_le, nat_lt, slice_get}
 use Rattle.std.proofs.lemmas.Bool.{le-leb, leb-true, lt-ltb, ltb-true, cases_Bool}
@@ -52,7 +52,7 @@ lists_same (x ∷ xs) (y ∷ ys) l h =
     let rest = lists_same xs ys (omega arith) (λ n z e. h (suc n) z e) in
     ap (λ z. z ∷ xs) first ∙ ap (λ z. y ∷ z) rest
 
--- each lies where it is told
+-- a list is that of the addresses, if it agrees with what is noted for each block
 pub addresses_are : (lag : Lag) (ss : List Block) (xs : List ℕ) → length xs ≡ length ss → ((n : ℕ) (s : Block) → slice_get ss n ≡ Some s → slice_get xs n ≡ Some (located lag n s.at)) → addresses lag 0 ss ≡ xs
 addresses_are lag ss xs l h = sym (lists_same xs (addresses lag 0 ss) (l ∙ sym (addresses_length lag 0 ss)) (λ n a e.
     let within = slice_get_within (addresses lag 0 ss) n a e in
@@ -66,7 +66,7 @@ addresses_are lag ss xs l h = sym (lists_same xs (addresses lag 0 ss) (l ∙ sym
 pub lies_at : (k : KeptLayout) (n : ℕ) (s : Block) → IsLaid k → slice_get k.blocks.items n ≡ Some s → slice_get (starts_of k) n ≡ Some (located k.lag n s.at)
 lies_at k n s l e = subst (λ xs. slice_get xs n ≡ Some (located k.lag n s.at)) l.starts (address_at k.lag k.blocks.items n s e)
 
--- ---- once they moved ----
+-- ---- after a move ----
 
 pub footprints_length : (ss : List Block) → length (footprints_of ss) ≡ length ss
 footprints_length [] = refl
@@ -75,7 +75,7 @@ footprints_length (s ∷ ss) = ap suc (footprints_length ss)
 pub count_of : (k : KeptLayout) → length (starts_of k) ≡ length k.blocks.items
 count_of k = starts_length k.base (footprints_of k.blocks.items) ∙ footprints_length k.blocks.items
 
--- those up to the one that it stands at stay
+-- the blocks up to the current one stay
 pub moved_before : (k : KeptLayout) (new : List ℕ) (by j : ℕ) → IsMove k new by → j ≤ k.here → slice_get (moved_starts k new by) j ≡ slice_get (starts_of k) j
 moved_before k new by j m h =
     let count = count_of k in
@@ -83,7 +83,7 @@ moved_before k new by j m h =
     let first = take_all (suc k.here) (starts_of k) (omega arith) in
     get_front (take (suc k.here) (starts_of k)) (new ++ map (λ a. a - by) (drop (end_of k new) (starts_of k))) j (omega arith) ∙ get_take (suc k.here) (starts_of k) j (omega arith)
 
--- those behind it begin at the new addresses
+-- the blocks after it begin at the new addresses
 pub moved_among : (k : KeptLayout) (new : List ℕ) (by j : ℕ) → IsMove k new by → k.here < j → j < end_of k new → slice_get (moved_starts k new by) j ≡ slice_get new (j - suc k.here)
 moved_among k new by j m h l =
     let count = count_of k in
@@ -91,7 +91,7 @@ moved_among k new by j m h l =
     let first = take_all (suc k.here) (starts_of k) (omega arith) in
     get_back (take (suc k.here) (starts_of k)) (new ++ map (λ a. a - by) (drop (end_of k new) (starts_of k))) (j - suc k.here) j (omega arith) ∙ get_front new (map (λ a. a - by) (drop (end_of k new) (starts_of k))) (j - suc k.here) (omega arith)
 
--- those behind these lie so many bytes earlier
+-- the blocks after these lie `by` bytes earlier
 pub moved_behind : (k : KeptLayout) (new : List ℕ) (by j a : ℕ) → IsMove k new by → end_of k new ≤ j → slice_get (starts_of k) j ≡ Some a → slice_get (moved_starts k new by) j ≡ Some (a - by)
 moved_behind k new by j a m h e =
     let count = count_of k in

@@ -26,7 +26,7 @@ use Rattle.kept_layout.proofs.MovingPlaces.{footprint_at}
 use Rattle.kept_layout.proofs.ShrinkingPlaces.{count_of, moved_before, moved_behind, footprints_length}
 use Rattle.kept_layout.proofs.ShrinkingStarts.{lessen_at, lessen_there, starts_apart, starts_order}
 
--- a mention of what lies nowhere has no fault: a row each
+-- a mention of a name without an address has no fault: a row each
 pub aim_none : (at : ℕ) (i : Instr) (plus : ℕ) → aim_fault at i None plus ≡ None
 aim_none at (instr.Literal t s) plus = refl
 aim_none at (instr.Address t s) plus = refl
@@ -35,7 +35,7 @@ aim_none at (instr.Branch s) plus = refl
 aim_none at (instr.Call s) plus = refl
 aim_none at i plus = refl
 
--- the blocks behind the one that it stands at move
+-- the blocks after the current one move
 pub record Moves (k : KeptLayout) (new : List ℕ) (by bytes : ℕ) : Type 0 where
   pub laid : IsLaid k
   pub wide : AreWide (footprints_of k.blocks.items)
@@ -56,7 +56,7 @@ order k new by bytes i j a b m l e f =
     let back = sym (m.starts 0) in
     starts_order k.base (lessen k.here bytes 0 (footprints_of k.blocks.items)) i j a b l (subst (λ (xs : List ℕ). slice_get xs i ≡ Some a) back e) (subst (λ (xs : List ℕ). slice_get xs j ≡ Some b) back f)
 
--- an instruction before the one that it stands at has two bytes before what stands behind it
+-- an instruction before the current block has two bytes before whatever block comes after it
 apart : (k : KeptLayout) (new : List ℕ) (by bytes i j : ℕ) (s : Block) (at b : ℕ) (a : Aim) (to : Option NameLocation) → Moves k new by bytes → Mentions k (moved_starts k new by) i s at a to → i < k.here → i < j → slice_get (moved_starts k new by) j ≡ Some b → at + 2 ≤ b
 apart k new by bytes i j s at b a to m x h l f =
     let back = sym (m.starts 0) in
@@ -69,20 +69,20 @@ apart k new by bytes i j s at b a to m x h l f =
 
 -- ---- what was and what was looked at ----
 
--- it was within reach
+-- the mention was within reach before the move
 was : (k : KeptLayout) (starts : List ℕ) (j : ℕ) (s : Block) (at old : ℕ) (a : Aim) (to : Option NameLocation) → IsLaid k → Mentions k starts j s at a to → slice_get (starts_of k) j ≡ Some old → aim_fault old a.instr (address_of (starts_of k) to) a.plus ≡ None
 was k starts j s at old a to l x e =
     let r = l.reach j (footprint_of s) old (footprint_at k.blocks.items j s x.is) e in
     let h : head_fault (starts_of k) old (head.Aims a) ≡ None = subst (λ (h : Head). head_fault (starts_of k) old h ≡ None) x.head r in
     subst (λ (t : Option NameLocation). aim_fault old a.instr (address_of (starts_of k) t) a.plus ≡ None) x.target h
 
--- it was looked at
+-- the mention was looked at
 looked : (k : KeptLayout) (starts : List ℕ) (j : ℕ) (s : Block) (at : ℕ) (a : Aim) (to : Option NameLocation) → Mentions k starts j s at a to → IsRight starts k.blocks.items j → aim_fault at a.instr (address_of starts to) a.plus ≡ None
 looked k starts j s at a to x r =
     let h : head_fault starts at (head.Aims a) ≡ None = subst (λ (h : Head). head_fault starts at h ≡ None) x.head (r s at x.is x.there) in
     subst (λ (t : Option NameLocation). aim_fault at a.instr (address_of starts t) a.plus ≡ None) x.target h
 
--- a loose one was looked at, or nothing behind the new addresses moves
+-- a loose mention was looked at, or no block after the new addresses moves
 loose_kept : (k : KeptLayout) (new : List ℕ) (by j : ℕ) (s : Block) (at old : ℕ) (a : Aim) (to : Option NameLocation) → IsLaid k → IsLookedAt k new by → Mentions k (moved_starts k new by) j s at a to → is_loose_to sort.Label j a.instr to ≡ true
     → at ≡ old - by → slice_get (starts_of k) j ≡ Some old → address_of (moved_starts k new by) to ≡ address_of (starts_of k) to → aim_fault at a.instr (address_of (moved_starts k new by) to) a.plus ≡ None
 loose_kept k new by j s at old a to l c x near e f same = elim (cases_lt 0 by) [
@@ -104,7 +104,7 @@ label_before k new by bytes j t s at old a m c x e h l =
     let w = was k (moved_starts k new by) j s at old a (Some (location.Block t)) m.laid x e in
     subst (λ n. aim_fault n a.instr (slice_get (moved_starts k new by) t) a.plus ≡ None) (sym stays) (subst (λ (o : Option ℕ). aim_fault old a.instr o a.plus ≡ None) (sym (moved_before k new by t m.move h)) w)
 
--- a literal of a label that moves, moves or sees that move by a multiple of 4
+-- where a literal's label moves together with others, it moves by a multiple of 4
 literal_whole : (k : KeptLayout) (new : List ℕ) (by bytes j t : ℕ) (s : Block) (at : ℕ) (a : Aim) → Moves k new by bytes → Mentions k (moved_starts k new by) j s at a (Some (location.Block t)) → end_of k new ≤ t → is_literal a.instr ≡ true → Divides 4 by
 literal_whole k new by bytes j t s at a m x h y =
     let last : literal_last j s.head ≡ max j t = ap (literal_last j) x.head ∙ ap (last_to j a.instr) x.target ∙ rw y refl in
@@ -172,7 +172,7 @@ label_right k new by bytes j t s at old to a m c x e f = elim (cases_lt k.here t
 
 -- ---- an address that is set ----
 
--- it was looked at, or it is known to have come near by so many bytes at most
+-- the mention was looked at, or the slack shows that it still reaches the address
 set_behind : (k : KeptLayout) (new : List ℕ) (by bytes j to : ℕ) (s : Block) (at old : ℕ) (a : Aim) → 0 < by → end_of k new ≤ j → at ≡ old - by → Moves k new by bytes → IsLookedAt k new by → Mentions k (moved_starts k new by) j s at a (Some (location.Address to)) → slice_get (starts_of k) j ≡ Some old → aim_fault at a.instr (Some to) a.plus ≡ None
 set_behind k new by bytes j to s at old a some behind moves m c x e = elim (cases_Bool (has_slack k by)) [
   | inl y ↦
@@ -274,7 +274,7 @@ none_told k starts j s is not other at e f =
     go (head.Pads size most) n = refl
     go (head.Aims a) n = absurd (n a refl)
 
--- ---- those that mention a label ----
+-- ---- blocks that mention a label ----
 
 pub called_within : (k : KeptLayout) (t : ℕ) (d : Block) (numbers : List ℕ) → IsLaid k → slice_get k.blocks.items t ≡ Some d → numbers ≡ d.callers.items → (j : ℕ) → Contains numbers j → j < length k.blocks.items
 called_within k t d numbers l e f j c = l.called t j d e (subst (λ xs. Contains xs j) f c)
@@ -285,7 +285,7 @@ called_right k P t d numbers e f h j other g c =
     let one : d ≡ other = cc in
     h j (subst (λ xs. Contains xs j) (sym (f ∙ ap (λ (x : Block). x.callers.items) one)) c)
 
--- what the one that it stands at mentions is within reach, and from another one up to a number, what they mention and what mentions their labels
+-- what the current block mentions is within reach, and so are, for the blocks from `first` up to `number`, their mentions and those of their labels
 pub record AreMet (k : KeptLayout) (new : List ℕ) (by first number : ℕ) : Type 0 where
   pub here : IsRight (moved_starts k new by) k.blocks.items k.here
   pub heads : (j : ℕ) → first ≤ j → j < number → IsRight (moved_starts k new by) k.blocks.items j

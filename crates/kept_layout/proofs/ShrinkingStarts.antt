@@ -1,4 +1,4 @@
--- Where blocks begin: in order, each behind the bytes of the one before; and where they begin once one takes fewer bytes.
+-- Where blocks begin: in order, each after the bytes of the one before; and where they begin once one takes fewer bytes.
 use Rattle.std.proofs.Common.{◌≡◌, ◌∙◌, ℕ, zero, suc, ◌+◌, ◌-◌, ◌<◌, ◌≤◌, List, [], ◌∷◌, ◌++◌, length, take, drop, Some, refl, ap, arith}
 use Rattle.std.specs.Prelude.{slice_get}
 use Rattle.kept_layout.specs.Blocks.{behind, end_from, lessen, padding_of, starts_from, IsAlignment, Footprint}
@@ -15,7 +15,7 @@ starts_low at [] k a e = absurd (cc)
 starts_low at (s ∷ ss) zero a e = let same : at ≡ a = cc in omega arith
 starts_low at (s ∷ ss) (suc k) a e = let h = starts_low (behind at s) ss k a e in omega arith
 
--- a later one lies behind the bytes of an earlier one
+-- a later block lies after the bytes of an earlier one
 pub starts_apart : (at : ℕ) (ss : List Footprint) (i k : ℕ) (s : Footprint) (a b : ℕ) → i < k → slice_get ss i ≡ Some s → slice_get (starts_from at ss) i ≡ Some a → slice_get (starts_from at ss) k ≡ Some b → a + s.bytes ≤ b
 starts_apart at [] i k s a b l e f g = absurd (cc)
 starts_apart at (t ∷ ss) i zero s a b l e f g = absurd (omega arith)
@@ -33,7 +33,7 @@ starts_order at (t ∷ ss) zero k a b l f g = let first : at ≡ a = cc in let h
 starts_order at (t ∷ ss) (suc i) zero a b l f g = absurd (omega arith)
 starts_order at (t ∷ ss) (suc i) (suc k) a b l f g = starts_order (behind at t) ss i k a b (omega arith) f g
 
--- none ends behind the last
+-- no block ends after the last one does
 pub behind_low : (at : ℕ) (ss : List Footprint) (k : ℕ) (s : Footprint) (a : ℕ) → slice_get ss k ≡ Some s → slice_get (starts_from at ss) k ≡ Some a → behind a s ≤ end_from at ss
 behind_low at [] k s a e f = absurd (cc)
 behind_low at (t ∷ ss) zero s a e f =

@@ -1,4 +1,4 @@
--- Walking over the blocks behind one that takes fewer bytes.
+-- The walk over the blocks after one that takes fewer bytes: how it ends, and that it ends within the Code region.
 use Rattle.std.proofs.Common.{◌≡◌, ◌∙◌, ℕ, suc, ◌+◌, ◌-◌, ◌<◌, ◌≤◌, ◌^◌, List, [], ◌∷◌, ◌++◌, length, map, take, drop, Some, refl, sym, ap, arith, append_assoc, length-append}
 use Rattle.std.specs.Prelude.{slice_get}
 use Rattle.std.proofs.lemmas.List.{drop_all}
@@ -13,7 +13,7 @@ use Rattle.kept_layout.proofs.ShrinkingStarts.{behind_low, end_drop, end_lessen,
 use Rattle.kept_layout.proofs.Together.{divides_on, end_moves, starts_move}
 use Rattle.common_lemmas.proofs.Lists.{drop_at}
 
--- no block begins behind the Code region
+-- no block begins past the Code region
 pub start_in_code : (k : KeptLayout) (j : ℕ) (s : Block) (a : ℕ) → IsLaid k → slice_get k.blocks.items j ≡ Some s → slice_get (starts_of k) j ≡ Some a → a ≤ 2 ^ 29
 start_in_code k j s a l e f =
     let low = behind_low k.base (footprints_of k.blocks.items) j (footprint_of s) a (footprint_at k.blocks.items j s e) f in
@@ -50,7 +50,7 @@ walk_on k bytes new at next s end following w e l g h n =
       ends = λ gone. w.ends gone ∙ ap (end_from at) one ∙ (ap (λ x. end_from x (drop (suc next) (footprints_of k.blocks.items))) (sym g) ∙ ap (λ x. end_from end (drop x (footprints_of k.blocks.items))) (sym n));
     }
 
--- none is behind
+-- the walk ends where no block is left
 pub walk_over : (k : KeptLayout) (bytes : ℕ) (new : List ℕ) (at next : ℕ) → IsWalked k bytes new at next → length k.blocks.items ≤ next → IsMovedTo k bytes new 0
 walk_over k bytes new at next w h =
     let count = w.count in
@@ -66,7 +66,7 @@ walk_over k bytes new at next w h =
       in_code = λ gone. let e = w.ends gone ∙ ap (end_from at) none in omega arith;
     }
 
--- all that are behind move together
+-- the walk ends where all blocks that are left move together
 pub walk_together : (k : KeptLayout) (bytes : ℕ) (new : List ℕ) (at next old : ℕ) (s : Block) → IsLaid k → IsWalked k bytes new at next → slice_get k.blocks.items next ≡ Some s → slice_get (starts_of k) next ≡ Some old → at ≤ old → Divides s.alignment (old - at) → IsMovedTo k bytes new (old - at)
 walk_together k bytes new at next old s l w e f h d =
     let by : ℕ = old - at in

@@ -1,4 +1,4 @@
--- Calm blocks that aren't looked at: what moves together behind the wall comes nearer to them, or is far from them.
+-- Calm blocks that aren't looked at: the blocks that move together after the wall come nearer to them, or are far from them.
 use Rattle.std.proofs.Common.{◌≡◌, ◌∙◌, inl, inr, ℕ, suc, ◌+◌, ◌-◌, ◌<◌, ◌≤◌, max, false, List, length, Option, Some, None, refl, ap, subst, arith}
 use Rattle.std.specs.Prelude.{slice_get, Contains}
 use Rattle.std.proofs.lemmas.Bool.{cases_lt}
@@ -21,7 +21,7 @@ use Rattle.kept_layout.proofs.ShrinkingReach.{AreMet}
 use Rattle.kept_layout.proofs.ShrinkingStarts.{starts_order}
 use Rattle.kept_layout.proofs.Walls.{end_news, few_low, label_is_right, less_apart, less_order, news_calm, no_literal_at, no_literal_of, starts_less, was_right}
 
--- how a layout moves
+-- what is known of a move whose calm blocks before `first` are skipped
 pub record Goes (k : KeptLayout) (bytes : ℕ) (at : List ℕ) (by first : ℕ) : Type 0 where
   pub laid : IsLaid k
   pub wide : AreWide (footprints_of k.blocks.items)
@@ -38,7 +38,7 @@ calm_there k bytes at by j a l m h w e =
 less_there : (k : KeptLayout) (bytes : ℕ) (at : List ℕ) (by j x : ℕ) → IsMovedTo k bytes (news k bytes at) by → slice_get (moved_starts k (news k bytes at) by) j ≡ Some x → slice_get (starts_less k bytes) j ≡ Some x
 less_there k bytes at by j x m e = ap (λ (xs : List ℕ). slice_get xs j) (m.starts 0) ∙ e
 
--- one that is skipped and one behind are far from each other
+-- a skipped block and one after it are far from each other
 record AreApart (bytes low high : ℕ) : Type 0 where
   far : low + 2052 < high
   small : high + bytes ≤ low + 16000000
@@ -94,7 +94,7 @@ skipped_back k bytes at by first j t s a g h m e f i behind =
     label_is_right k (moved_starts k (news k bytes at) by) j s a t (old.0 - by) (to.0 - bytes) e f i own other
     (aim_back_of bytes by old.0 to.0 a.instr a.plus plain less low order (λ x. let r = apart k bytes at by first t j to.0 old.0 g x h m (omega arith) to.1 old.1 in (r.far, r.small)) (was_right k j s a t old.0 to.0 l e f i old.1 to.1))
 
--- what one that is skipped mentions
+-- what a skipped block mentions is within reach
 skipped_head : (k : KeptLayout) (bytes : ℕ) (at : List ℕ) (by first j : ℕ) (s : Block) → Goes k bytes at by first → k.here < j → j < first → slice_get k.blocks.items j ≡ Some s → IsRight (moved_starts k (news k bytes at) by) k.blocks.items j
 skipped_head k bytes at by first j s g h m e =
     let own = own_before j s.head in
@@ -119,7 +119,7 @@ skipped_head k bytes at by first j s g h m e =
         aims (Some (location.Block t)) i n = skipped_ahead k bytes at by first j t s a g h m e f i (omega (arith, end, until, m, n))
         aims (Some (location.Address to)) i n = absurd (omega (arith, end, until, m, n))
 
--- what mentions its label
+-- so is what mentions a skipped block's label
 skipped_called : (k : KeptLayout) (bytes : ℕ) (at : List ℕ) (by first t j : ℕ) (s : Block) (a : Aim) → Goes k bytes at by first → k.here < t → t < first → slice_get k.blocks.items j ≡ Some s → s.head ≡ head.Aims a → a.to ≡ Some (location.Block t) → IsRight (moved_starts k (news k bytes at) by) k.blocks.items j
 skipped_called k bytes at by first t j s a g h m e f i =
     let later : later_end j s.head ≡ max j t = ap (later_end j) f ∙ ap (Rattle.kept_layout.specs.Blocks.later_to j) i in
@@ -159,7 +159,7 @@ looked_at k bytes at by first number g met over loose absolute =
 
 -- ---- up to where none is looked at ----
 
--- one is far from the wall, and so are those before it
+-- a block is far from the wall, and so are those before it
 pub far_found : (k : KeptLayout) (bytes by first n at wall : ℕ) → k.here < first → first ≤ wall_of k → suc n ≡ first → slice_get (starts_of k) n ≡ Some at → slice_get (starts_of k) (wall_of k) ≡ Some wall → at + 2052 < wall
     → ((j at end : ℕ) → slice_get (starts_of k) 0 ≡ Some at → suc j ≡ length k.blocks.items → slice_get (starts_of k) j ≡ Some end → end + bytes ≤ at + 16000000) → AreFar k bytes by first
 far_found k bytes by first n at wall from until next e f far small = record {

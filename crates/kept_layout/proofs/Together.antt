@@ -1,4 +1,4 @@
--- Blocks that move together: where the sizes of alignments divide the distance, paddings stay.
+-- Blocks that move together: paddings stay, if the sizes to which they align divide the distance.
 use Rattle.std.proofs.Common.{◌≡◌, ◌∙◌, ℕ, zero, suc, ◌+◌, ◌-◌, ◌*◌, ◌/◌, ◌%◌, ◌≤◌, List, [], ◌∷◌, map, refl, sym, ap, arith, if◌then◌else◌, mul_assoc, add-mul, div-add-mod'}
 use Rattle.std.specs.Prelude.{nat_le}
 use Rattle.std.proofs.lemmas.Nat.{mod_below, mod-mul-add}
@@ -10,7 +10,7 @@ use Rattle.kept_layout.specs.Blocks.{behind, end_from, padding_of, starts_from, 
 pub divides_on : (a b c : ℕ) → Divides a b → Divides b c → Divides a c
 divides_on a b c h k = (k.0 * h.0, k.1 ∙ ap (λ n. k.0 * n) h.1 ∙ sym (mul_assoc k.0 h.0 a))
 
--- what is left over of an address stays where it moves by a multiple
+-- the remainder of an address stays where it moves by a multiple of the size
 rest_stays : (size at d : ℕ) → Divides size d → d ≤ at → (at - d) % size ≡ at % size
 rest_stays zero at d h k = ap (λ n. n % 0) (let e = h.1 in let z : h.0 * 0 ≡ 0 = omega arith in let f : at - d ≡ at = omega (arith, e, z, k) in f)
 rest_stays (suc n) at d h k =
@@ -36,7 +36,7 @@ head_stays g d at (head.Aims aim) i k m = refl
 pub behind_moves : (g d at : ℕ) (s : Footprint) → IsAlignmentOf g s.head → Divides g d → d ≤ at → behind (at - d) s ≡ behind at s - d
 behind_moves g d at s i k m = let e = head_stays g d at s.head i k m in omega (arith, e, m)
 
--- all begin as much earlier as the first, and the last ends so
+-- all begin as many bytes earlier as the first does, and the last ends as many earlier
 pub starts_move : (g d at : ℕ) (ss : List Footprint) → IsAlignment g ss → Divides g d → d ≤ at → starts_from (at - d) ss ≡ map (λ a. a - d) (starts_from at ss)
 starts_move g d at [] h k m = refl
 starts_move g d at (s ∷ ss) h k m =

@@ -1,4 +1,4 @@
--- The wall behind the block that it stands at: the calm ones before that move as one, and the mentions between them and those that don't move stay within reach.
+-- The wall after the current block: the calm blocks before it move as one, and mentions between them and the blocks that don't move stay within reach.
 use Rattle.std.proofs.Common.{◌≡◌, ◌∙◌, inl, inr, ℕ, zero, suc, ◌+◌, ◌-◌, ◌<◌, ◌≤◌, ◌^◌, max, true, false, List, [], ◌∷◌, ◌++◌, length, map, take, drop, Option, Some, None, refl, sym, ap, subst, arith, append_assoc, length-append, true≢false}
 use Rattle.std.specs.Prelude.{slice_get, nat_eq, not, Bool}
 use Rattle.std.proofs.lemmas.Bool.{and_parts, cases_Bool, cases_lt, eqb-true, lt-ltb}
@@ -58,7 +58,7 @@ calm_count k bytes l =
     let rest = length_drop (suc k.here) (starts_of k) in
     length_map (λ a. a - bytes) (take (wall_of k - suc k.here) (drop (suc k.here) (starts_of k))) ∙ take_all (wall_of k - suc k.here) (drop (suc k.here) (starts_of k)) (omega arith)
 
--- those that move together are behind the wall and the new addresses
+-- the blocks that move together come after the wall and the new addresses
 pub end_news : (k : KeptLayout) (bytes : ℕ) (at : List ℕ) → IsLaid k → end_of k (news k bytes at) ≡ wall_of k + length at
 end_news k bytes at l =
     let count = calm_count k bytes l in
@@ -100,7 +100,7 @@ news_none k bytes items e = none (calm_starts k bytes) ∙ ap (λ (xs : List ℕ
 
 -- ---- walking to the wall ----
 
--- a block behind the one that it stands at begins behind as many bytes as go
+-- a block after the current one begins at no less than the number of bytes that go
 pub few_low : (k : KeptLayout) (bytes j a : ℕ) → IsLaid k → ((s : Footprint) → slice_get (footprints_of k.blocks.items) k.here ≡ Some s → bytes ≤ s.bytes) → k.here < j → slice_get (starts_of k) j ≡ Some a → bytes ≤ a
 few_low k bytes j a l few h e =
     let there = present_at k.blocks.items k.here l.here in
@@ -126,7 +126,7 @@ take_next f [] d x e = absurd (cc)
 take_next f (y ∷ xs) zero x e = let same : y ≡ x = cc in ap (λ z. f z ∷ []) same
 take_next f (y ∷ xs) (suc d) x e = ap (λ (ys : List ℕ). f y ∷ ys) (take_next f xs d x e)
 
--- a calm one pads as much where it lies an even number of bytes earlier
+-- a calm block pads as much where it lies an even number of bytes earlier
 calm_alignment : (h : Head) → is_calm h ≡ true → IsAlignmentOf 2 h
 calm_alignment head.Plain e = tt
 calm_alignment (head.Pads size most) e = elim (cases_Bool (nat_eq size 1)) [
@@ -171,7 +171,7 @@ walk_calm k bytes (suc d) next a l even few e m w f =
 pub walked_to_wall : (k : KeptLayout) (bytes a : ℕ) → IsLaid k → Divides 2 bytes → ((s : Footprint) → slice_get (footprints_of k.blocks.items) k.here ≡ Some s → bytes ≤ s.bytes) → wall_of k < length k.blocks.items → slice_get (starts_of k) (wall_of k) ≡ Some a → IsWalked k bytes (calm_starts k bytes) (a - bytes) (wall_of k)
 walked_to_wall k bytes a l even few w e = let from = (bounds k l).from in walk_calm k bytes (wall_of k - suc k.here) (wall_of k) a l even few (omega arith) (omega arith) w e
 
--- none is behind
+-- the wall is past the last block
 pub walked_to_end : (k : KeptLayout) (bytes : ℕ) (s : Block) (a at : ℕ) → IsLaid k → length k.blocks.items ≤ wall_of k → slice_get k.blocks.items k.here ≡ Some s → slice_get (starts_of k) k.here ≡ Some a → at ≡ a + (padding_of s.head a + (s.bytes - bytes)) → at ≤ 2 ^ 29 → IsWalked k bytes (calm_starts k bytes) at (wall_of k)
 walked_to_end k bytes s a at l w e f g h =
     let b = bounds k l in
@@ -186,7 +186,7 @@ walked_to_end k bytes s a at l w e f g h =
     let none : wall_of k - suc k.here ≡ 0 = omega arith in
     subst (λ n. IsWalked k bytes (map (λ x. x - bytes) (take n (drop (suc k.here) (starts_of k)))) at (wall_of k)) (sym none) (walk_begin k bytes s a at (wall_of k) l e f g h is)
 
--- ---- once as many bytes are gone ----
+-- ---- where all blocks move by the bytes that go ----
 
 abbrev pub starts_less : KeptLayout → ℕ → List ℕ
 starts_less k bytes = starts_from k.base (lessen k.here bytes 0 (footprints_of k.blocks.items))
@@ -198,7 +198,7 @@ lessen_else zero bytes gone (s ∷ ss) (suc j) d = refl
 lessen_else (suc n) bytes gone (s ∷ ss) zero d = refl
 lessen_else (suc n) bytes gone (s ∷ ss) (suc j) d = lessen_else n bytes gone ss j (λ e. d (ap suc e))
 
--- an instruction that mentions a name has two bytes before what is behind its block
+-- an instruction that mentions a name has two bytes before whatever comes after its block
 pub less_apart : (k : KeptLayout) (bytes i j : ℕ) (s : Block) (a : Aim) (at b : ℕ) → AreWide (footprints_of k.blocks.items) → slice_get k.blocks.items i ≡ Some s → s.head ≡ head.Aims a → (i ≡ k.here → ⊥) → i < j → slice_get (starts_less k bytes) i ≡ Some at → slice_get (starts_less k bytes) j ≡ Some b → at + 2 ≤ b
 less_apart k bytes i j s a at b wide e f other h at_is b_is =
     let footprint = footprint_at k.blocks.items i s e in
@@ -210,14 +210,14 @@ less_apart k bytes i j s a at b wide e f other h at_is b_is =
 pub less_order : (k : KeptLayout) (bytes i j a b : ℕ) → i ≤ j → slice_get (starts_less k bytes) i ≡ Some a → slice_get (starts_less k bytes) j ≡ Some b → a ≤ b
 less_order k bytes i j a b = starts_order k.base (lessen k.here bytes 0 (footprints_of k.blocks.items)) i j a b
 
--- it was within reach
+-- the mention was within reach before the move
 pub was_right : (k : KeptLayout) (j : ℕ) (s : Block) (a : Aim) (t old to : ℕ) → IsLaid k → slice_get k.blocks.items j ≡ Some s → s.head ≡ head.Aims a → a.to ≡ Some (location.Block t) → slice_get (starts_of k) j ≡ Some old → slice_get (starts_of k) t ≡ Some to → aim_fault old a.instr (Some to) a.plus ≡ None
 was_right k j s a t old to l e f g old_is to_is =
     let r = l.reach j (footprint_of s) old (footprint_at k.blocks.items j s e) old_is in
     let h : aim_fault old a.instr (address_of (starts_of k) a.to) a.plus ≡ None = subst (λ (x : Head). head_fault (starts_of k) old x ≡ None) f r in
     subst (λ (o : Option ℕ). aim_fault old a.instr o a.plus ≡ None) (ap (address_of (starts_of k)) g ∙ to_is) h
 
--- a mention of a label is within reach, by where both lie
+-- a mention of a label is within reach where its two addresses are
 pub label_is_right : (k : KeptLayout) (starts : List ℕ) (j : ℕ) (s : Block) (a : Aim) (t at to : ℕ) → slice_get k.blocks.items j ≡ Some s → s.head ≡ head.Aims a → a.to ≡ Some (location.Block t) → slice_get starts j ≡ Some at → slice_get starts t ≡ Some to → aim_fault at a.instr (Some to) a.plus ≡ None
     → IsRight starts k.blocks.items j
 label_is_right k starts j s a t at to e f g at_is to_is r = λ other n h i.
@@ -227,9 +227,9 @@ label_is_right k starts j s a t at to e f g at_is to_is r = λ other n h i.
     let whole : head_fault starts at s.head ≡ None = subst (λ (x : Head). head_fault starts at x ≡ None) (sym f) there in
     subst (λ m. head_fault starts m other.head ≡ None) place (subst (λ (x : Block). head_fault starts at x.head ≡ None) one whole)
 
--- ---- mentions from and to calm ones ----
+-- ---- mentions from and to calm blocks ----
 
--- a mention of a calm one's label, and a calm one's mention, is no literal's
+-- neither a mention of a calm block's label nor a calm block's own mention is a literal's
 pub no_literal_of : (k : KeptLayout) (j t : ℕ) (s : Block) (a : Aim) → IsLaid k → k.here < t → t < wall_of k → slice_get k.blocks.items j ≡ Some s → s.head ≡ head.Aims a → a.to ≡ Some (location.Block t) → is_literal a.instr ≡ false
 no_literal_of k j t s a l h m e f g = ((bounds k l).calm t h m).label j (footprint_of s) a (footprint_at k.blocks.items j s e) f g
 
@@ -243,7 +243,7 @@ no_literal_at k j s a l h m e f =
     go false e c = e
     go true e c = absurd (let never : false ≡ true = sym (rw e refl) ∙ c in cc)
 
--- it mentions no address that is set
+-- a calm block mentions no address that is set
 pub no_address_at : (k : KeptLayout) (j : ℕ) (s : Block) (a : Aim) (to : ℕ) → IsLaid k → k.here < j → j < wall_of k → slice_get k.blocks.items j ≡ Some s → s.head ≡ head.Aims a → a.to ≡ Some (location.Address to) → ⊥
 no_address_at k j s a to l h m e f g =
     let own : is_calm s.head ≡ true = ((bounds k l).calm j h m).own (footprint_of s) (footprint_at k.blocks.items j s e) in
@@ -252,7 +252,7 @@ no_address_at k j s a to l h m e f g =
     let never : false ≡ true = sym (ap is_calm_to g) ∙ parts.1 in
     true≢false (sym never)
 
--- where they begin once the bytes are gone
+-- where blocks begin once the bytes are gone
 record AreThere (k : KeptLayout) (bytes : ℕ) : Type 0 where
   before : (j : ℕ) → j ≤ k.here → slice_get (starts_less k bytes) j ≡ slice_get (starts_of k) j
   calm : (j a : ℕ) → k.here < j → j < wall_of k → slice_get (starts_of k) j ≡ Some a → slice_get (starts_less k bytes) j ≡ Some (a - bytes)
@@ -274,7 +274,7 @@ are_there k bytes at l w =
       calm = λ j a h m e. walked_there k bytes at l w j m ∙ moved_among k (calm_starts k bytes) 0 j move h (omega arith) ∙ calm_at k bytes j a h m e;
     }
 
--- a label's mention both ends of which lie before the wall, and not both where they were
+-- a label's mention stays within reach if both ends lie before the wall and at least one of them moved
 calm_label : (k : KeptLayout) (bytes j t : ℕ) (s : Block) (a : Aim) → IsLaid k → AreWide (footprints_of k.blocks.items) → ((n x : ℕ) → k.here < n → slice_get (starts_of k) n ≡ Some x → bytes ≤ x) → AreThere k bytes → slice_get k.blocks.items j ≡ Some s → s.head ≡ head.Aims a → a.to ≡ Some (location.Block t) → (j ≡ k.here → ⊥)
     → k.here < max j t → max j t < wall_of k → IsRight (starts_less k bytes) k.blocks.items j
 calm_label k bytes j t s a l wide low there e f g other some below =
@@ -325,7 +325,7 @@ calm_right k bytes j s l wide low there e other some below = go s.head refl some
         aims (Some (location.Block t)) g m n = calm_label k bytes j t s a l wide low there e f g other m n
         aims (Some (location.Address to)) g m n = absurd (no_address_at k j s a to l m n e f g)
 
--- what is mentioned before the wall is within reach, where that of the one that it stands at was looked at
+-- all mentions before the wall are within reach, where that of the current block was looked at
 pub calm_known : (k : KeptLayout) (bytes at : ℕ) → IsLaid k → AreWide (footprints_of k.blocks.items) → ((s : Footprint) → slice_get (footprints_of k.blocks.items) k.here ≡ Some s → bytes ≤ s.bytes) → IsWalked k bytes (calm_starts k bytes) at (wall_of k) → IsRightIf true k (calm_starts k bytes) 0 k.here
     → AreKnownRight k (calm_starts k bytes) 0
 calm_known k bytes at l wide few w own = λ j s e low high.
@@ -346,7 +346,7 @@ calm_known k bytes at l wide few w own = λ j s e low high.
         right_alike (wall_of k) j (starts_less k bytes) (moved_starts k (calm_starts k bytes) 0) k.blocks.items s (walked_there k bytes at l w) e (omega arith)
         (calm_right k bytes j s l wide (λ n x h i. few_low k bytes n x l few h i) (are_there k bytes at l w) e other low (omega arith))
 
--- they mention no address that is set
+-- calm blocks have any slack, as they mention no address that is set
 pub calm_slack : (k : KeptLayout) (new : List ℕ) (by j slack : ℕ) → IsLaid k → k.here < j → j < wall_of k → HasOwn k new by slack j
 calm_slack k new by j slack l h m at s e f = go s.head refl
   where

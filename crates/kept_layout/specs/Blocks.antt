@@ -1,4 +1,4 @@
--- Blocks of lines, one behind the other: where they begin, and whether what they mention is within reach.
+-- Blocks of lines, one after the other: where they begin, and whether what they mention is within reach.
 use Rattle.std.specs.Prelude.{◌≡◌, ℕ, zero, suc, ◌+◌, ◌-◌, ◌*◌, ◌&&◌, ◌||◌, ◌<◌, ◌≤◌, max, nat_eq, nat_le, nat_lt, not, Bool, true, false, List, [], ◌∷◌, length, map, Option, Some, None, slice_get, if◌then◌else◌}
 use Rattle.thumb_instr.specs.declared.instr.Instr.{Instr}
 use Rattle.thumb_instr.specs.declared.instr.Instr.TheVariants as instr
@@ -32,7 +32,7 @@ padding_of head.Plain at = 0
 padding_of (head.Pads size most) at = padding size most at
 padding_of (head.Aims aim) at = 0
 
--- the address behind a block
+-- the address after a block
 abbrev pub behind : ℕ → Footprint → ℕ
 behind at s = at + (padding_of s.head at + s.bytes)
 
@@ -71,15 +71,15 @@ AllReach base footprints =
 
 -- ---- blocks that move ----
 
--- how many bytes before where it was noted the one of this number lies
+-- the lag of block n: how many bytes it lies before its noted address
 abbrev pub lag_of : Lag → ℕ → ℕ
 lag_of l n = if nat_lt n l.border then (if nat_le l.from n && nat_lt n l.until then l.gap else 0) else l.shift
 
--- where it lies, which was noted at an address
+-- the address of block n, for which `at` is noted
 abbrev pub located : Lag → ℕ → ℕ → ℕ
 located l n at = at - lag_of l n
 
--- where each one lies from this number on
+-- the address of each block, counted from n
 abbrev pub addresses : Lag → ℕ → List Block → List ℕ
 addresses l n [] = []
 addresses l n (s ∷ ss) = located l n s.at ∷ addresses l (suc n) ss
@@ -93,18 +93,18 @@ IsAlignmentOf alignment head.Plain = Unit {0}
 IsAlignmentOf alignment (head.Pads size most) = Divides size alignment
 IsAlignmentOf alignment (head.Aims aim) = Unit {0}
 
--- the sizes of all alignments divide the number
+-- the sizes to which blocks align divide the number
 abbrev pub IsAlignment : ℕ → List Footprint → Type 0
 IsAlignment alignment [] = Unit {0}
 IsAlignment alignment (s ∷ ss) = IsAlignmentOf alignment s.head × IsAlignment alignment ss
 
--- whether an instruction is a literal's
+-- whether an instruction is a literal load or `adr`
 abbrev pub is_literal : Instr → Bool
 is_literal (instr.Literal t s) = true
 is_literal (instr.Address t s) = true
 is_literal i = false
 
--- in the block of this number, the later one of a literal and its label: whether they move by a multiple of 4 matters up to there. It is the first block, which never moves, where no label is a literal's
+-- the later of block n and of its literal's label: up to there a move must be by a multiple of 4. Without such a literal it is 0, which never moves
 abbrev pub last_to : ℕ → Instr → Option NameLocation → ℕ
 last_to n i None = 0
 last_to n i (Some (location.Block k)) = if is_literal i then max n k else 0
@@ -115,7 +115,7 @@ literal_last n head.Plain = 0
 literal_last n (head.Pads size most) = 0
 literal_last n (head.Aims aim) = last_to n aim.instr aim.to
 
--- of the block of this number and of that whose label it mentions the later one
+-- the later of block n and of the block whose label it mentions
 abbrev pub later_to : ℕ → Option NameLocation → ℕ
 later_to n None = n
 later_to n (Some (location.Block k)) = max n k
@@ -126,7 +126,7 @@ later_end n head.Plain = n
 later_end n (head.Pads size most) = n
 later_end n (head.Aims aim) = later_to n aim.to
 
--- whether a mention may come out of reach by coming nearer, in the block of this number: of a label, by a literal that it isn't behind, or of an address that is set
+-- whether the mention of block n is loose, so may come out of reach by coming nearer: of a label by a literal load at or after it, or of a set address
 abbrev pub is_loose_to : Loose → ℕ → Instr → Option NameLocation → Bool
 is_loose_to l n i None = false
 is_loose_to sort.Label n i (Some (location.Block k)) = is_literal i && nat_le k n
@@ -139,7 +139,8 @@ is_loose l n head.Plain = false
 is_loose l n (head.Pads size most) = false
 is_loose l n (head.Aims aim) = is_loose_to l n aim.instr aim.to
 
--- whether what a block begins with stays as it is where it and what it mentions move by one even number of bytes: no literal, no mention of an address that is set, and no alignment to more than two bytes
+-- whether what a block begins with is calm, so stays as it is where it and what it mentions move by one even number of bytes: no literal, no mention of an
+-- address that is set, and no alignment to more than two bytes
 abbrev pub is_calm_to : Option NameLocation → Bool
 is_calm_to None = true
 is_calm_to (Some (location.Block k)) = true
@@ -155,12 +156,12 @@ begins_literal head.Plain = false
 begins_literal (head.Pads size most) = false
 begins_literal (head.Aims aim) = is_literal aim.instr
 
--- so it is with a block, whose label no literal mentions
+-- block n is calm: what it begins with is, and no literal mentions its label
 pub record IsCalm (footprints : List Footprint) (n : ℕ) : Type 0 where
   pub own : (s : Footprint) → slice_get footprints n ≡ Some s → is_calm s.head ≡ true
   pub label : (i : ℕ) (s : Footprint) (a : Aim) → slice_get footprints i ≡ Some s → s.head ≡ head.Aims a → a.to ≡ Some (location.Block n) → is_literal a.instr ≡ false
 
--- and with all from one of them up to before the wall, which is one of them too
+-- all blocks from n up to before the wall are calm; the wall is a block too
 pub record IsWall (footprints : List Footprint) (n wall : ℕ) : Type 0 where
   pub from : n ≤ wall
   pub within : wall < length footprints
@@ -169,11 +170,11 @@ pub record IsWall (footprints : List Footprint) (n wall : ℕ) : Type 0 where
 abbrev pub AreWalls : List ℕ → List Footprint → Type 0
 AreWalls walls footprints = (n wall : ℕ) → slice_get walls n ≡ Some wall → IsWall footprints n wall
 
--- what an instruction mentions is within reach wherever that lies up to so many bytes before an address
+-- what an instruction mentions is within reach from every address up to `slack` bytes before `at`
 abbrev pub Reaches : ℕ → ℕ → Instr → ℕ → ℕ → Type 0
 Reaches slack at i to plus = (d : ℕ) → d ≤ slack → d ≤ at → aim_fault (at - d) i (Some to) plus ≡ None
 
--- so it is where an address that is set is mentioned
+-- the same where the mention is of an address that is set
 abbrev pub HasSlackTo : ℕ → ℕ → Instr → Option NameLocation → ℕ → Type 0
 HasSlackTo slack at i None plus = Unit {0}
 HasSlackTo slack at i (Some (location.Block k)) plus = Unit {0}
@@ -190,7 +191,7 @@ AreWide footprints = (k : ℕ) (s : Footprint) (aim : Aim) → slice_get footpri
 
 -- ---- blocks that shrink ----
 
--- the k-th with so many bytes and places fewer
+-- the footprints, of which the k-th has so many bytes and places fewer
 abbrev pub lessen : ℕ → ℕ → ℕ → List Footprint → List Footprint
 lessen k bytes places [] = []
 lessen zero bytes places (s ∷ ss) = record { head = s.head; bytes = s.bytes - bytes; places = s.places - places } ∷ ss

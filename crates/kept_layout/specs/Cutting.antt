@@ -32,7 +32,7 @@ abbrev pub numbers_from : ℕ → List ListingLine → List ℕ
 numbers_from n [] = []
 numbers_from n (l ∷ ls) = number_at n l ∷ numbers_from (number_at n l) ls
 
--- where a name lies, in lines so cut
+-- where a name lies, in lines that are cut into parts so
 abbrev pub lies_at : List ListingLine → Name → Option NameLocation
 lies_at ls name = target_in (parts_of ls) name
 
@@ -55,14 +55,14 @@ mentioned head.Plain = None
 mentioned (head.Pads size most) = None
 mentioned (head.Aims aim) = block_in aim.to
 
--- what they mention is among them
+-- the blocks that are mentioned are among them
 abbrev pub AreMet : List Footprint → Type 0
 AreMet footprints = (i t : ℕ) (s : Footprint) → slice_get footprints i ≡ Some s → mentioned s.head ≡ Some t → t < length footprints
 
--- each knows those of the first n that mention its label
+-- each block knows those of the first n that mention its label
 abbrev pub KnowCallers : ℕ → List Block → Type 0
 KnowCallers n ss = (i t : ℕ) (s : Footprint) (d : Block) → i < n → slice_get (footprints_of ss) i ≡ Some s → mentioned s.head ≡ Some t → slice_get ss t ≡ Some d → Contains d.callers.items i
 
--- their callers are among them
+-- the callers of blocks are among the blocks
 abbrev pub AreCallers : List Block → Type 0
 AreCallers ss = (t i : ℕ) (d : Block) → slice_get ss t ≡ Some d → Contains d.callers.items i → i < length ss

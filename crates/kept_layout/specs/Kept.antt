@@ -1,4 +1,4 @@
--- A layout that is kept for lines.
+-- When a kept layout is the layout of lines: how lines are cut into blocks, and the invariant of what is kept of these.
 use Rattle.std.specs.Prelude.{◌≡◌, ℕ, ◌+◌, ◌*◌, ◌<◌, ◌≤◌, ◌^◌, ◌||◌, Bool, not, true, false, List, [], ◌∷◌, ◌++◌, length, drop, take, Option, Some, None, slice_get, Contains, if◌then◌else◌}
 use Rattle.thumb_instr.specs.declared.instr.Instr.{Instr}
 use Rattle.thumb_model.specs.Listing.{Name, Statement, Nothing, Instruction, Words, Aligns, Sets, ListingLine, places_of}
@@ -120,52 +120,52 @@ pub record AreCut (lines : List ListingLine) (footprints : List Footprint) : Typ
 
 -- ---- what is kept ----
 
--- so many places have the 128 ones from a number on
+-- the 128 blocks from number n on have `room` places
 abbrev pub IsRoom : List Footprint → ℕ → ℕ → Type 0
 IsRoom footprints n room = total_places (take n footprints) + room ≡ total_places (take (n + 128) footprints)
 
--- so many has each group of 128
+-- the numbers say how many places each group of 128 blocks has
 abbrev pub AreRooms : List ℕ → List Footprint → Type 0
 AreRooms rooms footprints = (g room : ℕ) → slice_get rooms g ≡ Some room → IsRoom footprints (g * 128) room
 
--- the blocks lie one behind the other from the base on, and each knows who mentions its label
+-- the blocks lie one after the other from the base on, and each knows which blocks mention its label
 pub record IsLaid (k : KeptLayout) : Type 0 where
   pub in_code : end_from k.base (footprints_of k.blocks.items) ≤ 2 ^ 29
   pub starts : addresses k.lag 0 k.blocks.items ≡ starts_from k.base (footprints_of k.blocks.items)
   pub border : k.lag.border ≤ length k.blocks.items
   pub noted : (j : ℕ) (s : Block) → slice_get k.blocks.items j ≡ Some s → lag_of k.lag j ≤ s.at
   pub alignments : (j : ℕ) (s : Block) → slice_get k.blocks.items j ≡ Some s → IsAlignment s.alignment (drop j (footprints_of k.blocks.items))
-  -- 4 divides the alignments of those that aren't behind a literal and its label
+  -- 4 divides the alignments of the blocks up to the later of a literal and its label
   pub literals : (i j : ℕ) (s : Footprint) (d : Block) → slice_get (footprints_of k.blocks.items) i ≡ Some s → slice_get k.blocks.items j ≡ Some d → j ≤ literal_last i s.head → Divides 4 d.alignment
   pub reach : AllReach k.base (footprints_of k.blocks.items)
   pub targets : (i t : ℕ) (s : Block) (a : Aim) → slice_get k.blocks.items i ≡ Some s → s.head ≡ head.Aims a → a.to ≡ Some (location.Block t) → t < length k.blocks.items
   pub callers : (i t : ℕ) (s d : Block) (a : Aim) → slice_get k.blocks.items i ≡ Some s → s.head ≡ head.Aims a → a.to ≡ Some (location.Block t) → slice_get k.blocks.items t ≡ Some d → Contains d.callers.items i
   pub called : (t i : ℕ) (d : Block) → slice_get k.blocks.items t ≡ Some d → Contains d.callers.items i → i < length k.blocks.items
-  -- the loose ones are known, and so is by how many bytes those of addresses that are set may all come nearer, behind one of the blocks
+  -- the loose mentions are listed, and those of set addresses after the block `slack_from` may all move by `slack` bytes
   pub loose : (j : ℕ) (s : Block) → slice_get k.blocks.items j ≡ Some s → is_loose sort.Label j s.head ≡ true → Contains k.loose.items j
   pub loose_within : (j : ℕ) → Contains k.loose.items j → j < length k.blocks.items
   pub absolute : (j : ℕ) (s : Block) → slice_get k.blocks.items j ≡ Some s → is_loose sort.Address j s.head ≡ true → Contains k.absolute.items j
   pub absolute_within : (j : ℕ) → Contains k.absolute.items j → j < length k.blocks.items
   pub slack : (j at : ℕ) (s : Block) → k.slack_from < j → slice_get k.blocks.items j ≡ Some s → slice_get (starts_from k.base (footprints_of k.blocks.items)) j ≡ Some at → HasSlack k.slack at s.head
-  -- it stands at one of them, before which there are so many places
+  -- the current block is one of them, and `first` places come before it
   pub here : k.here < length k.blocks.items
   pub first : k.first ≡ total_places (take k.here (footprints_of k.blocks.items))
   pub rooms : AreRooms k.rooms.items (footprints_of k.blocks.items)
   pub walls : AreWalls k.walls.items (footprints_of k.blocks.items)
 
--- it is the layout of the lines
+-- k is the layout of the lines
 pub record Lays (k : KeptLayout) (lines : List ListingLine) : Type 0 where
   pub laid : IsLaid k
   pub cut : AreCut lines (footprints_of k.blocks.items)
 
--- it stands where the place is, if there is such a place
+-- the current block has the place, if there is such a place
 pub record IsNear (k : KeptLayout) (place : ℕ) : Type 0 where
   pub from : k.first ≤ place
   pub until : place < total_places (footprints_of k.blocks.items) → (s : Footprint) → slice_get (footprints_of k.blocks.items) k.here ≡ Some s → place < k.first + s.places
 
 -- ---- windows that give way ----
 
--- it is the layout of some lines and stands at a place of theirs, where the window begins
+-- k is the layout of some lines, and the window begins at a place of its current block
 pub record StandsAt (k : KeptLayout) (window : List Instr) : Type 0 where
   pub lines : List ListingLine
   pub place : ℕ

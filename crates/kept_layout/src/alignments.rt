@@ -1,4 +1,4 @@
-//! How far blocks can move together unnoticed, and which mentions may come out of reach by coming nearer.
+//! By multiples of which number blocks can move together with no padding and no literal changed, and which mentions may come out of reach by coming nearer.
 ghost use Rattle.std.specs.Prelude.{◌≡◌, ◌<◌, ◌≤◌, ℕ, true, length, map, drop, slice_get, Some, Contains, IfOk};
 ghost use Rattle.kept_layout.specs.declared.block.Block.{Block as OneBlock};
 ghost use Rattle.kept_layout.specs.Blocks.{is_literal as mentions_literal, is_loose as comes_loose, literal_last as last_of_literal, footprints_of, Divides, IsAlignment, IsAlignmentOf, Footprint};
@@ -11,7 +11,7 @@ use thumb_instr::Instr;
 
 // ---- alignments ----
 
-/// The greater of two numbers, if the other one divides it, and else 0: each of them divides that.
+/// A common multiple of two numbers: the greater one if the other divides it, and else 0.
 fn common(alignment: u32, size: u32) -> u32
     ensures alignment { Divides alignment result }
     ensures size { Divides size result }
@@ -25,7 +25,7 @@ fn common(alignment: u32, size: u32) -> u32
     }
 }
 
-/// A number that the size of a block's alignment divides, and the alignment of those behind it.
+/// A common multiple of `alignment`, that of the blocks after this one, and of the size to which this block aligns.
 fn padded_alignment(head: &Head, alignment: u32) -> u32
     ensures behind { Divides alignment result }
     ensures own { IsAlignmentOf result head.now }
@@ -36,7 +36,7 @@ fn padded_alignment(head: &Head, alignment: u32) -> u32
     }
 }
 
-/// The alignment of a block, by that of those behind it, and by whether a literal or a literal's label isn't before it.
+/// The alignment of a block, from that of the blocks after it and from whether a literal or a literal's label is at or after it.
 fn alignment_of(head: &Head, before_literal: bool, alignment: u32) -> u32
     ensures behind { Divides alignment result }
     ensures own { IsAlignmentOf result head.now }
@@ -50,7 +50,7 @@ fn alignment_of(head: &Head, before_literal: bool, alignment: u32) -> u32
     }
 }
 
-/// Whether an instruction is a literal's.
+/// Whether an instruction is a literal load or `adr`.
 pub(crate) fn is_literal(instr: &Instr) -> bool
     ensures { result ≡ mentions_literal instr.now }
 {
@@ -60,7 +60,7 @@ pub(crate) fn is_literal(instr: &Instr) -> bool
     }
 }
 
-/// The later one of a literal and its label, if the block of a number begins with such a literal: it or its label notices a move that is no multiple of 4.
+/// The later of a block and of its literal's label, if it begins with such a literal load, or else 0: up to there a move must be by a multiple of 4.
 fn literal_last(number: usize, head: &Head) -> usize
     ensures { result ≡ last_of_literal number head.now }
 {
@@ -73,7 +73,7 @@ fn literal_last(number: usize, head: &Head) -> usize
     }
 }
 
-/// The last block that is a literal's or its label's, or the first of all.
+/// The last block that begins with a literal load or with a literal's label, or 0 where there is none.
 fn last_literal(blocks: &[Block]) -> usize
     ensures { (j : ℕ) (s : OneBlock) → slice_get blocks.now j ≡ Some s → last_of_literal j s.head ≤ result }
 {
@@ -102,14 +102,14 @@ pub(crate) fn note_alignments(blocks: &mut Vec<Block>)
 
 // ---- loose mentions ----
 
-/// What a mention that may come out of reach by coming nearer is of: a label, or an address that is set.
+/// Kinds of loose mentions, which may come out of reach by coming nearer: of a label by a literal load at or after it, and of an address that is set.
 #[derive(Clone, Copy)]
 pub enum Loose {
     Label,
     Address,
 }
 
-/// Whether what a block of a number mentions may come out of reach by coming nearer.
+/// Whether a block begins with a loose mention of this kind.
 fn is_loose(loose: Loose, number: usize, head: &Head) -> bool
     ensures { result ≡ comes_loose loose number head.now }
 {
@@ -123,7 +123,7 @@ fn is_loose(loose: Loose, number: usize, head: &Head) -> bool
     }
 }
 
-/// The numbers of blocks whose mention is loose.
+/// The numbers of the blocks that begin with a loose mention of this kind.
 pub(crate) fn find_loose(alloc: Global, blocks: &[Block], of: Loose) -> Result<Vec<usize>, Memory>
     ensures all { IfOk result (λ v. (j : ℕ) (s : OneBlock) → slice_get blocks.now j ≡ Some s → comes_loose of j s.head ≡ true → Contains v.items j) }
     ensures within { IfOk result (λ v. (j : ℕ) → Contains v.items j → j < length blocks.now) }

@@ -1,4 +1,4 @@
-//! Blocks of lines: where they begin, and what they take.
+//! Blocks of lines, in which a kept layout is moved: what they begin with, where they lie, and how many bytes they take.
 ghost use Rattle.std.specs.Prelude.{◌≡◌, ◌+◌, ◌≤◌, ◌^◌, IfOk};
 ghost use Rattle.kept_layout.specs.Blocks.{padding_of as padding_at};
 
@@ -6,7 +6,7 @@ use label_layout::{CODE_END, padding};
 use listing_parser::Memory;
 use thumb_instr::Instr;
 
-/// Where what an instruction mentions lies.
+/// Where a mentioned name lies.
 #[derive(Clone, Copy)]
 pub enum NameLocation {
     /// At the label with which the block of this number begins.
@@ -30,26 +30,26 @@ pub struct Aim {
 pub enum Head {
     /// Nothing that depends on where it lies.
     Plain,
-    /// An alignment to a multiple of `size` bytes, where at most `most` bytes are needed.
+    /// An alignment to a multiple of `size` bytes, unless that takes more than `most` bytes.
     Pads { size: u32, most: u32 },
     /// An instruction that mentions a name.
     Aims(Aim),
 }
 
-/// Lines one behind the other, of which the first alone may have labels, mention a name or align: between two blocks something may have to be looked at, within
-/// one nothing.
+/// Consecutive lines, of which the first alone may have labels, mention a name or align: but for that line nothing in a block depends on where the block
+/// lies.
 #[derive(Drop)]
 pub struct Block {
-    /// The address of its first byte.
+    /// The address that is noted for its first byte: the block lies `Lag::of` bytes before it.
     pub at: u32,
     pub head: Head,
-    /// How many bytes it takes, its padding aside.
+    /// How many bytes it takes, without its padding.
     pub bytes: u32,
     /// How many places it has.
     pub places: usize,
     /// The numbers of the blocks that begin with an instruction that mentions its label.
     pub callers: Vec<usize>,
-    /// A number that the sizes of all alignments from this block on divide, and 4 where a literal or a literal's label isn't before it: 0 where no other is known.
+    /// A multiple of the sizes of all alignments from this block on, and of 4 where a literal or a literal's label is at or after it; 0 if no other is known.
     pub alignment: u32,
 }
 
@@ -63,7 +63,7 @@ fn padding_of(head: &Head, at: u32) -> u32
     }
 }
 
-/// The address behind a block at an address, if it lies in the Code region or is its end.
+/// The address after a block that begins at `at`. `Memory` where it lies past the end of the Code region.
 pub(crate) fn behind(at: u32, head: &Head, bytes: u32) -> Result<u32, Memory>
     requires { at ≤ 2 ^ 29 }
     ensures value { IfOk result (λ end. end ≡ at + (padding_at head.now at + bytes)) }

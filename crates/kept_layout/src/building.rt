@@ -39,7 +39,7 @@ fn number_at(before: usize, line: &ListingLine) -> usize
     if begins(line) { before + 1 } else { before }
 }
 
-/// Of each line, the number of its block. The first block has the lines before the first that begins one.
+/// For each line, the number of its block. Block 0 has the lines before the first line that begins a block.
 fn number_lines(alloc: Global, lines: &[ListingLine]) -> Result<Vec<usize>, Memory>
     ensures { IfOk result (λ numbers. numbers.items ≡ numbers_from 0 (map line_view lines.now)) }
 {
@@ -90,7 +90,7 @@ fn head_of(listing: &Listing, numbers: &[usize], statement: &Statement) -> Head
     }
 }
 
-/// How many bytes a statement takes, a padding aside, if no more than the Code region has.
+/// How many bytes a statement takes, without a padding. `Memory` where they are more than the Code region has.
 fn bytes_in(statement: &Statement) -> Result<u32, Memory>
     ensures value { IfOk result (λ bytes. bytes ≡ bytes_besides (statement_view statement.now)) }
     ensures in_code { IfOk result (λ bytes. bytes ≤ 2 ^ 29) }
@@ -156,7 +156,7 @@ fn add_line(block: &mut Block, line: &ListingLine) -> Result<(), Memory>
 
 // ---- all of them ----
 
-/// The blocks of a listing's lines from a base, which know neither their callers nor their alignments yet.
+/// The blocks of a listing's lines, laid out from a base. Their callers and alignments aren't noted yet.
 pub(crate) fn lay(alloc: Global, listing: &Listing, base: u32) -> Result<Vec<Block>, Memory>
     ensures footprints { IfOk result (λ v. footprints_of v.items ≡ part_footprints listing.now) }
     ensures starts { IfOk result (λ v. map (λ s. s.at) v.items ≡ starts_from base (part_footprints listing.now)) }
@@ -215,7 +215,7 @@ fn add_caller(block: &mut Block, number: usize) -> Result<(), Memory>
     Ok(())
 }
 
-/// Lets each block know which ones mention its label.
+/// Notes for each block which blocks mention its label.
 pub(crate) fn note_callers(blocks: &mut Vec<Block>) -> Result<(), Memory>
     requires met { AreMet (footprints_of blocks.old.items) }
     requires callers { AreCallers blocks.old.items }

@@ -1,4 +1,4 @@
-//! Which blocks stay as they are where they move by an even number of bytes together with what is around them: they needn't be looked at one by one.
+//! Calm blocks: where they move by an even number of bytes together with what is around them, no padding and no reach changes, so none is looked at.
 ghost use Rattle.std.specs.Prelude.{◌≡◌, ◌<◌, ℕ, true, false, length, slice_get, IfOk, Some, Contains};
 ghost use Rattle.kept_layout.specs.declared.block.Block.{Block as OneBlock};
 ghost use Rattle.kept_layout.specs.Blocks.{begins_literal as has_literal, is_calm as stays_calm, footprints_of, AreWalls, IsCalm};
@@ -11,7 +11,7 @@ use crate::kept::KeptLayout;
 use listing_parser::Memory;
 use std::alloc::Global;
 
-/// Whether what a block begins with stays as it is where it and what it mentions move by one even number of bytes.
+/// Whether what a block begins with is calm: where it and what it mentions move by one even number of bytes, neither its padding nor its reach changes.
 fn is_calm_head(head: &Head) -> bool
     ensures { result ≡ stays_calm head.now }
 {
@@ -35,7 +35,7 @@ fn begins_literal(head: &Head) -> bool
     }
 }
 
-/// Whether the block of a number does.
+/// Whether the block of this number begins with a literal's instruction.
 fn is_literal_at(blocks: &[Block], number: usize) -> bool
     requires { number < length blocks.now }
     ensures { (s : OneBlock) → slice_get blocks.now number ≡ Some s → result ≡ has_literal s.head }
@@ -56,7 +56,7 @@ fn are_no_literals(blocks: &[Block], numbers: &[usize]) -> bool
     true
 }
 
-/// Whether a block stays as it is where it and what is around it move by one even number of bytes.
+/// Whether a block is calm: what it begins with is, and no literal mentions its label.
 fn is_calm(blocks: &[Block], number: usize) -> bool
     requires within { number < length blocks.now }
     requires known { KnowCallers (length blocks.now) blocks.now }
@@ -79,7 +79,7 @@ fn numbers(alloc: Global, count: usize) -> Result<Vec<usize>, Memory>
     Ok(numbers)
 }
 
-/// For each block the first one at or behind it up to which all are calm.
+/// For each block its wall: the first block from it on that isn't calm, or the last block.
 pub(crate) fn find_walls(alloc: Global, blocks: &[Block]) -> Result<Vec<usize>, Memory>
     requires known { KnowCallers (length blocks.now) blocks.now }
     requires callers { AreCallers blocks.now }
@@ -98,7 +98,7 @@ pub(crate) fn find_walls(alloc: Global, blocks: &[Block]) -> Result<Vec<usize>, 
 }
 
 impl KeptLayout {
-    /// The first block behind the one that it stands at up to which all are calm.
+    /// The wall of the block after the current one, up to which all are calm; one past the last block where none follows.
     pub(crate) fn wall(&self) -> usize
         requires { self.now.here < length self.now.blocks.items }
         ensures { result ≡ wall_of self.now }

@@ -1,4 +1,4 @@
-//! Blocks in groups, of each of which it is known how many places it has: a place that is far away is reached by going over groups.
+//! How many places each group of 128 blocks has, so that a place that is far away is reached by going over groups.
 ghost use Rattle.std.specs.Prelude.{◌≡◌, ◌+◌, ◌/◌, ◌≤◌, ℕ, false, true, slice_get, IfOk, IfSome, Some};
 ghost use Rattle.kept_layout.specs.Blocks.{footprints_of};
 ghost use Rattle.kept_layout.specs.Kept.{IsRoom, AreRooms, IsLaid};
@@ -11,7 +11,7 @@ use std::alloc::Global;
 /// How many blocks a group has.
 const GROUP: usize = 128;
 
-/// How many places each group of blocks has that is full.
+/// How many places each full group of blocks has.
 pub(crate) fn find_rooms(alloc: Global, blocks: &[Block]) -> Result<Vec<usize>, Memory>
     ensures { IfOk result (λ v. AreRooms v.items (footprints_of blocks.now)) }
 {
@@ -30,7 +30,7 @@ pub(crate) fn find_rooms(alloc: Global, blocks: &[Block]) -> Result<Vec<usize>, 
     Ok(rooms)
 }
 
-/// Takes so many places from the group in which a block is.
+/// Subtracts `gone` from the places of the group in which a block is.
 pub(crate) fn take_places(rooms: &mut Vec<usize>, number: usize, gone: usize)
     requires { (r : ℕ) → slice_get rooms.old.items (number / 128) ≡ Some r → gone ≤ r }
     ensures own { (r : ℕ) → slice_get rooms.new.items (number / 128) ≡ Some r → slice_get rooms.old.items (number / 128) ≡ Some (r + gone) }
@@ -43,7 +43,7 @@ pub(crate) fn take_places(rooms: &mut Vec<usize>, number: usize, gone: usize)
 }
 
 impl KeptLayout {
-    /// How many places the group has that begins at a block, if a full one does.
+    /// How many places the full group has that begins at a block, if one does.
     fn room(&self, number: usize) -> Option<usize>
         requires { IsLaid self.now }
         ensures { IfSome result (λ r. IsRoom (footprints_of self.now.blocks.items) number r) }
@@ -56,7 +56,7 @@ impl KeptLayout {
         }
     }
 
-    /// Moves over a group, if one begins where it stands and ends before the place, and another block is behind it.
+    /// Moves the current block on by a group, if a full one begins there that doesn't reach the place, and a block follows it. Answers whether it moved.
     pub(crate) fn leap_on(&mut self, place: usize) -> bool
         requires laid { IsLaid self.old }
         requires from { self.old.first ≤ place }
@@ -79,7 +79,7 @@ impl KeptLayout {
         true
     }
 
-    /// Moves back over a group, if one ends where it stands and the place is before it.
+    /// Moves the current block back by a group, if a full one ends right before it and begins after the place. Answers whether it moved.
     pub(crate) fn leap_back(&mut self, place: usize) -> bool
         requires { IsLaid self.old }
         ensures laid { IsLaid self.new }

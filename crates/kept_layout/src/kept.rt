@@ -1,4 +1,4 @@
-//! The layout of lines that are being rewritten. A replacement looks only at what depends on where lines lie, not at each line behind it.
+//! The layout of lines that are being rewritten. A replacement looks only at what depends on where lines lie, not at each line after it.
 ghost use Rattle.std.specs.Prelude.{◌≡◌, ◌-◌, ◌*◌, ◌≤◌, ◌^◌, length};
 
 use crate::alignments::{Loose, find_loose, note_alignments};
@@ -12,26 +12,26 @@ use listing_parser::{Listing, Memory};
 use std::alloc::Global;
 use thumb_instr::Instr;
 
-/// The layout of lines from a base, in which instructions give way to fewer ones: blocks of lines, with what depends on where they lie.
+/// The layout of lines from a base, in which windows give way to at most as many instructions: blocks of lines, with what depends on where they lie.
 #[derive(Drop)]
 pub struct KeptLayout {
     pub base: u32,
     pub blocks: Vec<Block>,
-    /// The number of the block that it stands at.
+    /// The number of the current block, at which the layout stands.
     pub here: usize,
-    /// How many places stand before that block.
+    /// How many places come before the current block.
     pub first: usize,
-    /// How many places each group of blocks has.
+    /// How many places each full group of 128 blocks has.
     pub rooms: Vec<usize>,
-    /// For each block the first one at or behind it up to which all stay as they are where they move by an even number of bytes.
+    /// For each block the first one from it on that isn't calm, or the last one: up to it no block is looked at where all move by an even number of bytes.
     pub walls: Vec<usize>,
-    /// How many bytes before where they were noted they lie: those moved together, and none was looked at.
+    /// How many bytes blocks lie before their noted addresses, since they moved together.
     pub lag: Lag,
-    /// The numbers of the blocks that begin with a mention of a label that may come out of reach by coming nearer.
+    /// The numbers of the blocks that begin with a mention of a label which may come out of reach by coming nearer.
     pub loose: Vec<usize>,
     /// The numbers of the blocks that begin with a mention of an address that is set.
     pub absolute: Vec<usize>,
-    /// By how many bytes those behind the block `slack_from` may all still come nearer.
+    /// By how many bytes the mentions of set addresses after the block `slack_from` may all still move towards the base and stay within reach.
     pub slack: u32,
     pub slack_from: usize,
 }
@@ -57,7 +57,7 @@ impl KeptLayout {
     ghost use Rattle.kept_layout.specs.Kept.{Lays, IsNear, LeavesLayable, StandsAt};
     ghost use Rattle.kept_layout.specs.Moves.{IsMoved};
 
-    /// The layout of a listing that can be laid out from the base. It stands at the first place.
+    /// The layout of a listing that can be laid out from the base. Its current block is that of the first place.
     pub fn of(alloc: Global, listing: &Listing, base: u32) -> Result<KeptLayout, Memory>
         requires { Layable base listing.now }
         ensures lays { IfOk result (λ k. Lays k listing.now) }
@@ -94,7 +94,7 @@ impl KeptLayout {
         Ok(kept)
     }
 
-    /// How blocks move where a window, which begins where the layout stands, gives way to fewer instructions: none where the lines can't be laid out then.
+    /// How blocks move if a window, which begins in the current block, gives way to at most as many instructions. None if the lines can't be laid out then.
     pub fn may_give_way(
         &self,
         alloc: Global,
@@ -112,7 +112,7 @@ impl KeptLayout {
         self.move_within_reach(alloc, bytes)
     }
 
-    /// Lets a window, which begins where the layout stands, give way to fewer instructions, by which blocks move so, and which leaves lines that can be laid out.
+    /// Lets a window, which begins in the current block, give way to at most as many instructions. `moved` is what `may_give_way` answered for these.
     pub fn give_way(&mut self, window: &[Instr], new: &[Instr], moved: &Move) -> Result<(), Memory>
         requires leaves { LeavesLayable self.old window.now new.now }
         requires some { 0 < length window.now }

@@ -1,21 +1,21 @@
-//! Blocks that moved together lie some bytes before where they were noted, so that none of them has to be noted anew.
+//! Blocks that moved together lie by one number of bytes, their lag, before their noted addresses, so that none of these has to be written anew.
 ghost use Rattle.std.specs.Prelude.{◌≡◌};
 ghost use Rattle.kept_layout.specs.Blocks.{lag_of};
 
-/// How many bytes before where they were noted blocks lie.
+/// The lags of blocks: how many bytes they lie before their noted addresses.
 #[derive(Clone, Copy)]
 pub struct Lag {
-    /// Those from this number on lie `shift` bytes before.
+    /// Blocks from this number on have the lag `shift`.
     pub border: usize,
     pub shift: u32,
-    /// Of those before the border, the ones from this number up to before `until` lie `gap` bytes before.
+    /// Of the blocks before the border, those in `from..until` have the lag `gap`, and the others none.
     pub from: usize,
     pub until: usize,
     pub gap: u32,
 }
 
 impl Lag {
-    /// How many bytes before where it was noted the block of a number lies.
+    /// How many bytes the block of this number lies before its noted address.
     pub(crate) fn of(&self, number: usize) -> u32
         ensures { result ≡ lag_of self.now number }
     {

@@ -1,5 +1,5 @@
-//! The layout of lines in which instructions give way to fewer ones, kept: only what moves is looked at, up to where all that is behind stays or moves by one distance
-//! that nothing there notices.
+//! A layout that is kept while windows give way to at most as many instructions. A replacement looks only at the blocks that move, up to where all the rest
+//! stays, or moves by one distance that no padding and no literal notices.
 #![tactic(auto)]
 
 mod alignments;

@@ -1,4 +1,4 @@
-//! What moves when a block takes fewer bytes: it alone is looked at.
+//! Moves the current block of a layout to that of a place.
 ghost use Rattle.std.specs.Prelude.{◌≡◌, ◌≤◌, List};
 ghost use Rattle.thumb_model.specs.Listing.{ListingLine as Listed};
 ghost use Rattle.kept_layout.specs.Kept.{IsLaid, IsNear, Lays};
@@ -6,7 +6,7 @@ ghost use Rattle.kept_layout.specs.Kept.{IsLaid, IsNear, Lays};
 use crate::kept::KeptLayout;
 
 impl KeptLayout {
-    /// Moves on, as long as the place isn't within the block that it stands at and another one is behind that.
+    /// Moves on until the place is within the current block, or that is the last one.
     fn go_on(&mut self, place: usize)
         requires laid { IsLaid self.old }
         requires from { self.old.first ≤ place }
@@ -30,7 +30,7 @@ impl KeptLayout {
         }
     }
 
-    /// Moves back until the place doesn't stand before the block that it stands at.
+    /// Moves back until the current block doesn't begin after the place.
     fn go_back(&mut self, place: usize)
         requires { IsLaid self.old }
         ensures laid { IsLaid self.new }
@@ -48,7 +48,7 @@ impl KeptLayout {
         }
     }
 
-    /// Moves to a place. It costs as many groups of blocks as lie between, and at most the blocks of two.
+    /// Moves to the block of a place. It costs a step for each group of blocks in between, and for each block of two groups at most.
     pub fn go_to(&mut self, place: usize)
         requires { IsLaid self.old }
         ensures lays { (lines : List Listed) → Lays self.old lines → Lays self.new lines }

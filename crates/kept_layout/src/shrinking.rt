@@ -1,5 +1,5 @@
-//! What moves when a block takes fewer bytes, up to where all that is behind moves by one distance that no padding and no literal notices: that is noted for all of
-//! them at once.
+//! Carries out a move: a block takes fewer bytes, the blocks after it get new addresses, and from where all the rest moves by one distance that is noted for
+//! all of them at once.
 ghost use Rattle.std.specs.Prelude.{◌≡◌, ◌+◌, ◌-◌, ◌<◌, ◌≤◌, ℕ, true, length, slice_get, IfOk, OnOk, Some, map};
 ghost use Rattle.kept_layout.specs.declared.block.Block.{Block as OneBlock};
 ghost use Rattle.kept_layout.specs.Blocks.{lag_of, lessen, located, footprints_of, AllReach, Footprint};
@@ -12,12 +12,12 @@ use crate::kept::KeptLayout;
 use crate::lag::Lag;
 use listing_parser::Memory;
 
-/// How blocks move if one of them takes fewer bytes.
+/// How blocks move if the current one takes fewer bytes.
 #[derive(Drop)]
 pub struct Move {
-    /// The new addresses of those from the wall behind it on; the calm ones before that come as many bytes nearer as go.
+    /// The new addresses of the blocks from the wall on. The calm blocks before the wall lie earlier by the bytes that go.
     pub at: Vec<u32>,
-    /// How many bytes earlier all those lie that are behind these.
+    /// How many bytes earlier all blocks after these lie.
     pub by: u32,
 }
 
@@ -31,7 +31,7 @@ fn take_from(block: &mut Block, bytes: u32, gone: usize)
     block.places -= gone;
 }
 
-/// What is noted of a block, which lay at an address.
+/// The address to note for a block that lay at `old`: that after the move, with the block's new lag added.
 fn note(
     kept: &KeptLayout,
     moved: &Move,
@@ -60,7 +60,7 @@ fn note(
 }
 
 impl KeptLayout {
-    /// Where a block begins.
+    /// The address of a block.
     pub(crate) fn address(&self, number: usize) -> u32
         requires within { number < length self.now.blocks.items }
         requires noted { (s : OneBlock) → slice_get self.now.blocks.items number ≡ Some s → lag_of self.now.lag number ≤ s.at }
@@ -69,7 +69,7 @@ impl KeptLayout {
         self.blocks[number].at - self.lag.of(number)
     }
 
-    /// Where a block begins then.
+    /// The address of a block after the move.
     pub(crate) fn new_address(&self, moved: &Move, bytes: u32, number: usize) -> u32
         requires laid { IsLaid self.now }
         requires is { IsMove self.now (news self.now bytes moved.now.at.items) moved.now.by }
@@ -93,7 +93,7 @@ impl KeptLayout {
 
     // ---- what is noted ----
 
-    /// Notes where a block begins then.
+    /// Notes the address of a block after the move.
     fn note_one(&mut self, moved: &Move, bytes: u32, lag: &Lag, number: usize) -> Result<(), Memory>
         requires here { self.old.here < length self.old.blocks.items }
         requires within { number < length self.old.blocks.items }
@@ -109,7 +109,7 @@ impl KeptLayout {
         Ok(())
     }
 
-    /// Notes where the blocks from one up to before another one begin then.
+    /// Notes the addresses of the blocks in `from..until` after the move.
     fn note_range(
         &mut self,
         moved: &Move,
@@ -131,7 +131,7 @@ impl KeptLayout {
         Ok(())
     }
 
-    /// Whether the calm ones that lie before where they were noted are those up to the wall behind the one that it stands at.
+    /// Whether the blocks with the lag `gap` end right at the wall, so that the gap can go on for them.
     fn keeps_gap(&self) -> bool
         requires { self.now.here < length self.now.blocks.items }
         ensures { result ≡ keeps_gap self.now }
@@ -140,7 +140,7 @@ impl KeptLayout {
         self.lag.until == wall && wall <= self.lag.border
     }
 
-    /// How many bytes before where they were noted the calm ones up to the wall lie then.
+    /// The lag of the calm blocks up to the wall after the move.
     fn new_gap(&self, bytes: u32) -> Result<u32, Memory>
         requires { self.now.here < length self.now.blocks.items }
         ensures { IfOk result (λ gap. keeps_gap self.now ≡ true → gap ≡ self.now.lag.gap + bytes) }
@@ -152,7 +152,7 @@ impl KeptLayout {
         }
     }
 
-    /// How many bytes before where they are noted blocks lie then.
+    /// The lags of blocks after the move.
     fn new_lag(&self, moved: &Move, bytes: u32) -> Result<Lag, Memory>
         requires laid { IsLaid self.now }
         requires is { IsMove self.now (news self.now bytes moved.now.at.items) moved.now.by }
@@ -170,7 +170,7 @@ impl KeptLayout {
         })
     }
 
-    /// Notes where blocks begin then: those that lie further before where they were noted than before, all by as much, aren't looked at.
+    /// Notes the addresses of blocks after the move. Blocks whose lag grows by just the bytes by which they move aren't looked at.
     fn note_all(&mut self, moved: &Move, bytes: u32, lag: &Lag) -> Result<(), Memory>
         requires laid { IsLaid self.old }
         requires is { IsMove self.old (news self.old bytes moved.now.at.items) moved.now.by }
@@ -197,7 +197,7 @@ impl KeptLayout {
         }
     }
 
-    /// Takes so many bytes and places from the block that it stands at, by which blocks move so, and all mentions stay within reach.
+    /// Takes so many bytes and places from the current block. `moved` is how blocks then move, and all mentions must stay within reach.
     pub(crate) fn shrink(&mut self, moved: &Move, bytes: u32, gone: usize) -> Result<(), Memory>
         requires laid { IsLaid self.old }
         requires moved { IsMoved self.old bytes moved.now.at.items moved.now.by }

@@ -1,4 +1,4 @@
-//! By how many bytes the mentions of addresses that are set may all come nearer: none of them is looked at as long as moves don't use that up.
+//! Slack: by how many bytes the mentions of addresses that are set may all move and stay within reach. None is looked at as long as moves don't use it up.
 ghost use Rattle.std.specs.Prelude.{◌≡◌, ◌<◌, ℕ, true, List, length, slice_get, Some, None};
 ghost use Rattle.thumb_model.specs.Layout.{aim_fault};
 ghost use Rattle.kept_layout.specs.declared.block.Block.{Block as OneBlock};
@@ -41,14 +41,14 @@ fn slack_of(at: u32, head: &Head) -> u32
 }
 
 impl KeptLayout {
-    /// Whether it is known that no mention of an address that is set comes out of reach then.
+    /// Whether the slack shows that no mention of an address that is set comes out of reach among the blocks that move together.
     pub(crate) fn has_slack(&self, moved: &Move) -> bool
         ensures { result ≡ is_slack_enough self.now moved.now.by }
     {
         moved.by <= self.slack && self.slack_from <= self.here
     }
 
-    /// By how many bytes what a block begins with may come nearer then.
+    /// The slack of what a block begins with, after the move.
     fn own_slack(&self, moved: &Move, bytes: u32, number: usize) -> u32
         requires laid { IsLaid self.now }
         requires is { IsMove self.now (news self.now bytes moved.now.at.items) moved.now.by }
@@ -62,7 +62,7 @@ impl KeptLayout {
         )
     }
 
-    /// By how many bytes they may all come nearer that lie behind the one that it stands at: each of them is looked at.
+    /// The slack of all mentions after the current block, after the move: each of them is looked at.
     fn slack_behind(&self, moved: &Move, bytes: u32) -> u32
         requires laid { IsLaid self.now }
         requires is { IsMove self.now (news self.now bytes moved.now.at.items) moved.now.by }
@@ -79,7 +79,7 @@ impl KeptLayout {
         slack
     }
 
-    /// By how many bytes they may all come nearer where those that move together may do so: only those that move by themselves are looked at.
+    /// The slack that is left after the move, where it suffices for that: only blocks that move by themselves are looked at.
     fn slack_left(&self, moved: &Move, bytes: u32) -> u32
         requires laid { IsLaid self.now }
         requires is { IsMove self.now (news self.now bytes moved.now.at.items) moved.now.by }
@@ -95,7 +95,7 @@ impl KeptLayout {
         slack
     }
 
-    /// By how many bytes they may all come nearer then, and behind which block.
+    /// The slack after the move, and the block after which it holds.
     pub(crate) fn new_slack(&self, moved: &Move, bytes: u32) -> (u32, usize)
         requires laid { IsLaid self.now }
         requires is { IsMove self.now (news self.now bytes moved.now.at.items) moved.now.by }

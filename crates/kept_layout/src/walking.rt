@@ -1,5 +1,5 @@
-//! What moves when a block takes fewer bytes, up to where all that is behind moves by one distance that no padding and no literal notices. What comes out of reach is
-//! seen on the way, as soon as it is known where both of its ends lie, and ends the way there.
+//! Finds how blocks move if the current one takes fewer bytes: a walk up to where all the rest moves by one distance that no padding and no literal notices.
+//! A mention that comes out of reach ends the walk as soon as the new addresses of both of its ends are known.
 ghost use Rattle.std.specs.Prelude.{◌≡◌, suc, ◌+◌, ◌-◌, ◌<◌, ◌≤◌, ◌↔◌, ℕ, true, length, slice_get, is_some, IfOk, IfSome, IfNone, Some, Contains, false};
 ghost use Rattle.kept_layout.specs.declared.block.Block.{Block as OneBlock};
 ghost use Rattle.kept_layout.specs.declared.block.NameLocation.TheVariants.{Block as AtBlock};
@@ -23,14 +23,14 @@ const REACH: u32 = 2052;
 /// In code of so many bytes each call reaches each label.
 const SMALL: u32 = 16_000_000;
 
-/// Whether the new address lies before the old one by a multiple of the alignment.
+/// Whether the new address is the old one less a multiple of the alignment.
 fn is_together(new: u32, old: u32, alignment: u32) -> bool
     ensures { result ≡ true → (new ≤ old) × Divides alignment (old - new) }
 {
     new <= old && (new == old || (alignment != 0 && (old - new) % alignment == 0))
 }
 
-/// Of a block of this number and of that whose label it mentions the later one.
+/// The later of a block and of the block whose label it mentions, if it mentions one.
 fn later_end(number: usize, head: &Head) -> usize
     ensures { result ≡ later_end number head.now }
 {
@@ -44,7 +44,7 @@ fn later_end(number: usize, head: &Head) -> usize
 }
 
 impl KeptLayout {
-    /// Where a target lies then.
+    /// The address of a target after the move.
     fn new_target(&self, moved: &Move, bytes: u32, target: Option<NameLocation>) -> Option<u32>
         requires laid { IsLaid self.now }
         requires is { IsMove self.now (news self.now bytes moved.now.at.items) moved.now.by }
@@ -58,7 +58,7 @@ impl KeptLayout {
         }
     }
 
-    /// Whether what a block mentions is within reach then.
+    /// Whether what a block mentions is within reach after the move.
     fn is_right(&self, moved: &Move, bytes: u32, number: usize) -> bool
         requires laid { IsLaid self.now }
         requires is { IsMove self.now (news self.now bytes moved.now.at.items) moved.now.by }
@@ -75,7 +75,7 @@ impl KeptLayout {
         }
     }
 
-    /// Whether a block and the one whose label it mentions lie before those that move together.
+    /// Whether a block and the one whose label it mentions both lie before the blocks that move together.
     fn is_known(&self, moved: &Move, number: usize) -> bool
         requires laid { IsLaid self.now }
         requires within { number < length self.now.blocks.items }
@@ -84,7 +84,7 @@ impl KeptLayout {
         later_end(number, &self.blocks[number].head) < self.wall() + moved.at.len()
     }
 
-    /// Whether what a block mentions is within reach then. It is looked at where both lie before those that move together, or where they don't.
+    /// Whether what a block mentions is within reach after the move. It is looked at only where `is_known` of the block is `known`.
     fn is_right_if(&self, known: bool, moved: &Move, bytes: u32, number: usize) -> bool
         requires laid { IsLaid self.now }
         requires is { IsMove self.now (news self.now bytes moved.now.at.items) moved.now.by }
@@ -98,7 +98,7 @@ impl KeptLayout {
         }
     }
 
-    /// Whether what these blocks mention, as far as it is looked at, is within reach then.
+    /// The same of all of these blocks.
     fn are_right_if(&self, known: bool, moved: &Move, bytes: u32, numbers: &[usize]) -> bool
         requires laid { IsLaid self.now }
         requires is { IsMove self.now (news self.now bytes moved.now.at.items) moved.now.by }
@@ -114,7 +114,7 @@ impl KeptLayout {
         true
     }
 
-    /// Whether what a block mentions and what mentions its label, as far as it is looked at, is within reach then.
+    /// The same of a block and of all blocks that mention its label.
     fn is_met(&self, known: bool, moved: &Move, bytes: u32, number: usize) -> bool
         requires laid { IsLaid self.now }
         requires is { IsMove self.now (news self.now bytes moved.now.at.items) moved.now.by }
@@ -127,9 +127,9 @@ impl KeptLayout {
             && self.are_right_if(known, moved, bytes, &self.blocks[number].callers)
     }
 
-    // ---- the way ----
+    // ---- the walk ----
 
-    /// Where the wall begins then, where the calm ones before it come as many bytes nearer as go.
+    /// The address of the wall after the move, where the calm blocks before it lie earlier by the bytes that go.
     fn wall_address(&self, wall: usize, bytes: u32) -> Result<u32, Memory>
         requires laid { IsLaid self.now }
         requires is { wall ≡ wall_of self.now }
@@ -146,7 +146,7 @@ impl KeptLayout {
         behind(at, &here.head, here.bytes - bytes)
     }
 
-    /// How blocks move if the one that it stands at takes so many bytes fewer: none where a mention is seen to come out of reach on the way.
+    /// How blocks move if the current one takes so many bytes fewer. None where a mention is found to come out of reach on the walk.
     fn walk(&self, alloc: Global, bytes: u32) -> Result<Option<Move>, Memory>
         requires laid { IsLaid self.now }
         requires wide { AreWide (footprints_of self.now.blocks.items) }
@@ -180,9 +180,9 @@ impl KeptLayout {
         Ok(Some(moved))
     }
 
-    // ---- the end of the way ----
+    // ---- the end of the walk ----
 
-    /// Whether no call of a label comes out of reach then, wherever both lie.
+    /// Whether the code is so small that no call of a label comes out of reach after the move.
     fn is_small(&self, bytes: u32) -> bool
         requires { IsLaid self.now }
         ensures { result ≡ true → (j at end : ℕ) → slice_get (starts_of self.now) 0 ≡ Some at → suc j ≡ length self.now.blocks.items → slice_get (starts_of self.now) j ≡ Some end → end + bytes ≤ at + 16000000 }
@@ -192,7 +192,7 @@ impl KeptLayout {
         bytes <= SMALL && end.saturating_sub(start) <= SMALL - bytes
     }
 
-    /// The first of the calm blocks before the wall that are looked at, since what moves together behind the wall may come too far away from them.
+    /// The first calm block before the wall that is looked at: where the blocks that move together move by less, they may come out of the calm ones' reach.
     fn near(&self, moved: &Move, bytes: u32) -> usize
         requires { IsLaid self.now }
         ensures { AreFar self.now bytes moved.now.by result }
@@ -219,7 +219,7 @@ impl KeptLayout {
         number
     }
 
-    /// Whether the mentions of addresses that are set are within reach then: they are looked at where it isn't known.
+    /// Whether the mentions of addresses that are set are within reach after the move. They are looked at where the slack doesn't suffice.
     fn keeps_reach(&self, moved: &Move, bytes: u32) -> bool
         requires laid { IsLaid self.now }
         requires is { IsMove self.now (news self.now bytes moved.now.at.items) moved.now.by }
@@ -229,7 +229,7 @@ impl KeptLayout {
         self.has_slack(moved) || self.are_right_if(false, moved, bytes, &self.absolute)
     }
 
-    /// Whether all that could come out of reach is within reach then, where all is that was seen on the way.
+    /// Whether all that could come out of reach is within reach after the move, where all that was looked at on the walk is.
     fn all_reach(&self, moved: &Move, bytes: u32) -> bool
         requires laid { IsLaid self.now }
         requires wide { AreWide (footprints_of self.now.blocks.items) }
@@ -255,7 +255,7 @@ impl KeptLayout {
                 && self.keeps_reach(moved, bytes))
     }
 
-    /// How blocks move if the one that it stands at takes so many bytes fewer: none where a mention would be out of reach.
+    /// How blocks move if the current one takes so many bytes fewer. None where a mention would be out of reach.
     pub(crate) fn move_within_reach(
         &self,
         alloc: Global,

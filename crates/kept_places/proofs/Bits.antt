@@ -1,4 +1,4 @@
--- Bits of words.
+-- Bits of words: what setting, clearing and searching them does to a set of places.
 use Rattle.std.proofs.Common.{◌≡◌, ◌≢◌, ℕ, zero, suc, ◌+◌, ◌-◌, ◌*◌, ◌/◌, ◌%◌, ◌^◌, ◌<◌, ◌≤◌, ◌==◌, Bool, true, false, List, [], ◌∷◌, ◌++◌, length, replicate, refl, sym, ap, ◌∙◌, inl, inr, bit_and, bit_or, nat_lt, arith, eq-eqb}
 use Rattle.std.specs.Prelude.{slice_set, slice_index}
 use Rattle.std.specs.Int.{bit_at, bit_not, w64, leading_zeros}
@@ -81,7 +81,7 @@ none_before words from to b z p h = elim (cases_lt (p / 64) from) [
   | inr l ↦ none_in words p (z (p / 64) l (omega arith))
 ]
 
--- nor behind one
+-- nor after a word, likewise
 pub none_behind : (words : List ℕ) (from to : ℕ) → ((p : ℕ) → to * 64 ≤ p → has words p ≡ false) → ((k : ℕ) → from ≤ k → k < to → slice_index words k ≡ 0) → (p : ℕ) → from * 64 ≤ p → has words p ≡ false
 none_behind words from to b z p h = elim (cases_lt (p / 64) to) [
   | inl l ↦ none_in words p (z (p / 64) (omega arith) l)

@@ -20,7 +20,7 @@ marked_has n words c p = elim (cases_lt p n) [
   | inr h ↦ marked_past (marks_of n words) p (omega (arith, h, many_marks n words)) ∙ sym (c p h)
 ]
 
--- one bit is another
+-- one bit changes, and with it one mark
 pub marks_put : (n : ℕ) (old new : List ℕ) (p : ℕ) (b : Bool) → p < n → has new p ≡ b → ((q : ℕ) → q ≢ p → has new q ≡ has old q) → marks_of n new ≡ slice_set (marks_of n old) p b
 marks_put n old new p b h e o = sym (fill_by_all (has new) (slice_set (marks_of n old) p b) n true (length-set (marks_of n old) p b ∙ many_marks n old) at)
   where
@@ -63,7 +63,7 @@ pub found_greatest : (words ws : List ℕ) (past to w i word : ℕ) → ws ≡ w
 found_greatest words ws past to w i word s b z t e h one none =
     greatest_in words w i (λ p l. none_behind words to past b (λ k x y. ap (λ (l : List ℕ). slice_index l k) (sym s) ∙ z k x y) p (omega arith)) h (ap (λ v. bit_at v i) (sym e) ∙ one) (λ j l. ap (λ v. bit_at v j) (sym e) ∙ none j l)
 
--- no bit is set where no word from the least on up to the past is used
+-- no bit is set where all words from `least` up to `past` are 0
 pub none_up_to : (words ws : List ℕ) (least past w : ℕ) → ws ≡ words → ((p : ℕ) → p < least * 64 → has words p ≡ false) → ((p : ℕ) → past * 64 ≤ p → has words p ≡ false) → ((k : ℕ) → least ≤ k → k < w → slice_index ws k ≡ 0) → past ≤ w → (p : ℕ) → has words p ≡ false
 none_up_to words ws least past w s b f z h p = elim (cases_lt p (past * 64)) [
   | inl l ↦ none_before words least w b (λ k x y. ap (λ (l : List ℕ). slice_index l k) (sym s) ∙ z k x y) p (omega arith)

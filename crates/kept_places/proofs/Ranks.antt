@@ -51,7 +51,7 @@ pub rank_zero : (gone : List Bool) → rank gone 0 ≡ 0
 rank_zero [] = refl
 rank_zero (g ∷ gs) = refl
 
--- the place behind one that is gone has the same rank
+-- the place after one that is gone has the same rank
 pub rank_gone : (gone : List Bool) (p : ℕ) → is_gone gone p ≡ true → rank gone (suc p) ≡ rank gone p
 rank_gone [] p e = absurd (cc)
 rank_gone (true ∷ gs) zero e = rank_zero gs
@@ -59,7 +59,7 @@ rank_gone (false ∷ gs) zero e = absurd (cc)
 rank_gone (true ∷ gs) (suc p) e = rank_gone gs p e
 rank_gone (false ∷ gs) (suc p) e = ap suc (rank_gone gs p e)
 
--- the place behind a kept one has the next
+-- the place after a kept one has the next rank
 pub rank_kept : (gone : List Bool) (p : ℕ) → is_gone gone p ≡ false → rank gone (suc p) ≡ suc (rank gone p)
 rank_kept [] p e = refl
 rank_kept (true ∷ gs) zero e = absurd (cc)
@@ -123,7 +123,7 @@ rank_set_before (g ∷ gs) zero (suc q) h = absurd (omega arith)
 rank_set_before (true ∷ gs) (suc p) (suc q) h = rank_set_before gs p q (omega arith)
 rank_set_before (false ∷ gs) (suc p) (suc q) h = ap suc (rank_set_before gs p q (omega arith))
 
--- behind it they are one less
+-- after it they are one less
 pub rank_set_behind : (gone : List Bool) (p q : ℕ) → p < length gone → is_gone gone p ≡ false → p < q → suc (rank (slice_set gone p true) q) ≡ rank gone q
 rank_set_behind [] p q l e h = absurd (omega arith)
 rank_set_behind (g ∷ gs) p zero l e h = absurd (omega arith)

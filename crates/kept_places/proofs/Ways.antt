@@ -1,4 +1,4 @@
--- Ways from place to place, and the first of the gone places before a kept one.
+-- Links from place to place, and the first of the gone places before a kept one.
 use Rattle.std.proofs.Common.{◌≡◌, ◌≢◌, ◌↔◌, ℕ, ◌+◌, ◌<◌, ◌≤◌, Bool, true, false, List, length, replicate, sym, ap, ◌∙◌, inl, inr, subst, arith}
 use Rattle.std.specs.Prelude.{slice_set, slice_index}
 use Rattle.std.proofs.lemmas.Bool.{cases_eq, cases_order, false_from_ne_true}
@@ -20,7 +20,7 @@ put_here xs p x h = get_or-set_same xs p x 0 h
 put_else : (xs : List ℕ) (p x q : ℕ) → q ≢ p → slice_index (slice_set xs p x) q ≡ slice_index xs q
 put_else xs p x q d = get_or-set_other xs p q x 0 d
 
--- a place may lead to any behind it up to which all places between lead on
+-- a place may lead to any later one, if all places between lead on
 pub led_to : (next : List ℕ) (p q : ℕ) → LeadOn next → p < q → q < length next → ((k : ℕ) → p < k → k < q → k < slice_index next k) → LeadOn (slice_set next p q)
 led_to next p q l h w b = record { from = from; within = within; between = between }
   where

@@ -8,11 +8,11 @@ use Rattle.kept_places.specs.declared.set.PlaceSet.TheInside.{Inside}
 abbrev pub has : List ℕ → ℕ → Bool
 has words p = bit_at (slice_index words (p / 64)) (p % 64) == 1
 
--- the marks of n places by words
+-- the marks of n places, by the bits of words
 abbrev pub marks_of : ℕ → List ℕ → List Bool
 marks_of n words = map (has words) (range_with_len 0 n)
 
--- no bit is set past the places, nor in the words before the least or behind the greatest
+-- no bit is set past the places, nor in the words before `least` or from `past` on
 pub record AreMembers (s : Inside) : Type 0 where
   pub as_many : length s.words.items ≡ s.count / 64 + 1
   pub clean : (p : ℕ) → s.count ≤ p → has s.words.items p ≡ false

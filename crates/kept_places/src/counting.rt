@@ -1,7 +1,7 @@
-//! How many places are gone, by groups, so that a place's number among the kept ones is a sum of a few counts.
+//! Counts of the places that are gone, by groups, so that a place's number among the kept ones takes few additions.
 ghost use Rattle.std.specs.Prelude.{◌≡◌, ◌+◌, ◌^◌, ◌<◌, ◌≤◌, length, sum, count_by, slice_index, slice_range, slice_set};
 
-/// The sum of the counts of some groups.
+/// The sum of the counts of the groups in `from..to`.
 pub(crate) fn total(counts: &[u32], from: usize, to: usize) -> u32
     requires range { from ≤ to }
     requires within { to ≤ length counts.now }
@@ -11,7 +11,7 @@ pub(crate) fn total(counts: &[u32], from: usize, to: usize) -> u32
     counts[from..to].iter().sum()
 }
 
-/// How many of some places are gone.
+/// How many of the places in `from..to` are gone.
 pub(crate) fn gone_among(gone: &[bool], from: usize, to: usize) -> u32
     requires range { from ≤ to }
     requires within { to ≤ length gone.now }

@@ -1,4 +1,4 @@
-//! Which places are kept. The one from a place on is found by links that are shortened on the way, and how many are gone before a place by counts of groups.
+//! Which places are kept. The next kept one from a place on is found by links, with path compression; how many are gone before a place, by group counts.
 ghost use Rattle.std.specs.Prelude.{◌≡◌, suc, ◌<◌, ◌≤◌, true, false, [], length, replicate, slice_set, IfNone, IfOk, IfSome, IsTrue, ◌↔◌};
 ghost use Rattle.kept_places.specs.Marks.{is_gone, rank, IsNode, IsStart};
 
@@ -14,7 +14,7 @@ const LARGE: usize = 4096;
 
 /// So many places, of which some are gone. Contracts see it as a mark of each place that says whether it is gone.
 ///
-/// `next` leads from a place that is gone to one behind it, and `first` from a kept one to the first of the gone ones right before it. `small` and `large`
+/// `next` leads from a place that is gone to a later one, and `first` from a kept one to the first of the gone ones right before it. `small` and `large`
 /// count the gone ones by groups.
 #[derive(Drop)]
 pub struct KeptPlaces {
@@ -74,7 +74,7 @@ impl KeptPlaces {
         self.gone[place as usize]
     }
 
-    /// Lets a place be gone.
+    /// Removes a place, where it isn't gone already.
     pub fn remove(&mut self, place: u32)
         requires { place < length self.old }
         ensures { self.new ≡ slice_set self.old place true }
@@ -91,7 +91,7 @@ impl KeptPlaces {
         self.gone[at] = true;
     }
 
-    /// The least kept place from a place on, or the end where none is left.
+    /// The least kept place from a place on, or `len` where none is left.
     pub fn node(&mut self, place: u32) -> u32
         requires { place ≤ length self.old }
         ensures node { IsNode self.old place result }
@@ -122,7 +122,7 @@ impl KeptPlaces {
         if start == 0 { None } else { Some(start - 1) }
     }
 
-    /// How many kept places stand before a place: its number, were the others not there.
+    /// How many kept places come before a place: its number among the kept ones.
     pub fn number(&self, place: u32) -> u32
         requires { place ≤ length self.now }
         ensures { result ≡ rank self.now place }

@@ -1,10 +1,10 @@
-//! Ways from place to place that end at the next one that leads to itself.
+//! Links from each place to itself or to a later one, followed to the first that leads to itself, with path compression as in union-find.
 ghost use Rattle.std.specs.Prelude.{◌≡◌, ℕ, ◌+◌, ◌<◌, ◌≤◌, length, slice_index, IfOk};
 ghost use Rattle.kept_places.specs.Kept.{LeadOn, EndsAt, LeadAlike};
 
 use std::alloc::{AllocError, Global};
 
-/// So many places and the end, each of which leads to itself.
+/// Links of so many places and of the end, each of which leads to itself.
 pub(crate) fn to_themselves(alloc: Global, count: u32) -> Result<Vec<u32>, AllocError>
     ensures as_many { IfOk result (λ next. length next.items ≡ count + 1) }
     ensures same { IfOk result (λ next. (p : ℕ) → p ≤ count → slice_index next.items p ≡ p) }
@@ -33,7 +33,7 @@ pub(crate) fn end(next: &[u32], place: u32) -> u32
     }
 }
 
-/// Lets all places on the way from one lead to its end at once.
+/// Lets all places on the way from `place` to its end lead straight to that end.
 pub(crate) fn shorten(next: &mut Vec<u32>, place: u32, end: u32)
     requires leads { LeadOn next.old.items }
     requires ends { EndsAt next.old.items place end }

@@ -1,4 +1,4 @@
-//! Sets of places as bits. Work that waits is taken least or greatest first, and a pass over all of it looks at each word once.
+//! Sets of places as bits, which serve as worklists: members are taken least or greatest first, and a pass over all of them looks at each word once.
 ghost use Rattle.std.specs.Prelude.{◌≡◌, ℕ, ◌<◌, true, false, length, replicate, slice_set, IfOk, IfSome, IfNone};
 ghost use Rattle.kept_places.specs.Marks.{marked, IsLeast, IsGreatest};
 
@@ -8,8 +8,8 @@ use std::marker::Model;
 
 /// Which of so many places are in a set. Contracts see it as a mark of each place that says whether it is.
 ///
-/// A word has the bits of 64 places. Before the word `least` and from the word `past` on all words are 0, so that taking all places, the least or the
-/// greatest first, passes each word once, and only words between members that were there are passed. Once a set is found empty no word is between.
+/// A word has the bits of 64 places. Before the word `least` and from the word `past` on all words are 0, so that taking all members, the least or the
+/// greatest first, looks at each word once, and at none outside these bounds. Once a set is found empty, there is no word between them.
 #[derive(Drop)]
 pub struct PlaceSet {
     count: u32,
@@ -31,7 +31,7 @@ impl Model for PlaceSet {
 }
 
 impl PlaceSet {
-    /// None of so many places.
+    /// The empty set, of so many places.
     pub fn new(alloc: Global, count: u32) -> Result<Self, AllocError>
         ensures { IfOk result (λ s. s ≡ replicate count false) }
     {
@@ -44,7 +44,7 @@ impl PlaceSet {
         })
     }
 
-    /// All of so many places.
+    /// The full set, of so many places.
     pub fn full(alloc: Global, count: u32) -> Result<Self, AllocError>
         ensures { IfOk result (λ s. s ≡ replicate count true) }
     {
@@ -85,7 +85,7 @@ impl PlaceSet {
         has(&self.words, place)
     }
 
-    /// Takes the least place out of the set, where it has one.
+    /// Takes the least place out of the set. None where the set is empty.
     pub fn take_least(&mut self) -> Option<u32>
         ensures least { IfSome result (λ p. IsLeast self.old p) }
         ensures taken { IfSome result (λ p. self.new ≡ slice_set self.old p false) }
@@ -104,7 +104,7 @@ impl PlaceSet {
         Some(place)
     }
 
-    /// Takes the greatest place out of the set, where it has one.
+    /// Takes the greatest place out of the set. None where the set is empty.
     pub fn take_greatest(&mut self) -> Option<u32>
         ensures greatest { IfSome result (λ p. IsGreatest self.old p) }
         ensures taken { IfSome result (λ p. self.new ≡ slice_set self.old p false) }

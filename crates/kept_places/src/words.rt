@@ -44,7 +44,7 @@ pub(crate) fn clear(words: &mut Vec<u64>, place: u32)
     words[place as usize / 64] &= !(1 << (place % 64));
 }
 
-/// The lowest bit of a word that is set.
+/// The index of the lowest bit of a word that is set.
 pub(crate) fn lowest(word: u64) -> u32
     requires { 0 < word }
     ensures within { result < 64 }
@@ -54,7 +54,7 @@ pub(crate) fn lowest(word: u64) -> u32
     word.trailing_zeros()
 }
 
-/// The highest bit of a word that is set.
+/// The index of the highest bit of a word that is set.
 pub(crate) fn highest(word: u64) -> u32
     requires { 0 < word }
     ensures within { result < 64 }
@@ -64,7 +64,7 @@ pub(crate) fn highest(word: u64) -> u32
     63 - word.leading_zeros()
 }
 
-/// The first word from one on and before the end that isn't 0, or the end.
+/// The index of the first word in `from..end` that isn't 0, or `end` where there is none.
 pub(crate) fn first_used(words: &[u64], from: usize, end: usize) -> usize
     requires { end ≤ length words.now }
     ensures within { result ≤ end }
@@ -81,7 +81,7 @@ pub(crate) fn first_used(words: &[u64], from: usize, end: usize) -> usize
     end
 }
 
-/// The word behind the last one from one on and below another that isn't 0, or the first of both where there is none.
+/// One past the index of the last word in `from..past` that isn't 0, or the lesser of the two bounds where there is none.
 pub(crate) fn past_used(words: &[u64], from: usize, past: usize) -> usize
     requires { past ≤ length words.now }
     ensures within { result ≤ past }

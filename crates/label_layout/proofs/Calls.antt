@@ -1,4 +1,4 @@
--- The return point of a call lies behind it.
+-- The return point of a call lies right after it.
 use Rattle.std.proofs.Common.{◌≡◌, ◌∙◌, inl, inr, ℕ, zero, suc, ◌+◌, ◌-◌, ◌*◌, true, false, List, [], ◌∷◌, ◌++◌, length, map, take, Option, Some, None, refl, sym, ap, arith, true≢false, add-one, if◌then◌else◌}
 use Rattle.std.specs.Prelude.{slice_get}
 use Rattle.std.proofs.Math.Seq.{take-append-add}
@@ -43,7 +43,7 @@ a_return : (k at : ℕ) (s : Statement) (ls : List ListingLine) → ends_in_call
 unfolding return_by
 a_return k at s ls h = rw add-one (rw h refl)
 
--- the return point of each call of lines lies behind it
+-- the return point of each call of lines lies right after it
 Behind : ℕ → List ListingLine → Type 0
 Behind at ls = (p : ℕ) (x : Place) (a : ℕ) → slice_get (places_of ls) p ≡ Some x → is_call x ≡ true → slice_get (addresses_from at ls) p ≡ Some a
     → return_address (call_count (take p (places_of ls))) at ls ≡ a + place_size x
@@ -93,7 +93,7 @@ unfolding Behind
 behind at [] p x a e h f = absurd (let bad : None ≡ Some x = e in cc)
 behind at (l ∷ ls) p x a e h f = by_statement _ at l ls ∙ behind_statement at l.statement ls (behind (at + size_at l.statement at) ls) p x a e h f
 
--- the return point of the k-th call lies behind the place of the call, before which k calls stand
+-- the return point of the k-th call lies right after the place of that call, before which k calls come
 pub return_point : (at : ℕ) (ls : List ListingLine) (p : ℕ) (x : Place) (a : ℕ) → slice_get (places_of ls) p ≡ Some x → is_call x ≡ true → slice_get (addresses_from at ls) p ≡ Some a
     → return_address (call_count (take p (places_of ls))) at ls ≡ a + place_size x
 unfolding Behind

@@ -1,4 +1,4 @@
--- Where the places and labels of lines lie, as a layout tells it.
+-- Where the places and labels of lines lie: what a layout holds, and when it is that of the lines.
 use Rattle.std.specs.Prelude.{◌≡◌, ℕ, Bool, ◌+◌, ◌≤◌, ◌^◌, List, [], ◌∷◌, ◌++◌, Option, Some, None, slice_get, nat_le, if◌then◌else◌}
 use Rattle.std.specs.Map.{lookup}
 use Rattle.std.specs.Str.{bytes_eq}
@@ -28,7 +28,7 @@ abbrev pub addresses_from : ℕ → List ListingLine → List ℕ
 addresses_from at [] = []
 addresses_from at (l ∷ ls) = addresses_in at l.statement ++ addresses_from (at + size_at l.statement at) ls
 
--- what a layout tells: its base, its end, the address of each place, and addresses by the labels' names
+-- what a layout holds: its base, its end, the address of each place, and addresses by the labels' names
 pub record Addresses : Type 0 where
   pub base : ℕ
   pub end : ℕ
@@ -43,13 +43,13 @@ is_key name key = bytes_eq name key.items
 abbrev pub label_of : Addresses → Name → Option ℕ
 label_of a name = lookup (is_key name) a.labels
 
--- they are those of the lines, begun at the base
+-- the addresses are those of the lines, laid out from the base
 pub record AreAddresses (lines : List ListingLine) (a : Addresses) : Type 0 where
   pub end : a.end ≡ end_of a.base lines
   pub places : a.places ≡ addresses_from a.base lines
   pub label : (name : Name) → label_of a name ≡ label_address name a.base lines
 
--- all of them lie in the Code region, or are its end
+-- all addresses lie in the Code region, or are its end
 pub record AreInCode (a : Addresses) : Type 0 where
   pub end : a.end ≤ 2 ^ 29
   pub places : (p address : ℕ) → slice_get a.places p ≡ Some address → address ≤ 2 ^ 29

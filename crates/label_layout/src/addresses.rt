@@ -40,7 +40,7 @@ impl Layout {
         self.base
     }
 
-    /// The address behind the last byte.
+    /// The address one past the last byte.
     pub fn end(&self) -> u32
         ensures value { result ≡ self.now.end }
         ensures in_code { result ≤ 2 ^ 29 }
@@ -57,7 +57,7 @@ impl Layout {
         self.places[place as usize]
     }
 
-    /// The address of the label of the name, where the listing has one: where it stands, before a padding of its own line.
+    /// The address of the label of the name, where the listing has one: before any padding of the label's own line.
     pub fn find_label(&self, name: &[u8]) -> Option<u32>
         ensures value { result ≡ label_of self.now name.now }
         ensures in_code { IfSome result (λ address. address ≤ 2 ^ 29) }
@@ -89,7 +89,7 @@ impl Layout {
     }
 }
 
-/// An address with bit 0 cleared, as a branch to a name for which it is set goes to it.
+/// The address with bit 0 cleared: where a branch goes whose name has this address by `.set`.
 pub fn cleared(address: Option<u32>) -> Option<u32>
     ensures { result ≡ cleared_of address }
 {

@@ -1,4 +1,4 @@
-//! Why a line can't be laid out, with the number that is told of it.
+//! Why a line can't be laid out, with the distance or address that is reported.
 use std::alloc::AllocError;
 use thiserror::Error;
 
@@ -15,7 +15,7 @@ pub enum LayoutFault {
 /// Why a listing cannot be laid out.
 #[derive(Clone, Copy, Debug, PartialEq, Eq, Error)]
 pub enum LayoutError {
-    /// The first line that is refused, by its number from 1, and why. Where both reasons are a line's, it is `Align`.
+    /// The first line that is refused, by its number from 1, and why. Where both faults are a line's, `Align` is reported.
     #[error("line {number}: {kind:?}")]
     Line { number: u64, kind: LayoutFault },
     /// Want of memory, of the process's or of the Code region of the system address map (0x00000000 to 0x1FFFFFFF).

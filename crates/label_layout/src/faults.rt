@@ -1,4 +1,4 @@
-//! What is wrong with a line where it lies: what it mentions is out of its encoding's reach, not aligned, or nowhere.
+//! What is wrong with a line where it lies: what it mentions is out of its encoding's reach, or not aligned. A name without an address is no fault.
 ghost use Rattle.std.specs.Prelude.{◌≡◌, ◌≤◌, ◌<◌, ◌^◌, option_map};
 ghost use Rattle.thumb_model.specs.Layout.{less, branch_fault as branch_fault_at, literal_fault as literal_fault_at, aim_fault as aim_fault_at, fault_at, lies_in};
 ghost use Rattle.listing_parser.specs.Views.{statement_view};
@@ -25,7 +25,7 @@ fn difference(to: u64, from: u64) -> i64
 }
 
 /// What is wrong with a branch that goes from -2 `half` to below 2 `half` bytes from its address and 4.
-/// Nothing is where it has no address to go to.
+/// None where it has no address to go to.
 fn branch_fault(half: u64, at: u32, to: Option<u32>) -> Option<LayoutFault>
     requires { half ≤ 2 ^ 23 }
     ensures { option_map fault_of result ≡ branch_fault_at half at to }
@@ -39,7 +39,7 @@ fn branch_fault(half: u64, at: u32, to: Option<u32>) -> Option<LayoutFault>
     }
 }
 
-/// What is wrong with a literal: it lies at a multiple of 4, and 0 to 1020 bytes behind the instruction's address and 4,
+/// What is wrong with a literal: it must lie at a multiple of 4, 0 to 1020 bytes after the instruction's address and 4
 /// rounded down to such a multiple.
 fn literal_fault(at: u32, to: Option<u32>, plus: u32) -> Option<LayoutFault>
     ensures { option_map fault_of result ≡ literal_fault_at at to plus }
@@ -55,7 +55,7 @@ fn literal_fault(at: u32, to: Option<u32>, plus: u32) -> Option<LayoutFault>
     }
 }
 
-/// What is wrong with an instruction at an address, in bytes, that mentions what lies at `to`, with `plus` added. Nothing is where it mentions what lies nowhere, or
+/// What is wrong with an instruction at an address, in bytes, that mentions what lies at `to`, with `plus` added. None where the name has no address, or
 /// where instructions of its kind mention nothing.
 pub fn aim_fault(at: u32, instr: &Instr, to: Option<u32>, plus: u32) -> Option<LayoutFault>
     ensures { option_map fault_of result ≡ aim_fault_at at instr.now to plus }

@@ -1,4 +1,4 @@
-//! Where each line, label and place lies when lines are laid out one behind the other from a base.
+//! Where each line, label and place lies when lines are laid out one after the other from a base.
 ghost use Rattle.std.specs.Prelude.{◌≡◌, ◌+◌, ◌*◌, ◌≤◌, ◌<◌, ◌^◌, ◌++◌, map, length, IfOk, OnOk, OnErr, MatchResult, Some, None, if◌then◌else◌};
 ghost use Rattle.std.specs.Map.{lookup};
 ghost use Rattle.std.specs.Str.{bytes_eq};
@@ -17,7 +17,7 @@ use indexmap::IndexMap;
 use listing_parser::{Listing, ListingLine, Memory, Statement, Value};
 use std::alloc::Global;
 
-/// Notes the address of a label, where none of its name was noted.
+/// Notes the address of a label, unless one is noted for its name already.
 fn add_label(labels: &mut IndexMap<Vec<u8>, u32>, name: &Vec<u8>, at: u32) -> Result<(), Memory>
     ensures { OnOk result ((q : Name) → lookup (is_key q) labels.new.entries ≡ or_else (lookup (is_key q) labels.old.entries) (if bytes_eq q name.now.items then Some at else None)) }
 {
@@ -91,7 +91,7 @@ fn lay(alloc: Global, lines: &[ListingLine], base: u32) -> Result<Layout, Memory
 
 /// Lays out a listing from a base, the address of its first byte.
 ///
-/// A line that cannot be laid out is refused: an instruction that mentions what is not where its encoding reaches it. It is the first such line that is told.
+/// A line that cannot be laid out is refused: an instruction that mentions what is not where its encoding reaches it. The first such line is reported.
 /// Time is linear in the listing's length.
 pub fn layout(alloc: Global, listing: &Listing, base: u32) -> Result<Layout, LayoutError>
     ensures base { IfOk result (λ l. l.base ≡ base) }
@@ -107,10 +107,10 @@ pub fn layout(alloc: Global, listing: &Listing, base: u32) -> Result<Layout, Lay
 }
 
 impl Layout {
-    /// Lays out the listing that the layout's own has become, in which `new` instructions stand at the place where `old` stood. It is then what `layout` gives
-    /// from the same base. All is laid out anew, so nothing rests on the three numbers.
+    /// Lays out a listing in which `new` instructions stand at the place where the layout's own listing had `old`. The result is what `layout` gives from the
+    /// same base. All is laid out anew, so the three numbers aren't used.
     ///
-    /// A line is refused as `layout` refuses it. The layout is then as it was, and so it is where memory is wanting.
+    /// A line is refused as `layout` refuses it. Then, and where memory runs out, the layout stays as it was.
     pub fn change(
         &mut self,
         alloc: Global,

@@ -7,7 +7,7 @@ ghost use Rattle.label_layout.specs.Addresses.{in_code_region};
 use listing_parser::Statement;
 use thumb_instr::Instr;
 
-/// The end of the Code region of the system address map (ARM DDI 0419, B3.1).
+/// One past the last address of the Code region of the system address map (ARM DDI 0419, B3.1).
 pub const CODE_END: u32 = 0x2000_0000;
 
 /// How many bytes an instruction has: 4 where its encoding has two halfwords (`bl`, `mrs`, `msr` and the barriers), and else 2.
@@ -34,7 +34,7 @@ pub fn padding(size: u32, most: u32, at: u32) -> u32
     if need <= most { need } else { 0 }
 }
 
-/// The address behind so many bytes, where it lies in the Code region.
+/// The address `size` bytes after `at`. None where it lies past the end of the Code region.
 pub fn behind(at: u32, size: u32) -> Option<u32>
     requires { at ≤ 2 ^ 29 }
     ensures { result ≡ in_code_region (at + size) }
@@ -46,7 +46,7 @@ pub fn behind(at: u32, size: u32) -> Option<u32>
     }
 }
 
-/// The address behind so many words, where it lies in the Code region.
+/// The address `count` words of 4 bytes after `at`. None where it lies past the end of the Code region.
 pub fn behind_words(at: u32, count: usize) -> Option<u32>
     requires { at ≤ 2 ^ 29 }
     ensures { result ≡ in_code_region (at + 4 * count) }
@@ -58,7 +58,7 @@ pub fn behind_words(at: u32, count: usize) -> Option<u32>
     }
 }
 
-/// The address behind a statement, where it lies in the Code region.
+/// The address after a statement that begins at `at`. None where it lies past the end of the Code region.
 pub fn next_address(statement: &Statement, at: u32) -> Option<u32>
     requires { at ≤ 2 ^ 29 }
     ensures { result ≡ in_code_region (at + size_at (statement_view statement.now) at) }

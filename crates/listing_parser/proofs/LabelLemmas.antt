@@ -1,4 +1,4 @@
--- Labels by name.
+-- Labels by name: the tables find a name's first label, which is its only one.
 use Rattle.std.proofs.Common.{◌≡◌, ◌∙◌, inl, inr, ℕ, zero, suc, ◌+◌, ◌<◌, ◌||◌, Bool, true, false, List, [], ◌∷◌, ◌++◌, length, take, drop, get_or, is_some, refl, sym, ap, arith, true≢false, subst, Option, Some, None, if◌then◌else◌}
 use Rattle.std.specs.Prelude.{slice_get}
 use Rattle.std.specs.Str.{bytes_eq}
@@ -148,7 +148,7 @@ one_label name places n p known (l ∷ ls) e = elim (cases_Bool (is_again known 
   last true e = refl
   last false e = e
 
--- the label's line is told, and its place by what stands before the line
+-- the table gives the label's line, and the count of places before that line the label's place
 pub label_found : (name : Name) (ls : List ListingLine) (xs : List Passed) (m : ℕ) (x : Passed) → label_line name 0 ls ≡ Some m → xs ≡ passed_from 0 ls → x ≡ get_or xs m x
     → Some x.places ≡ label_place name (labels_from 0 ls)
 label_found name ls xs m x e all at =

@@ -1,4 +1,4 @@
--- A line is determined by what its text tells.
+-- A line is determined by what is read from its text.
 use Rattle.std.proofs.Common.{◌≡◌, ◌∙◌, ℕ, List, [], ◌∷◌, map, refl, sym, ap, Option, Some, None, Ok, option_map}
 use Rattle.ascii_scan.specs.Lines.{lines_in}
 use Rattle.thumb_instr.proofs.PartLemmas.{same_parts}

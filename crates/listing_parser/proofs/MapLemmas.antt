@@ -1,4 +1,4 @@
--- Tables by name: what is there first stays.
+-- Tables by name: the first entry of a name stays.
 use Rattle.std.proofs.Common.{◌≡◌, ◌∙◌, inl, inr, ℕ, Bool, true, false, List, [], ◌∷◌, ◌++◌, refl, sym, ap, true≢false, Option, Some, None, is_some, Vec}
 use Rattle.std.specs.Prelude.{if◌then◌else◌}
 use Rattle.std.specs.Map.{lookup}
@@ -17,7 +17,7 @@ lookup_push q (e ∷ es) k v = elim (cases_Bool (bytes_eq q e.0.items)) [
   | inr h ↦ rw h (lookup_push q es k v)
 ]
 
--- a new name
+-- a name that is new is added last
 pub added_new : {X : Type 0} (q name : Name) (es new : List (Vec ℕ Global × X)) (k : Vec ℕ Global) (v : X) → new ≡ es ++ (k, v) ∷ [] → k.items ≡ name
     → lookup (is_key q) new ≡ or_else (lookup (is_key q) es) (if bytes_eq q name then Some v else None)
 added_new q name es new k v e is = ap (lookup (is_key q)) e ∙ lookup_push q es k v ∙ ap (λ (n : Name). or_else (lookup (is_key q) es) (if bytes_eq q n then Some v else None)) is

@@ -30,7 +30,7 @@ abbrev is_instruction : Said → Bool
 is_instruction (Plain s) = false
 is_instruction (ByKind s) = true
 
--- what is told marks nothing, if it is an instruction
+-- a statement that is an instruction marks nothing
 abbrev IsCalm : Option Told → Type 0
 IsCalm None = Unit {0}
 IsCalm (Some t) = is_instruction t.said ≡ true → t.mark ≡ Unmarked

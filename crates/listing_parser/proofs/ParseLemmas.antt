@@ -1,4 +1,4 @@
--- What comes of reading, step by step.
+-- The steps of `parse`: each answer is a verdict on the text.
 use Rattle.std.proofs.Common.{◌≡◌, ◌∙◌, ℕ, List, [], ◌∷◌, map, false, refl, sym, ap, Option, Some, None, Ok, Err}
 use Rattle.ascii_scan.specs.Lines.{lines_in}
 use Rattle.thumb_model.specs.Listing.{Name, ListingLine}

@@ -1,4 +1,4 @@
--- The text that was read is printed.
+-- Printing the lines that were read gives the text that was read.
 use Rattle.std.proofs.Common.{◌≡◌, ◌∙◌, inl, inr, ℕ, ◌-◌, ◌||◌, false, List, [], ◌∷◌, ◌++◌, map, length, refl, sym, ap, Option, Some, None, Result, Ok, Err, option_map}
 use Rattle.std.specs.Prelude.{nat_lt}
 use Rattle.std.specs.List.{flat_map}
@@ -13,7 +13,7 @@ use Rattle.listing_parser.specs.Directives.{Told, statement}
 use Rattle.listing_parser.specs.Parsing.{text_of_lines}
 use Rattle.listing_parser.specs.Verdicts.{PrintsBack}
 
--- what is told of a line that was read
+-- what is known of a line that was read
 pub record OfLine (l : Placed) (r : Read) : Type 0 where
   pub told : Told
   pub is_told : statement (labels_at_front (code (body l))).1 ≡ Some told

@@ -1,4 +1,4 @@
--- Replacing lines defines no name again, and makes no more places.
+-- Replacing lines defines no name twice, and doesn't add to the places.
 use Rattle.std.proofs.Common.{◌≡◌, ◌∙◌, inl, inr, ℕ, zero, suc, ◌+◌, ◌-◌, ◌<◌, ◌≤◌, ◌^◌, ◌==◌, ◌&&◌, ◌||◌, Bool, true, false, List, [], ◌∷◌, ◌++◌, length, map, take, drop, refl, sym, ap, arith, true≢false, append-nil, append_assoc, get_or, lt-ltb, Option, Some, None}
 use Rattle.std.specs.Prelude.{nat_lt, slice_get}
 use Rattle.std.proofs.lemmas.Bool.{cases_Bool, false_from_ne_true, or_parts, or_cases}
@@ -19,7 +19,7 @@ use Rattle.listing_parser.proofs.TwiceLemmas.{once_none, none_once}
 
 -- ---- no name is defined again ----
 
--- each name of the one is among the other
+-- each name of the one list is in the other
 Within : List Name → List Name → Type 0
 Within other known = (q : Name) → is_among q other ≡ true → is_among q known ≡ true
 

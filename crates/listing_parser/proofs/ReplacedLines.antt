@@ -1,4 +1,4 @@
--- The text of a replaced listing is read again.
+-- The text of a listing after a replacement is read as the lines that the replacement left.
 use Rattle.std.proofs.Common.{◌≡◌, ◌∙◌, ◌⊎◌, inl, inr, ℕ, zero, suc, ◌+◌, ◌-◌, ◌<◌, ◌≤◌, ◌==◌, ◌&&◌, ◌||◌, Bool, true, false, List, [], ◌∷◌, ◌++◌, length, map, drop, refl, sym, ap, arith, subst, true≢false, None, Ok}
 use Rattle.std.specs.Prelude.{slice_get, if◌then◌else◌}
 use Rattle.std.specs.List.{list_all}
@@ -41,7 +41,7 @@ are_unnamed n [] = true
 are_unnamed zero (l ∷ ls) = true
 are_unnamed (suc n) (l ∷ ls) = if is_op l.statement then is_unnamed l.names && are_unnamed n ls else are_unnamed (suc n) ls
 
--- those behind the first of the window
+-- the instructions of the window after its first
 abbrev gone_unnamed : ℕ → ℕ → List ListingLine → Bool
 gone_unnamed p n [] = true
 gone_unnamed p n (l ∷ ls) = if is_op l.statement && (p == 0) then are_unnamed n ls else gone_unnamed (p - length (places_in l.statement)) n ls
@@ -60,7 +60,7 @@ opens_named name (l ∷ ls) e = elim (cases_Bool (is_among name l.names)) [
   | inr a ↦ rw a (opens_named name ls (rw a at e))
 ]
 
--- a label's name is nowhere behind its line
+-- a label's name is on no line after its own
 only_here : (name : Name) (k : ℕ) (known : List Name) (l : ListingLine) (ls : List ListingLine) → first_twice k known (l ∷ ls) ≡ None → is_among name l.names ≡ true → has_name name ls ≡ false
 only_here name k known l ls e a =
     no_more name (k + 1) (known ++ defined_in l) ls (once_parts k known l ls e).1
@@ -72,7 +72,7 @@ later name k known l ls e o = elim (cases_Bool (is_among name l.names)) [
   | inr a ↦ a
 ]
 
--- names whose labels stand before an instruction do so afterwards
+-- names whose labels stand before an instruction still do after the replacement
 abbrev AreKept : List ListingLine → List ListingLine → Type 0
 AreKept ls new = (name : Name) → opens name ls ≡ true → opens name new ≡ true
 

@@ -1,4 +1,4 @@
--- Labels, and what needs them, where lines are replaced.
+-- Labels, and the mentions that need them, where lines are replaced.
 use Rattle.std.proofs.Common.{◌≡◌, ◌∙◌, inl, inr, ℕ, zero, suc, ◌+◌, ◌-◌, ◌/◌, ◌%◌, ◌==◌, ◌&&◌, ◌||◌, Bool, true, false, not, List, [], ◌∷◌, ◌++◌, length, map, drop, take, refl, sym, ap, arith, subst, true≢false, Option, Some, None, is_some, append_assoc, length-append, eqb-true}
 use Rattle.std.specs.Prelude.{nat_lt, nat_le, slice_get, if◌then◌else◌}
 use Rattle.std.proofs.lemmas.Bool.{cases_Bool, and_parts, and_from, le-ltb, or_right}
@@ -131,7 +131,7 @@ pub from_new : (name : Name) (write : Instr → List ℕ) (is : List Instr) (ls 
 from_new name write [] ls = refl
 from_new name write (i ∷ is) ls = from_new name write is ls
 
--- what the name's label stands before, behind the window's first line
+-- what the name's label stands before, after the window's first line
 pub from_here : (name : Name) (write : Instr → List ℕ) (n : ℕ) (is : List Instr) (l : ListingLine) (ls : List ListingLine) → is_among name l.names ≡ false
     → from_label name (labels_kept l l.names ++ (map (new_line write) is ++ without (suc n - 1) ls)) ≡ from_label name (without n ls)
 from_here name write n is l ls e =

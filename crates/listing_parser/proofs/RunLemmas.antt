@@ -1,4 +1,4 @@
--- How many words of data stand from a line on.
+-- How many data words follow from a line on.
 use Rattle.std.proofs.Common.{◌≡◌, ◌∙◌, ℕ, zero, suc, ◌+◌, ◌-◌, ◌<◌, ◌≤◌, Bool, true, List, [], ◌∷◌, length, drop, map, get_or, refl, sym, ap, arith, Some, None, option_map}
 use Rattle.std.specs.Prelude.{nat_lt, slice_get, if◌then◌else◌}
 use Rattle.std.proofs.lemmas.Option.{slice_get-map, slice_get_read}
@@ -10,7 +10,7 @@ use Rattle.listing_parser.specs.TableWords.{label_line, words_on, words_from, ru
 use Rattle.listing_parser.specs.Targets.{onward, reaches, from_label}
 use Rattle.listing_parser.proofs.LabelLemmas.{label_from_line}
 
--- a word is reached where that many stand there
+-- a word is reached where that many follow
 onward_by_count : (s : Statement) (n behind : ℕ) (next : ℕ → Bool) → ((m : ℕ) → next m ≡ nat_lt m behind) → onward n s next ≡ nat_lt n (words_on s behind)
 onward_by_count Nothing n behind next same = same n
 onward_by_count (Instruction i m) n behind next same = grind (arith, nat_tests)
@@ -24,7 +24,7 @@ pub reaches_by_count : (ls : List ListingLine) (n : ℕ) → reaches ls n ≡ na
 reaches_by_count [] n = grind (arith, nat_tests)
 reaches_by_count (l ∷ ls) n = onward_by_count l.statement n (words_from ls) (reaches ls) (reaches_by_count ls)
 
--- they are no more than the places
+-- they are no more than the places of the lines
 words_on_few : (s : Statement) (behind : ℕ) → words_on s behind ≤ length (places_in s) + behind
 words_on_few Nothing behind = omega arith
 words_on_few (Instruction i m) behind = omega arith
@@ -45,12 +45,12 @@ runs_get [] i d h = absurd (omega arith)
 runs_get (l ∷ ls) zero d h = refl
 runs_get (l ∷ ls) (suc i) d h = runs_get ls i d (omega arith)
 
--- what is told of a label's line is said of the lines from the label on
+-- the table's count at a label's line is that of the lines from the label on
 pub words_at_label : (name : Name) (ls : List ListingLine) (xs : List ℕ) (m x : ℕ) → label_line name 0 ls ≡ Some m → m < length ls → xs ≡ runs_from ls → x ≡ get_or xs m x → x ≡ words_from (from_label name ls)
 words_at_label name ls xs m x e h all at =
     at ∙ ap (λ (ys : List ℕ). get_or ys m x) all ∙ runs_get ls m x h ∙ ap words_from (sym (label_from_line name 0 m m ls e (omega arith)))
 
--- a line's places and the words behind it are no more than all places
+-- a line's places and the words after it are no more than all places
 room : (ls : List ListingLine) (i : ℕ) (l : ListingLine) → slice_get ls i ≡ Some l → length (places_in l.statement) + words_from (drop (suc i) ls) ≤ length (places_of ls)
 room [] i l e = absurd (let bad : None ≡ Some l = e in cc)
 room (x ∷ ls) zero l e =

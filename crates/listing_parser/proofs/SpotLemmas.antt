@@ -91,7 +91,7 @@ places_take (suc i) [] = omega arith
 places_take (suc i) (l ∷ ls) =
     omega (arith, places_take i ls, length-append (places_in l.statement) (places_of (take i ls)), length-append (places_in l.statement) (places_of ls))
 
--- what is told of line i by the list of what stands before each line
+-- the table of how many places precede each line is right for line i
 pub before_line : (ls : List ListingLine) (xs : List Passed) (i : ℕ) (x : Passed) → i < length ls → xs ≡ passed_from 0 ls → x ≡ get_or xs i x
     → (x.places ≡ length (places_of (take i ls))) × (x.places ≤ length (places_of ls))
 before_line ls xs i x h all at =

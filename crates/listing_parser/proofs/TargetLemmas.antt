@@ -1,4 +1,4 @@
--- Only which names are marked as functions matters.
+-- The check of mentions depends only on which names are marked as functions, not on their order.
 use Rattle.std.proofs.Common.{◌≡◌, ◌∙◌, ℕ, ◌+◌, ◌==◌, ◌&&◌, ◌||◌, Bool, List, [], ◌∷◌, refl, ap, Option, Some}
 use Rattle.std.specs.Prelude.{not, if◌then◌else◌}
 use Rattle.thumb_model.specs.Listing.{Name, Value, Number, OfName, Statement, Nothing, Instruction, Words, Aligns, Sets, ListingLine}

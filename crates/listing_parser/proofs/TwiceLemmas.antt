@@ -1,4 +1,4 @@
--- Names defined before.
+-- That the search by known names finds the first line that defines a name again.
 use Rattle.std.proofs.Common.{◌≡◌, ◌∙◌, inl, inr, ℕ, ◌+◌, ◌||◌, Bool, true, false, List, [], ◌∷◌, ◌++◌, length, map, refl, sym, ap, subst, arith, append_assoc, append-nil, Vec, Some, None}
 use Rattle.std.specs.Prelude.{not, Decides}
 use Rattle.std.specs.Bool.{one_answer}

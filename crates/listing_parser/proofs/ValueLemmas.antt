@@ -1,4 +1,4 @@
--- Values by commas.
+-- The loop that reads values separated by commas.
 use Rattle.std.proofs.Common.{◌≡◌, ◌∙◌, ℕ, ◌==◌, Bool, true, false, List, [], ◌∷◌, ◌++◌, refl, sym, ap, cond, Option, Some, None, append_assoc, option_map, eqb-true}
 use Rattle.std.proofs.lemmas.Bool.{false_from_ne_true}
 use Rattle.ascii_scan.specs.Tokens.{Token, word, mark}
@@ -71,7 +71,7 @@ other_of w m ts e = rw e refl
 pub at_end : (vs : List Value) (v : Value) (ts after all : List Token) → FirstIs ts v after → after ≡ [] → with_values vs (values ts) ≡ values all → Some (vs ++ v ∷ []) ≡ values all
 at_end vs v ts after all f is so_far = sym (ap (with_values vs) (ap values (f.is ∙ ap (λ us. word f.w ∷ us) is) ∙ last_of f.w v f.read)) ∙ so_far
 
--- a comma behind it
+-- a value with a comma after it
 pub at_comma : (vs : List Value) (v : Value) (m : ℕ) (ts after rest all : List Token) → FirstIs ts v after → after ≡ mark m ∷ rest → m ≡ 44 → with_values vs (values ts) ≡ values all
     → with_values (vs ++ v ∷ []) (values rest) ≡ values all
 at_comma vs v m ts after rest all f is comma so_far =
@@ -83,7 +83,7 @@ two_words : (w u : List ℕ) (ts : List Token) → values (word w ∷ word u ∷
 unfolding values
 two_words w u ts = refl
 
--- another token behind it
+-- a value with another token after it
 pub at_word : (vs : List Value) (v : Value) (u : List ℕ) (ts after rest all : List Token) → FirstIs ts v after → after ≡ word u ∷ rest → with_values vs (values ts) ≡ values all → None ≡ values all
 at_word vs v u ts after rest all f is so_far = sym (ap (with_values vs) (ap values (f.is ∙ ap (λ us. word f.w ∷ us) is) ∙ two_words f.w u rest)) ∙ so_far
 

@@ -1,4 +1,4 @@
--- A directive's row without where its name lies in memory.
+-- A row of the code's table of directives by its content: the bytes of the name, and not where they lie in memory.
 use Rattle.std.specs.Prelude.{ℕ, List}
 use Rattle.listing_parser.specs.declared.directive.Named.{Named}
 use Rattle.listing_parser.specs.declared.directive.Directive.{Directive}

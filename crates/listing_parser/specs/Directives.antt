@@ -14,13 +14,13 @@ use Rattle.listing_parser.specs.Values.{pair, gapped, alone, values}
 
 -- ---- what a statement says ----
 
--- of functions: nothing; the next label is one; the name is one
+-- what it says of functions: nothing, that the next label is one, or that the name is one
 pub data FunctionMark : Type 0 where
   Unmarked : FunctionMark
   NextMarked : FunctionMark
   NameMarked : (name : Name) → FunctionMark
 
--- a statement, with an instruction by its kind and numbers
+-- a statement, in which an instruction is given by its kind and numbers
 pub data Said : Type 0 where
   Plain : (s : Statement) → Said
   ByKind : (s : Shown) → Said
@@ -42,7 +42,7 @@ instruction bytes = option_map (λ s. record { said = ByKind s; mark = Unmarked 
 
 -- ---- `.align`, `.p2align` ----
 
--- a multiple of 2^n, n up to 8, but `.align 0` is `.align 2`
+-- the size 2^n in bytes, n up to 8, but `.align 0` is `.align 2`
 abbrev pub size_of : Bool → ℕ → Option ℕ
 size_of is_align n = if nat_lt 8 n then None else if is_align && (n == 0) then Some 4 else Some (2 ^ n)
 
@@ -54,7 +54,7 @@ aligns_at_most (Some size) (Some most) = Some (says (Aligns size most))
 abbrev pub whole_size : Bool → List ℕ → Option ℕ
 whole_size is_align w = option_and_then (size_of is_align) (numeral w)
 
--- `n`, or `n,,k`
+-- `n`, or `n,,k` where at most k bytes are padded
 abbrev pub aligned : Bool → Option (List ℕ) → Option (List ℕ × List ℕ) → Option Told
 aligned is_align (Some n) gap = aligns_at_most (whole_size is_align n) (whole_size is_align n)
 aligned is_align None None = None
@@ -103,7 +103,7 @@ is_alone w ts = is_text w (alone ts)
 abbrev pub is_code_section : Name → Bool
 is_code_section name = bytes_eq name (codes ".text") || starts_with nat_eq name (codes ".text.")
 
--- what follows the directive's name
+-- what a directive says, by the bytes after its name
 abbrev pub directed : Directive → List ℕ → Option Told
 directed directive.Word bytes = option_map (λ vs. says (Words vs)) (values (tokens bytes))
 directed directive.Align bytes = alignment true (tokens bytes)
@@ -154,7 +154,7 @@ abbrev pub directive_in : List (List ℕ × Directive) → List ℕ → Option D
 directive_in [] w = None
 directive_in (d ∷ ds) w = if bytes_eq w d.0 then Some d.1 else directive_in ds w
 
--- all that begin with `.cfi_` are kept
+-- all directives that begin with `.cfi_` are kept
 unfoldable pub directive_named : List ℕ → Option Directive
 directive_named w = if starts_with nat_eq w (codes ".cfi_") then Some directive.Kept else directive_in directives w
 
@@ -167,7 +167,7 @@ abbrev pub directed_by : Option Directive → List ℕ → Option Told
 directed_by None bytes = None
 directed_by (Some d) bytes = directed d bytes
 
--- from its first byte that is no blank on: a directive begins with a full stop
+-- what bytes without blanks at their front say: a directive begins with a full stop
 abbrev pub said : List ℕ → Option Told
 said [] = Some (says Nothing)
 said (b ∷ bs) = if b == 46 then directed_by (directive_named (front is_word_byte (b ∷ bs))) (rest is_word_byte (b ∷ bs)) else instruction (b ∷ bs)

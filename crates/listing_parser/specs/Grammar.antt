@@ -49,7 +49,7 @@ labels_at_front bytes = labels_within (length bytes) bytes
 
 -- ---- lines ----
 
--- a carriage return right before the newline is a blank, and goes
+-- a carriage return right before the newline is dropped
 abbrev pub without_return : List ℕ → List ℕ
 without_return [] = []
 without_return (b ∷ []) = if b == 13 then [] else b ∷ []
@@ -69,7 +69,7 @@ begins_hash (b ∷ bs) = b == 35
 unfoldable pub code : List ℕ → List ℕ
 code bytes = if begins_hash (rest is_blank bytes) then [] else front is_no_at bytes
 
--- a line, with its instruction by kind and numbers
+-- a line, in which an instruction is given by its kind and numbers
 pub record Bare : Type 0 where
   pub names : List Name
   pub said : Said
@@ -80,7 +80,7 @@ pub record Read : Type 0 where
   pub line : Bare
   pub mark : FunctionMark
 
--- the bytes up to the last label's colon, and a newline: nothing where there is no label
+-- the bytes up to and including the last label's colon, and a newline; nothing where there is no label
 abbrev pub front_of : List Name → ℕ → List ℕ → List ℕ
 front_of [] n text = []
 front_of (name ∷ names) n text = take n text ++ 10 ∷ []
@@ -106,7 +106,7 @@ most_lines = 262144
 abbrev pub longest_line : ℕ
 longest_line = 1024
 
--- line n is one too many or too long, or it is no line, or it is read
+-- the line is refused as one too many or too long, or as outside the grammar, or it is read
 unfoldable pub checked_line : Placed → Result Read (ℕ × ListingFault)
 checked_line l = if nat_lt most_lines l.number || nat_lt longest_line (length l.text) then Err (l.number, kind.Limit) else shaped l.number (read_line l)
 
@@ -123,7 +123,7 @@ unfoldable pub read_lines : List Placed → Result (List Read) (ℕ × ListingFa
 read_lines [] = Ok []
 read_lines (l ∷ ls) = with_first (checked_line l) (read_lines ls)
 
--- ---- lines as texts tell them ----
+-- ---- lines of the model, with instructions by kind and numbers ----
 
 abbrev pub shown_of : Instr → Option Mention → Shown
 shown_of i m = record { made = parts_of i; label = option_map (λ r. (r.name, r.plus)) m }

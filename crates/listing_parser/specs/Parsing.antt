@@ -21,8 +21,8 @@ pub record IsListing (bytes : List ℕ) (lines : List ListingLine) : Type 0 wher
   pub once : DefineOnce lines
   pub aimed : first_target lines (functions false reads) 1 lines ≡ None
 
--- the text is refused at line n: the first that is too many, too long or no line; where none is, the first that defines a name again; where none does, the first that mentions
--- a name which isn't what it needs
+-- the text is refused at line n: the first that is one too many, too long or outside the grammar; where none is, the first that defines a name again;
+-- where none does, the first that mentions a name which isn't what its statement needs
 pub data IsRefused (bytes : List ℕ) : ℕ → ListingFault → Type 0 where
   AtLine : (n : ℕ) (k : ListingFault) → read_lines (lines_in bytes) ≡ Err (n, k) → IsRefused bytes n k
   AtTwice : (n : ℕ) (reads : List Read) (lines : List ListingLine) → AreLines bytes reads lines → IsFirstAgain lines n → IsRefused bytes n kind.Twice
@@ -40,6 +40,6 @@ text_of_lines (l ∷ ls) = l.text ++ text_of_lines ls
 unfoldable pub own_line : Instr → List ℕ
 own_line i = 9 ∷ (text_of (shown_of i None) ++ 10 ∷ [])
 
--- and with what the instruction mentions
+-- the same, with what the instruction mentions
 unfoldable pub line_mentioning : Instr → Option Mention → List ℕ
 line_mentioning i mention = 9 ∷ (text_of (shown_of i mention) ++ 10 ∷ [])

@@ -1,4 +1,4 @@
--- Which instructions may be new in a listing.
+-- Which instructions a replacement may put into a listing: those that name no label.
 use Rattle.std.specs.Prelude.{Bool, true, false}
 use Rattle.thumb_instr.specs.declared.instr.Instr.{Instr}
 use Rattle.thumb_instr.specs.declared.instr.Instr.TheVariants as instr

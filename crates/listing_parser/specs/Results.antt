@@ -1,4 +1,4 @@
--- What a call answers against what a reading gives, unless memory runs out.
+-- How the answer of a call relates to the definition of reading: it has the same value or the same fault, unless memory runs out.
 use Rattle.std.specs.Prelude.{◌≡◌, ℕ, Result, Ok, Err, List, [], ◌∷◌, Option, None, option_map}
 use Rattle.listing_parser.specs.declared.errors.ListingFault.{ListingFault}
 use Rattle.listing_parser.specs.declared.errors.ListingError.{ListingError}

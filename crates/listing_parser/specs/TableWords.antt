@@ -1,4 +1,4 @@
--- Where places stand, and what stands before a line and behind it.
+-- The content of a listing's tables: where each place stands, how many places precede a line, and how many data words follow from it on.
 use Rattle.std.specs.Prelude.{ℕ, ◌+◌, List, [], ◌∷◌, ◌++◌, length, Bool, Option, Some, None, if◌then◌else◌}
 use Rattle.std.specs.Str.{bytes_eq}
 use Rattle.std.specs.declared.alloc.Global.{Global}
@@ -8,7 +8,7 @@ use Rattle.thumb_model.specs.Layout.{is_among}
 use Rattle.listing_parser.specs.declared.index.Spot.{Spot}
 use Rattle.listing_parser.specs.declared.index.Passed.{Passed}
 
--- of each place, the line where it stands and which of that line's places it is
+-- for each place, the line where it stands and which of that line's places it is
 abbrev pub spots_at : ℕ → ℕ → List Place → List Spot
 spots_at line item [] = []
 spots_at line item (x ∷ xs) = record { line = line; item = item } ∷ spots_at line (item + 1) xs
@@ -17,12 +17,12 @@ abbrev pub spots_from : ℕ → List ListingLine → List Spot
 spots_from n [] = []
 spots_from n (l ∷ ls) = spots_at n 0 (places_in l.statement) ++ spots_from (n + 1) ls
 
--- of each line, how many places stand before it
+-- for each line, how many places precede it
 abbrev pub passed_from : ℕ → List ListingLine → List Passed
 passed_from places [] = []
 passed_from places (l ∷ ls) = record { places = places } ∷ passed_from (places + length (places_in l.statement)) ls
 
--- of each line, how many words of data stand from it on, before an instruction or an alignment line
+-- for each line, how many data words follow from it on, up to the next instruction or alignment line
 abbrev pub words_on : Statement → ℕ → ℕ
 words_on Nothing behind = behind
 words_on (Instruction i mention) behind = 0

@@ -9,7 +9,7 @@ use Rattle.listing_parser.specs.Grammar.{Read}
 use Rattle.listing_parser.specs.Directives.{FunctionMark, Unmarked, NextMarked, NameMarked}
 use Rattle.thumb_model.specs.Replaced.{is_op, labels_kept}
 
--- Names: those that lines define, and those that instructions and data words mention, with what they must be there.
+-- Names, and what mentions them.
 
 -- ---- definitions ----
 
@@ -29,7 +29,7 @@ pub data IsAgain (known names : List Name) : Type 0 where
   Known : (name : Name) → is_among name names ≡ true → is_among name known ≡ true → IsAgain known names
   Twice : (front : List Name) (name : Name) (back : List Name) → names ≡ front ++ name ∷ back → is_among name front ≡ true → IsAgain known names
 
--- behind these lines, the line defines a name again: one that a line before it defines, or one that it defines twice itself
+-- after the lines `before`, the line defines a name again: one that a line before it defines, or one that it defines twice itself
 abbrev pub DefinesAgain : List ListingLine → ListingLine → Type 0
 DefinesAgain before l = IsAgain (flat_map defined_in before) (defined_in l)
 
@@ -59,7 +59,7 @@ is_next Unmarked = false
 is_next NextMarked = true
 is_next (NameMarked name) = false
 
--- the first label takes a mark that waits for it
+-- the first label takes a `.thumb_func` that waits for one
 abbrev pub marked_first : Bool → List Name → List Name
 marked_first waits [] = []
 marked_first waits (n ∷ ns) = if waits then n ∷ [] else []
@@ -68,7 +68,7 @@ abbrev pub still_waits : Bool → List Name → Bool
 still_waits waits [] = waits
 still_waits waits (n ∷ ns) = false
 
--- the names that are marked as functions; at first whether a mark waits for its label
+-- the names that are marked as functions; the first argument says whether a `.thumb_func` waits for its label
 abbrev pub functions : Bool → List Read → List Name
 functions waits [] = []
 functions waits (r ∷ rs) = (marked_first waits r.line.names ++ marked_by_name r.mark) ++ functions (still_waits waits r.line.names || is_next r.mark) rs
@@ -92,7 +92,7 @@ abbrev pub reaches : List ListingLine → ℕ → Bool
 reaches [] n = false
 reaches (l ∷ ls) n = onward n l.statement (reaches ls)
 
--- the word at a multiple of 4 up to 1020 from the label
+-- what is mentioned is a data word, at a multiple of 4 up to 1020 bytes from the label
 abbrev pub is_literal : List ListingLine → Mention → Bool
 is_literal all m = (m.plus % 4 == 0) && (nat_le m.plus 1020 && reaches (from_label m.name all) (m.plus / 4))
 
@@ -117,7 +117,7 @@ abbrev pub is_aimed_at : List ListingLine → Instr → Option Mention → Bool
 is_aimed_at all i None = true
 is_aimed_at all i (Some m) = is_aimed all i m
 
--- a word of a code label is that of a function, with nothing added
+-- a data word may mention a code label only where that is marked as a function, and with nothing added
 abbrev pub is_word_of : List ListingLine → List Name → Value → Bool
 is_word_of all marked (Number n) = true
 is_word_of all marked (OfName m) = not (is_code_label all m.name) || ((m.plus == 0) && is_among m.name marked)
@@ -133,7 +133,7 @@ is_on_target all marked (Words vs) = are_words_of all marked vs
 is_on_target all marked (Aligns size most) = true
 is_on_target all marked (Sets name address) = true
 
--- the first line, counted from n, that mentions a name which isn't what it needs
+-- the first line, counted from n, that mentions a name which isn't what its statement needs
 abbrev pub first_target : List ListingLine → List Name → ℕ → List ListingLine → Option ℕ
 first_target all marked n [] = None
 first_target all marked n (l ∷ ls) = if is_on_target all marked l.statement then first_target all marked (n + 1) ls else Some n
@@ -159,7 +159,7 @@ own_bytes write (Sets name address) = []
 abbrev pub aimed_line : (Instr → Option Mention → List ℕ) → Name → ListingLine → ListingLine
 aimed_line write label l = record { names = []; statement = aimed label l.statement; text = own_bytes write (aimed label l.statement); front = [] }
 
--- the lines with the branch at place p going to a label, as a window's instruction gives way: its labels keep a line of their own, and all other lines stay byte for byte
+-- the lines with the branch at place p going to a label: the branch's own labels get a line of their own, and all other lines stay byte for byte
 abbrev pub aimed_lines : (Instr → Option Mention → List ℕ) → ℕ → Name → List ListingLine → List ListingLine
 aimed_lines write p label [] = []
 aimed_lines write p label (l ∷ ls) =

@@ -1,4 +1,4 @@
--- What a statement of the code says.
+-- The code's marks of functions, statements and lines as those of the grammar's definitions.
 use Rattle.listing_parser.specs.declared.line.FunctionMark.{FunctionMark as Marks}
 use Rattle.listing_parser.specs.declared.line.FunctionMark.TheVariants as mark
 use Rattle.listing_parser.specs.declared.line.ListingLine.{ListingLine as Lines}

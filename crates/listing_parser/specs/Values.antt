@@ -1,4 +1,4 @@
--- Words by commas, and the values of data words, in the syntax of the GNU assembler.
+-- Words separated by commas, and the values of data words, in the syntax of the GNU assembler.
 use Rattle.std.specs.Prelude.{ℕ, ◌-◌, ◌^◌, ◌%◌, ◌==◌, List, [], ◌∷◌, Option, Some, None, option_map, option_and_then, if◌then◌else◌}
 use Rattle.ascii_scan.specs.Names.{is_digit, is_name_byte}
 use Rattle.ascii_scan.specs.Numeral.{numeral}
@@ -43,7 +43,7 @@ gapped ts = option_and_then (λ r. with_word r.0 (option_and_then behind_comma (
 
 -- ---- `.word` ----
 
--- modulo 2^32
+-- 0 minus n, modulo 2^32
 abbrev pub negated : ℕ → ℕ
 negated n = (2 ^ 32 - n) % 2 ^ 32
 
@@ -74,7 +74,7 @@ onto_values None rest = None
 onto_values (Some v) None = None
 onto_values (Some v) (Some vs) = Some (v ∷ vs)
 
--- values by commas, at least one
+-- values separated by commas, at least one
 unfoldable pub values : List Token → Option (List Value)
 values [] = None
 values (mark m ∷ ts) = None

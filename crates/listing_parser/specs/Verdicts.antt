@@ -1,4 +1,4 @@
--- What comes of a text, and that it is one verdict alone.
+-- The verdict on a text: the lines that it is the listing of, or its refusal; and that there is at most one.
 use Rattle.std.specs.Prelude.{◌≡◌, ℕ, List, Result, Ok, Err}
 use Rattle.thumb_model.specs.Listing.{ListingLine}
 use Rattle.listing_parser.specs.declared.errors.ListingFault.{ListingFault}
@@ -6,7 +6,7 @@ use Rattle.listing_parser.specs.declared.errors.ListingError.{ListingError}
 use Rattle.listing_parser.specs.declared.errors.ListingError.TheVariants as errors
 use Rattle.listing_parser.specs.Parsing.{IsListing, IsRefused, text_of_lines}
 
--- what comes of a text, unless memory runs out
+-- what reading a text answers, unless memory runs out
 abbrev pub Parses : List ℕ → Result (List ListingLine) ListingError → Type 0
 Parses bytes (Ok lines) = IsListing bytes lines
 Parses bytes (Err (errors.Line n k)) = IsRefused bytes n k
@@ -28,7 +28,7 @@ NotBoth = (bytes : List ℕ) (lines : List ListingLine) (n : ℕ) (k : ListingFa
 abbrev pub RefusedOnce : Type 0
 RefusedOnce = (bytes : List ℕ) (n m : ℕ) (k j : ListingFault) → IsRefused bytes n k → IsRefused bytes m j → (n ≡ m) × (k ≡ j)
 
--- the verdict on a text is one alone
+-- there is at most one verdict on a text
 pub record OneVerdict : Type 0 where
   pub not_both : NotBoth
   pub refused_once : RefusedOnce

@@ -1,4 +1,4 @@
--- Lines of the code as lines of a listing.
+-- The code's lines, statements and places as those of the model.
 use Rattle.std.specs.Prelude.{List, map, option_map}
 use Rattle.thumb_model.specs.Listing.{Name, Mention, Value, Number, OfName, Statement, Nothing, Instruction, Words, Aligns, Sets, ListingLine, Place, Op, Word}
 use Rattle.listing_parser.specs.declared.line.Mention.{Mention as Mentions}

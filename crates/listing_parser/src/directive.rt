@@ -8,9 +8,9 @@ ghost use Rattle.listing_parser.specs.DirectiveView.{row_of};
 pub enum Directive {
     /// `.word`: words of data.
     Word,
-    /// `.align`: 0 means 2 there.
+    /// `.align n`: padding to a multiple of 2^n bytes; `.align 0` means `.align 2`.
     Align,
-    /// `.p2align`.
+    /// `.p2align n`: the same, but `.p2align 0` pads nothing.
     PowerAlign,
     /// `.set`, `.equ`: the address of a name.
     Set,
@@ -26,7 +26,7 @@ pub enum Directive {
     Bare,
     /// `.section` with a name of code.
     Section,
-    /// Kept as it is, with any rest of the line.
+    /// Kept as it is, whatever the rest of the line says.
     Kept,
 }
 

@@ -1,18 +1,18 @@
-//! The kinds by which a listing's first refused line is told. Their numbers are printed, so their order stays.
+//! Why a text is refused as a listing: its first bad line, and the kind of the fault. The kinds' numbers are printed, so they mustn't change.
 pub use std::alloc::AllocError as Memory;
 use std::alloc::{AllocError, AllocFailed};
 use thiserror::Error;
 
-/// Why a line is refused. `as u8` gives the number by which it is told.
+/// Why a line is refused. `as u8` gives the number that is printed.
 #[derive(Clone, Copy, Debug, PartialEq, Eq)]
 pub enum ListingFault {
     /// The line is outside the grammar.
     Shape = 1,
     /// The line defines a name that was defined before.
     Twice = 2,
-    /// The line mentions a name that isn't what the statement needs there.
+    /// The line mentions a name that isn't what its statement needs, such as a data label where a branch needs a code label.
     Target = 3,
-    /// The line is one too many, or too long.
+    /// The line comes after the 262,144th, or has more than 1,024 bytes without its newline.
     Limit = 6,
 }
 

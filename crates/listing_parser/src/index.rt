@@ -22,10 +22,10 @@ pub struct Spot {
     pub item: usize,
 }
 
-/// What stands before a line.
+/// What comes before a line.
 #[derive(Clone, Copy)]
 pub struct Passed {
-    /// How many places.
+    /// The number of places before the line.
     pub places: usize,
 }
 
@@ -34,9 +34,9 @@ pub struct Passed {
 pub struct ListingIndex {
     /// Where each place stands.
     pub spots: Vec<Spot>,
-    /// What stands before each line.
+    /// What comes before each line.
     pub passed: Vec<Passed>,
-    /// How many words of data stand from each line on, before an instruction or an alignment line.
+    /// For each line, how many data words follow from it on, up to the next instruction or alignment line.
     pub runs: Vec<usize>,
     /// The index of the first line that has a label of the name.
     pub labels: IndexMap<Vec<u8>, usize>,
@@ -54,7 +54,7 @@ fn add_spots(spots: &mut Vec<Spot>, line: usize, statement: &Statement) -> Resul
     Ok(())
 }
 
-/// How many words of data stand from a statement on, where `behind` stand from the next line on.
+/// How many data words follow from a statement on, where `behind` follow from the next line on.
 fn words_on(statement: &Statement, behind: usize) -> usize
     requires { length (places_in (statement_view statement.now)) + behind < 2 ^ 32 }
     ensures { result ≡ words_on (statement_view statement.now) behind }
@@ -68,7 +68,7 @@ fn words_on(statement: &Statement, behind: usize) -> usize
     }
 }
 
-/// How many words of data stand from each line on, before an instruction or an alignment line.
+/// For each line, how many data words follow from it on, up to the next instruction or alignment line.
 fn runs(alloc: Global, lines: &[ListingLine]) -> Result<Vec<usize>, AllocError>
     requires { length (places_of (map line_view lines.now)) < 2 ^ 32 }
     ensures { IfOk result (λ v. v.items ≡ runs_from (map line_view lines.now)) }
@@ -84,7 +84,7 @@ fn runs(alloc: Global, lines: &[ListingLine]) -> Result<Vec<usize>, AllocError>
     Ok(runs)
 }
 
-/// Adds a value under a name, where it has none.
+/// Adds a value under a name, unless the name has one already.
 fn add<V: Drop>(
     alloc: Global,
     table: &mut IndexMap<Vec<u8>, V>,
@@ -130,7 +130,7 @@ fn add_address(
     }
 }
 
-/// The tables of lines but for the runs of data words behind each.
+/// The tables of lines, but for `runs`, which is left empty.
 fn tables(alloc: Global, lines: &[ListingLine]) -> Result<ListingIndex, Memory>
     requires { length (places_of (map line_view lines.now)) < 2 ^ 32 }
     ensures spots { IfOk result (λ i. i.spots.items ≡ spots_from 0 (map line_view lines.now)) }

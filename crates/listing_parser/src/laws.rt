@@ -13,28 +13,28 @@ pub fn a_text_has_one_listing()
     ensures { OneListing }
 {}
 
-/// A text is a listing or refused, and not both, and the line and the kind by which it is refused are determined.
+/// No text is both a listing and refused, and the line and the kind by which a text is refused are determined.
 pub fn a_text_has_one_verdict()
     ensures { OneVerdict }
 {}
 
-/// The text of a listing after a replacement is read again as the lines that the replacement left: see `Listing::replaced`. No code label may be lost
-/// by it, as one that stood before an instruction that is gone, and there may be at most 262,144 lines.
+/// The text of a listing after a replacement (`Listing::replaced`) is read as exactly the lines that the replacement left. The replacement must keep
+/// every code label, also one that stood before an instruction that is gone, and leave at most 262,144 lines.
 pub fn replaced_listings_read_again()
     ensures { ReplacedReadsAgain }
 {}
 
-/// From the label that a literal load mentions on there are words of data, up to the one that it loads: so rewriting moves no literal away from its label.
+/// From the label that a literal load mentions up to the word that it loads there are data words alone: so rewriting moves no literal away from its label.
 pub fn literals_stand_behind_their_labels()
     ensures { LiteralsStand }
 {}
 
-/// There is a naming that fits: so what is said of every naming that fits is said of some.
+/// Some naming fits each listing: so what is claimed for every naming that fits isn't vacuous.
 pub fn some_naming_fits()
     ensures { SomeNamingFits }
 {}
 
-/// The code label of a name is its one label, where that is code.
+/// The code label of a name is its only label, where an instruction stands at that label.
 pub fn code_labels_are_labels()
     ensures { CodeLabelsAreLabels }
 {}

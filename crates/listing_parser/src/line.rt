@@ -1,4 +1,4 @@
-//! What a line of a listing says, beside the bytes that it was read from: labels, one statement, and what it tells of functions.
+//! What a line of a listing says, beside the bytes that it was read from: labels, one statement, and what it marks as a function.
 ghost use Rattle.std.specs.Prelude.{◌≡◌};
 ghost use Rattle.thumb_model.specs.Listing.{is_call_instr};
 
@@ -27,14 +27,14 @@ pub enum Value {
 pub enum Statement {
     /// Nothing that lies in memory or has a meaning of its own.
     Nothing,
-    /// An instruction, and the name that it mentions. Its distance is then 0.
+    /// An instruction, and the name that it mentions, if any. The instruction's own displacement is 0 then.
     Instruction {
         instr: Instr,
         mention: Option<Mention>,
     },
     /// `.word`: words of data, at least one.
     Words(Vec<Value>),
-    /// `.align` or `.p2align`: padding to a multiple of `size` bytes, a power of two up to 256, where at most `most` bytes are needed.
+    /// `.align` or `.p2align`: padding to a multiple of `size` bytes, a power of two up to 256, or none if that takes more than `most` bytes.
     Aligns {
         size: u32,
         most: u32,
@@ -83,7 +83,7 @@ pub struct ListingLine {
     pub mark: FunctionMark,
     /// Its bytes, with its newline where it has one.
     pub text: Vec<u8>,
-    /// How many bytes it has up to and with its last label's colon; 0 where it has no label.
+    /// How many bytes it has up to and including its last label's colon; 0 where it has no label.
     pub front: usize,
 }
 

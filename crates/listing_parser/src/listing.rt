@@ -1,4 +1,4 @@
-//! A listing is its lines. The tables beside them are found again from the lines alone, so that nothing can disagree with the text.
+//! A listing is its lines. By an invariant the tables beside them are determined by the lines alone, so they can't disagree with the text.
 ghost use Rattle.std.specs.Prelude.{◌≡◌, option_map, slice_get};
 ghost use Rattle.thumb_model.specs.Listing.{places_in};
 ghost use Rattle.listing_parser.specs.Views.{line_view, place_view};
@@ -124,7 +124,7 @@ impl Listing {
         self.index.labels.get(name).copied()
     }
 
-    /// How many words of data stand from the label of the name on, before an instruction or an alignment line. 0 where there is no such label.
+    /// How many data words follow from the label of the name on, up to the next instruction or alignment line. 0 where there is no such label.
     pub fn words_from(&self, name: &[u8]) -> usize
         ensures { result ≡ words_from (from_label name.now self.now) }
     {
@@ -169,9 +169,9 @@ impl Listing {
         self.index.addresses.get(name).copied()
     }
 
-    /// The listing with these instructions in place of `count` from a place on, between which neither a label nor an alignment line stands. The line
-    /// of the first becomes its bytes up to and with its last label's colon, where it has one, then a line for each new instruction: a tab, its
-    /// canonical text and a newline. The lines of the other instructions vanish, with their comments; all other lines stay byte for byte.
+    /// The listing with these instructions in place of the `count` from a place on, between which neither a label nor an alignment line stands. Of the
+    /// first one's line its labels stay, on a line of their own, up to and including the last colon. Then comes a line for each new instruction: a tab, its
+    /// canonical text and a newline. The old instructions' lines go, with their comments; all other lines stay byte for byte.
     pub fn replaced(
         &self,
         alloc: Global,
@@ -191,8 +191,8 @@ impl Listing {
         Listing::of(alloc, lines)
     }
 
-    /// The listing with the branch at a place going to a code label. Its line becomes its bytes up to and with its last label's colon, where it has one, then
-    /// a line of the branch's own: a tab, its canonical text with the label's name and a newline. All other lines stay byte for byte.
+    /// The listing with the branch at a place going to another code label. Its labels stay, on a line of their own, up to and including the last colon. Then
+    /// comes a line of the branch's own: a tab, its canonical text with the label's name and a newline. All other lines stay byte for byte.
     pub fn retargeted(&self, alloc: Global, place: u32, name: &[u8]) -> Result<Listing, Memory>
         requires op { is_op_place (slice_get (places_of self.now) place) ≡ true }
         ensures { IfOk result (λ l. l ≡ aimed_lines line_mentioning place name.now self.now) }

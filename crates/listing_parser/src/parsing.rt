@@ -1,5 +1,5 @@
-//! The crate's two calls: the listing that a text is, or the first line that is refused and why; and a listing's text, in which untouched lines keep their
-//! bytes.
+//! The crate's main calls: `parse` reads a text as a listing, or answers the first line that is refused and why; `print` gives a listing's text, in which
+//! untouched lines keep their bytes.
 ghost use Rattle.std.specs.Prelude.{◌≡◌, IfOk};
 ghost use Rattle.listing_parser.specs.Parsing.{text_of_lines};
 ghost use Rattle.listing_parser.specs.Verdicts.{Parses};
@@ -11,8 +11,8 @@ use crate::targets::{first_target, functions};
 use crate::twice::first_twice;
 use std::alloc::Global;
 
-/// The listing that a text is, or the first line that is refused. A line that is one too many, too long or outside the grammar comes first; where
-/// there is none, the first line that defines a name again; where there is none of these, the first that mentions a name which isn't what it needs.
+/// The listing that a text is, or the first line that is refused. The first line that is one too many, too long or outside the grammar is reported; without
+/// such a line, the first that defines a name again; without any of these, the first that mentions a name which isn't what its statement needs.
 pub fn parse(alloc: Global, text: &[u8]) -> Result<Listing, ListingError>
     ensures { Parses text.now result }
 {

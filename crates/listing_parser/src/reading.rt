@@ -1,4 +1,4 @@
-//! The lines of a text, each by the grammar of lines.
+//! Reads a text line by line: limits, newline, comment and labels are dealt with here, the rest of a line in `statement`.
 ghost use Rattle.std.specs.Prelude.{◌≡◌, ◌<◌, ◌≤◌, true, false, map, option_map, length, IfOk, MatchOption};
 ghost use Rattle.ascii_scan.specs.Lines.{lines_in, whole};
 ghost use Rattle.ascii_scan.specs.Source.{line_view as source_view};
@@ -62,7 +62,7 @@ fn without_return(bytes: &[u8]) -> &[u8]
     }
 }
 
-/// The line's bytes without its newline and a carriage return right before it.
+/// The line's bytes without its newline, and without a carriage return right before that.
 fn body<'a>(source: SourceLine<'a>) -> &'a [u8]
     ensures { result.now ≡ body (source_view source.entry) }
 {
@@ -127,7 +127,7 @@ fn checked_line(alloc: Global, source: SourceLine<'_>) -> Result<ListingLine, Li
     }
 }
 
-/// The fewest bytes that most lines have. Room is made for as many lines as a text of such lines has.
+/// A length that few lines are shorter than. Room is reserved for as many lines as a text of such lines would have.
 const SHORT_LINE: usize = 8;
 
 /// All lines, or the first that can't be read.

@@ -1,4 +1,4 @@
-//! Instructions in place of others, by lines: labels and comments before a window stay, and all other lines keep their bytes.
+//! Replaces a window's instructions in a list of lines: the labels before the window stay, and all other lines keep their bytes.
 ghost use Rattle.std.specs.Prelude.{◌≡◌, ◌<◌, ◌≤◌, ◌&&◌, ◌∷◌, ◌++◌, [], nat_lt, length, map, take, option_map, IfOk, OnOk};
 ghost use Rattle.thumb_model.specs.Listing.{Nothing};
 ghost use Rattle.thumb_model.specs.Replaced.{is_op, labels_kept, new_line, replaced_lines, without};
@@ -109,7 +109,7 @@ fn copy_mark(alloc: Global, mark: &FunctionMark) -> Result<FunctionMark, AllocEr
     }
 }
 
-/// A line like another.
+/// A copy of a line.
 pub fn copy_line(alloc: Global, line: &ListingLine) -> Result<ListingLine, AllocError>
     ensures line { IfOk result (λ l. line_view l ≡ line_view line.now) }
     ensures mark { IfOk result (λ l. mark_view l.mark ≡ mark_view line.now.mark) }
@@ -127,7 +127,7 @@ pub fn copy_line(alloc: Global, line: &ListingLine) -> Result<ListingLine, Alloc
     })
 }
 
-/// Lines like others.
+/// Copies of lines.
 pub fn copy_lines(alloc: Global, lines: &[ListingLine]) -> Result<Vec<ListingLine>, AllocError>
     ensures { IfOk result (λ v. map line_view v.items ≡ map line_view lines.now) }
 {
@@ -146,7 +146,7 @@ pub fn is_op(line: &ListingLine) -> bool
     matches!(line.statement, Statement::Instruction { .. })
 }
 
-/// The bytes of a line up to its last label's colon.
+/// The bytes of a line up to and including its last label's colon.
 fn front_text(alloc: Global, line: &ListingLine) -> Result<Vec<u8>, AllocError>
     ensures { IfOk result (λ v. v.items ≡ take line.now.front line.now.text.items) }
 {
@@ -159,7 +159,7 @@ fn front_text(alloc: Global, line: &ListingLine) -> Result<Vec<u8>, AllocError>
     front.to_vec(alloc)
 }
 
-/// The line of these labels alone, whose text is the bytes up to the last one's colon and a newline.
+/// The line of these labels alone. `text` is its bytes up to and including the last label's colon; a newline is added.
 pub fn line_of_labels(names: Vec<Vec<u8>>, mut text: Vec<u8>) -> Result<ListingLine, AllocError>
     requires { 0 < length names.items }
     ensures { IfOk result (λ l. line_view l ≡ record { names = map (λ name. name.items) names.items; statement = Nothing; text = text.items ++ 10 ∷ []; front = text.items ++ 10 ∷ [] }) }
@@ -239,14 +239,14 @@ pub fn add_new(alloc: Global, out: &mut Vec<ListingLine>, instrs: &[Instr]) -> R
     Ok(())
 }
 
-/// Whether the line is one of the instructions that are left out.
+/// Whether the line is an instruction's that is left out, where `left` of them are still to be.
 fn is_skipped(left: usize, line: &ListingLine) -> bool
     ensures { result ≡ (nat_lt 0 left && is_op (line_view line.now).statement) }
 {
     left > 0 && is_op(line)
 }
 
-/// Adds lines, without the first instructions among them.
+/// Adds copies of lines, without the first `skipped` lines that have an instruction.
 #[tactic(auto, using(crate::proofs::ReplaceLemmas::skipping))]
 pub fn add_without(
     alloc: Global,
@@ -268,7 +268,7 @@ pub fn add_without(
     Ok(())
 }
 
-/// The lines with these instructions in place of `count` from a place on.
+/// The lines with these instructions in place of the `count` instructions from a place on.
 pub fn replaced_lines(
     alloc: Global,
     lines: &[ListingLine],

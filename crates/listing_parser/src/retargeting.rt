@@ -1,4 +1,4 @@
-//! A branch that goes elsewhere, by lines: its line gives way to a new one, and all other lines keep their bytes.
+//! Lets a branch go to another label, in a list of lines: its line is replaced by a new one, and all other lines keep their bytes.
 ghost use Rattle.std.specs.Prelude.{◌≡◌, [], Some, map, IfOk};
 ghost use Rattle.thumb_model.specs.Listing.{Instruction};
 ghost use Rattle.listing_parser.specs.Views.{line_view};

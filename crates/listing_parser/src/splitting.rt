@@ -1,4 +1,4 @@
-//! Fronts of bytes and what follows them, such as blanks, names and comments: the grammar of lines is put together from these.
+//! Splits bytes behind blanks, words and names, and at colons and comments: the small steps of which the reading of lines consists.
 ghost use Rattle.std.specs.Prelude.{◌≡◌};
 ghost use Rattle.std.specs.List.{prefix_len};
 ghost use Rattle.ascii_scan.specs.Names.{is_name_byte};
@@ -56,7 +56,7 @@ fn name_len(bytes: &[u8]) -> usize
     bytes.iter().take_while(|b| is_name_byte(**b)).count()
 }
 
-/// The bytes of names at the front, and those after them.
+/// The longest run of name bytes at the front, and the bytes after it.
 #[tactic(auto, using(crate::proofs::FrontLemmas::fronts))]
 pub fn split_name(bytes: &[u8]) -> (&[u8], &[u8])
     ensures front { result.0.now ≡ front is_name_byte bytes.now }

@@ -18,7 +18,7 @@ use ascii_scan::{Token, next_token, number};
 use std::alloc::{AllocError, Global};
 use thumb_syntax::{Label, is_name, read_instr};
 
-/// What a statement says, of memory and of functions.
+/// What a statement says: what lies in memory, and which name is a function.
 #[derive(Drop)]
 pub struct Told {
     pub statement: Statement,
@@ -80,7 +80,7 @@ fn instruction(alloc: Global, bytes: &[u8]) -> Result<Option<Told>, AllocError>
     }
 }
 
-/// The multiple that an alignment's number stands for.
+/// The size in bytes that an alignment's number stands for: a power of two up to 256.
 fn size_of(is_align: bool, exponent: u32) -> Option<u32>
     ensures { result ≡ size_of is_align exponent }
 {
@@ -189,7 +189,7 @@ fn gapped(bytes: &[u8]) -> Option<(&[u8], &[u8])>
     }
 }
 
-/// An alignment: `n`, or `n,,k`.
+/// The operands of an alignment: `n`, or `n,,k` where it pads at most k bytes.
 fn alignment(is_align: bool, bytes: &[u8]) -> Option<Told>
     ensures { option_map told_view result ≡ alignment is_align (tokens bytes.now) }
 {
@@ -211,7 +211,7 @@ fn alignment(is_align: bool, bytes: &[u8]) -> Option<Told>
     }
 }
 
-/// The address of a name.
+/// The operands of `.set` and `.equ`: a name and its address.
 fn setting(alloc: Global, bytes: &[u8]) -> Result<Option<Told>, AllocError>
     ensures { IfOk result (λ o. option_map told_view o ≡ setting (tokens bytes.now)) }
 {
@@ -231,7 +231,7 @@ fn setting(alloc: Global, bytes: &[u8]) -> Result<Option<Told>, AllocError>
     }
 }
 
-/// The mark of a name as a function, or anything else.
+/// The operands of `.type`: `name, %function` marks the name as a function, and anything else says nothing.
 fn typing(alloc: Global, bytes: &[u8]) -> Result<Told, AllocError>
     ensures { IfOk result (λ t. told_view t ≡ typing (tokens bytes.now)) }
 {
@@ -270,7 +270,7 @@ fn says_if(holds: bool, told: Told) -> Option<Told>
     if holds { Some(told) } else { None }
 }
 
-/// The name of a section: the bytes of names after the blanks.
+/// The name of a section: the name bytes after the blanks.
 fn section_name(bytes: &[u8]) -> &[u8]
     ensures { result.now ≡ front is_name_byte (rest is_blank bytes.now) }
 {
@@ -287,7 +287,7 @@ fn words(alloc: Global, bytes: &[u8]) -> Result<Option<Told>, AllocError>
     }
 }
 
-/// What follows a directive's name.
+/// What a directive says, by the bytes after its name. None where these are outside its grammar.
 fn directed(alloc: Global, directive: Directive, bytes: &[u8]) -> Result<Option<Told>, AllocError>
     ensures { IfOk result (λ o. option_map told_view o ≡ directed directive bytes.now) }
 {

@@ -1,4 +1,4 @@
-//! Names that are mentioned, and what they must be there.
+//! Whether each mentioned name is what its statement needs, as a code label for a branch; and which names are marked as functions.
 ghost use Rattle.std.specs.Prelude.{◌≡◌, ◌||◌, ◌++◌, ℕ, List, true, false, map, IfOk, OnOk};
 ghost use Rattle.std.specs.Str.{bytes_eq};
 ghost use Rattle.thumb_model.specs.Layout.{is_among};
@@ -24,7 +24,7 @@ fn mark(alloc: Global, functions: &mut IndexSet<Vec<u8>>, name: &[u8]) -> Result
     Ok(())
 }
 
-/// Marks the first of the names, where a mark waits for a label. Answers whether it still waits.
+/// Marks the first of the names, where a `.thumb_func` waits for its label. Answers whether it still waits.
 fn mark_first(
     alloc: Global,
     functions: &mut IndexSet<Vec<u8>>,
@@ -65,7 +65,7 @@ fn is_next(mark: &FunctionMark) -> bool
     matches!(mark, FunctionMark::Next)
 }
 
-/// Marks what a line marks. Answers whether a mark waits for a label after it.
+/// Marks what a line marks. Answers whether a `.thumb_func` waits for a label after the line.
 fn mark_line(
     alloc: Global,
     functions: &mut IndexSet<Vec<u8>>,
@@ -98,7 +98,7 @@ fn is_function(functions: &IndexSet<Vec<u8>>, name: &[u8]) -> bool
     functions.contains(name)
 }
 
-/// Whether so many words of data and one more stand from the name's label on, with no alignment line before the last of them.
+/// Whether at least `words` + 1 data words follow the name's label, with no instruction and no alignment line before the last of them.
 fn reaches(listing: &Listing, name: &[u8], words: usize) -> bool
     ensures { result ≡ reaches (from_label name.now listing.now) words }
 {
@@ -152,7 +152,7 @@ fn is_aimed_at(listing: &Listing, instr: &Instr, mention: &Option<Mention>) -> b
     }
 }
 
-/// Whether a word of data may mention its name.
+/// Whether a word of data may mention its name: a code label must be marked as a function and have nothing added.
 fn is_word_of(listing: &Listing, functions: &IndexSet<Vec<u8>>, value: &Value) -> bool
     ensures { result ≡ is_word_of listing.now (map (λ k. k.items) functions.now.keys) (value_view value.now) }
 {
@@ -186,7 +186,7 @@ fn is_on_target(listing: &Listing, functions: &IndexSet<Vec<u8>>, statement: &St
     }
 }
 
-/// The first line, by its number from 1, that mentions a name which isn't what it needs.
+/// The first line, by its number from 1, that mentions a name which isn't what its statement needs.
 pub fn first_target(listing: &Listing, functions: &IndexSet<Vec<u8>>) -> Option<u64>
     ensures { result ≡ first_target listing.now (map (λ k. k.items) functions.now.keys) 1 listing.now }
 {

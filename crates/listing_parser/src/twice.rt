@@ -1,4 +1,4 @@
-//! The first line that defines a name again. Names that were seen are in a map, so that long listings need no search for each.
+//! The first line that defines a name again. The names so far are in a hashed set, so that none is searched for line by line.
 ghost use Rattle.std.specs.Prelude.{◌≡◌, ◌++◌, ◌∷◌, [], true, false, map, Decides, IfOk, MatchOption};
 ghost use Rattle.listing_parser.specs.Views.{line_view, statement_view};
 ghost use Rattle.thumb_model.specs.Layout.{is_among};

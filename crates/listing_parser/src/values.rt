@@ -12,7 +12,7 @@ use ascii_scan::{Token, next_token, number};
 use std::alloc::{AllocError, Global};
 use thumb_syntax::is_name;
 
-/// What is 0 with the number added, modulo 2^32.
+/// 0 minus the number, modulo 2^32.
 fn negated(number: u32) -> u32
     ensures { result ≡ negated number }
 {
@@ -109,7 +109,7 @@ fn next_value(alloc: Global, bytes: &[u8]) -> Result<Option<(Value, &[u8])>, All
     }
 }
 
-/// The values by commas, at least one.
+/// The values, separated by commas: at least one. None where there is anything else.
 pub fn values(alloc: Global, bytes: &[u8]) -> Result<Option<Vec<Value>>, AllocError>
     ensures { IfOk result (λ o. option_map (λ vs. map value_view vs.items) o ≡ values (tokens bytes.now)) }
 {

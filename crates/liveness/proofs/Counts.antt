@@ -42,7 +42,7 @@ not_all x (m ∷ ms) (s ∷ ss) zero h n = let r = points_bound x ms ss in let b
     none false b e = refl
 not_all x (m ∷ ms) (s ∷ ss) (suc p) h n = let r = not_all x ms ss p (omega arith) n in let b = from_bool-le (m && has s.bits x) in omega arith
 
--- a marked place that has it is
+-- a marked place that has the item is counted
 pub has_some : (x : ℕ) (ms : List Bool) (ss : List Items) (p : ℕ) → marked ms p ≡ true → has (set_at ss p) x ≡ true → 0 < points_with x ms ss
 unfolding points_with
 has_some x [] ss p m h = absurd (cc)
@@ -50,7 +50,7 @@ has_some x (b ∷ ms) [] p m h = absurd (let z = has_nothing x in cc)
 has_some x (b ∷ ms) (s ∷ ss) zero m h = let e : from_bool (b && has s.bits x) ≡ 1 = ap from_bool (ap (λ c. c && has s.bits x) m ∙ h) in omega arith
 has_some x (b ∷ ms) (s ∷ ss) (suc p) m h = let r = has_some x ms ss p m h in omega arith
 
--- and where one is counted, some marked place has it
+-- and where the count isn't 0, some marked place has the item
 pub some_has : (x : ℕ) (ms : List Bool) (ss : List Items) → 0 < points_with x ms ss → (p : ℕ) × (marked ms p ≡ true) × (has (set_at ss p) x ≡ true)
 unfolding points_with
 some_has x [] ss h = absurd (omega arith)
@@ -106,7 +106,7 @@ none_counted marks s k c w n = record {
 
 -- ---- one set more ----
 
--- that of a place that is no code point
+-- the set of a place that is no code point
 pub plain_put : (marks : List Bool) (s s' : PointSets) (p : ℕ) (new : Items) → AreCounted marks s → p < length s.sets.items → length s.sets.items ≤ length marks → marked marks p ≡ false → s'.sets.items ≡ slice_set s.sets.items p new → s'.counts.items ≡ s.counts.items → s'.points.bits ≡ s.points.bits → AreCounted marks s'
 plain_put marks s s' p new c l many m e d w = record {
   kinds = ap length d ∙ c.kinds;
@@ -121,7 +121,7 @@ plain_put marks s s' p new c l many m e d w = record {
         let b : from_bool (marked marks p && has new.bits x) ≡ 0 = ap (λ b. from_bool (b && has new.bits x)) m in
         ap (points_with x marks) e ∙ (let f : points_with x marks (slice_set s.sets.items p new) ≡ points_with x marks s.sets.items = omega arith in f)
 
--- that of a code point
+-- the set of a code point
 pub point_put : (marks : List Bool) (s s' : PointSets) (p : ℕ) (new : Items) → AreCounted marks s → p < length s.sets.items → length s.sets.items ≤ length marks → marked marks p ≡ true → s'.sets.items ≡ slice_set s.sets.items p new → length s'.counts.items ≡ 19
     → ((x : ℕ) → x < 19 → get_or s'.counts.items x 0 + from_bool (has (set_at s.sets.items p) x) ≡ get_or s.counts.items x 0 + from_bool (has new.bits x))
     → ((x : ℕ) → has s'.points.bits x ≡ (nat_lt x 19 && nat_lt 0 (get_or s'.counts.items x 0))) → AreCounted marks s'

@@ -70,7 +70,7 @@ others_are : (is : List Instr) (k : ℕ) → nth_or_nop (others_of is) k ≡ nth
 others_are [] k = refl
 others_are (i ∷ is) k = refl
 
--- what stands at a place of the window: an instruction at one of the places, and elsewhere nothing
+-- what stands at a place of the window: an instruction at one of `ps`, and elsewhere nothing
 abbrev pub StandsAt : List ℕ → List Instr → ℕ → Option Instr → Type 0
 StandsAt ps is q o = ((k : ℕ) × (k < length ps) × (get_or ps k 0 ≡ q) × (o ≡ Some (nth_or_nop is k))) ⊎ ((one_of q ps ≡ false) × (o ≡ Some nop))
 
@@ -97,7 +97,7 @@ spread_at from (p ∷ ps) is a q f l = elim (cases_lt q p) [
 last_cons : (p q : ℕ) (ps : List ℕ) → get_or (p ∷ q ∷ ps) (length (p ∷ q ∷ ps) - 1) 0 ≡ get_or (q ∷ ps) (length (q ∷ ps) - 1) 0
 last_cons p q ps = ap (λ k. get_or (p ∷ q ∷ ps) k 0) (let e : length (p ∷ q ∷ ps) - 1 ≡ suc (length (q ∷ ps) - 1) = omega arith in e)
 
--- it ends behind the last of the places
+-- the window ends right after the last of the places
 pub spread_end : (from : ℕ) (ps : List ℕ) (is : List Instr) → AreAscending from ps → 0 < length ps → from + length (spread from ps is) ≡ get_or ps (length ps - 1) 0 + 1
 spread_end from [] is a h = absurd (omega arith)
 spread_end from (p ∷ []) is a h = omega (arith, a.0, length-append (nops (p - from)) (first_of is ∷ []), nops_length (p - from))
@@ -105,7 +105,7 @@ spread_end from (p ∷ q ∷ ps) is a h =
     let r = spread_end (suc p) (q ∷ ps) (others_of is) a.1 (omega arith) in
     omega (arith, a.0, r, last_cons p q ps, length-append (nops (p - from)) (first_of is ∷ spread (suc p) (q ∷ ps) (others_of is)), nops_length (p - from))
 
--- no place is behind it
+-- no place of the list comes after the last
 pub none_behind : (from q : ℕ) (ps : List ℕ) → AreAscending from ps → get_or ps (length ps - 1) 0 < q → one_of q ps ≡ false
 none_behind from q [] a h = refl
 none_behind from q (p ∷ []) a h = ap (λ b. b || false) (ne_eqb q p (λ e. omega arith))

@@ -1,4 +1,4 @@
--- Visits that let sets grow, against the law of marks.
+-- Visits that let sets grow preserve the invariant of growing.
 use Rattle.std.proofs.Common.{◌≡◌, ◌≢◌, ℕ, ◌+◌, ◌<◌, ◌==◌, ◌&&◌, ◌||◌, not, true, false, List, [], ◌∷◌, ◌++◌, length, length-append, Option, refl, sym, ap, ◌∙◌, subst, ◌⊎◌, inl, inr, arith, ◌↔◌, eqb-true}
 use Rattle.std.specs.Prelude.{slice_set}
 use Rattle.std.proofs.lemmas.Bool.{cases_eq, cases_Bool, or_cases, or_left, or_right}
@@ -32,7 +32,7 @@ use Rattle.liveness.proofs.Clearings.{point_marked, marked_point}
 use Rattle.liveness.proofs.KeptSets.{set_within as has_within}
 use Rattle.thumb_model.proofs.Lists.{present_at as found}
 
--- what is read there is gained
+-- what a place's ways read is gained
 gains_read : (p x : ℕ) (b : List Items) (w : ℕ) (ms : List ModelWay) (es : List Way) → AreWays p ms es → some_reads ms x ≡ true → gained es b w x ≡ true
 gains_read p x b w [] es a h = absurd (cc)
 gains_read p x b w (m ∷ ms) [] a h = absurd a
@@ -85,7 +85,7 @@ module _ (code : Code) (all : List (Option Ways)) (g : Graph) (graph : IsGraph c
   passes : (x q : ℕ) → Passes code x p q → in_sets s.sets.items x q ≡ true → in_sets s'.sets.items x p ≡ true
   passes x q a h = gains x (way_gains p s.sets.items s.points.bits x (ways code p) (ways_at all p) ways_here a.number a.found a.is (inr (a.unwritten, comes_from code s.sets.items s.points.bits are_sound p x q a.found.leads a.leads h)))
 
-  -- what leads to a place that gained the item
+  -- a predecessor of a place that gained the item has it, or is on the stack
   led : (x q : ℕ) → (a : Passes code x q p) → a.found.leads ≢ AnyPoint → in_sets s.sets.items x p ≡ false → in_sets s'.sets.items x p ≡ true → one_of q k'.places ≡ true
   led x q a d n h = elim (v.leading wired q (passes_leads p x (ways_at all q) (passes_there code all graph.ways graph.as_many x q p a d))) [
     | inr o ↦ o
@@ -161,7 +161,7 @@ module _ (all : List (Option Ways)) (g : Graph) (p : ℕ) (s : PointSets) (k : S
     advances = inr (refl, refl);
   }
 
-  -- the set grew, and what leads there is on the stack
+  -- the set grew, and its predecessors are on the stack
   pub grows_put : (s' : PointSets) (k' : Stack) → p < length s.sets.items → s'.sets.items ≡ slice_set s.sets.items p new → new.bits ≢ old.bits → ((q : ℕ) → one_of q k.places ≡ true → one_of q k'.places ≡ true) → (IsWired all g.callers → (q : ℕ) → some_leads p (ways_at all q) ≡ true → one_of q k'.places ≡ true)
       → (AreReturns all (length all) g.returns.items → (q : ℕ) → some_return (ways_at all q) ≡ true → (s'.points.bits ≡ s.points.bits) ⊎ (one_of q k'.places ≡ true)) → GrowsAt all g p s k s' k'
   grows_put s' k' inside sets changed kept leading returns = record {
@@ -173,7 +173,7 @@ module _ (all : List (Option Ways)) (g : Graph) (p : ℕ) (s : PointSets) (k : S
     advances = inl (omega (arith, grows old.bits new.bits old.is_small new.is_small (λ x h. is x ∙ or_left _ _ h) changed, total_set s.sets.items p new inside, ap (weight_below 19) at, ap total sets));
   }
 
--- a way that leads to a place goes on to it, or jumps there: both were told
+-- a way that leads to a place comes from right before it or is a jump: both were pushed
 pub both_told : (all : List (Option Ways)) (g : Graph) (p : ℕ) (one two three : List ℕ) → ((q : ℕ) → q + 1 ≡ p → some_leads p (ways_at all q) ≡ true → one_of q one ≡ true) → ((q : ℕ) → one_of q one ≡ true → one_of q two ≡ true) → (AreCallers all (length all) g.callers → (q : ℕ) → JumpsTo all p q → one_of q two ≡ true) → ((q : ℕ) → one_of q two ≡ true → one_of q three ≡ true)
     → IsWired all g.callers → (q : ℕ) → some_leads p (ways_at all q) ≡ true → one_of q three ≡ true
 both_told all g p one two three before on jumps kept w q h = elim (w.told p q h) [

@@ -97,7 +97,7 @@ leads_by p q (m ∷ ms) (w ∷ ws) a u h = elim (or_cases _ _ h) [
   ]
 ]
 
--- a way that leads to a place goes on to it, or jumps there
+-- a way that leads to a place comes from right before it, or is a jump
 pub leads_told : (code : Code) (all : List (Option Ways)) (p q : ℕ) → AreAllWays code all → some_leads p (ways_at all q) ≡ true → (q + 1 ≡ p) ⊎ JumpsTo all p q
 leads_told code all p q a h = go (slice_get all q) refl h
   where
@@ -216,7 +216,7 @@ is_within all q h = elim (cases_lt q (length all)) [
 
 -- ---- told one by one ----
 
--- the jumps to t from places before some n are left, and the others are told
+-- the jumps to t from places before some n are left, and the others are marked
 abbrev pub AreTold : List (Option Ways) → List Jump → ℕ → ℕ → List Bool → Type 0
 AreTold all jumps t rest ms = (n : ℕ) × IsLast all jumps t n rest × ((q : ℕ) → n ≤ q → JumpsTo all t q → marked ms q ≡ true)
 

@@ -1,4 +1,4 @@
--- Live items where a window gave way.
+-- Where a window gave way and the test holds, an item is live from a place now exactly where it was before.
 use Rattle.std.proofs.Common.{◌≡◌, ℕ, zero, suc, ◌+◌, ◌<◌, ◌≤◌, Bool, true, false, List, [], ◌∷◌, length, drop, Some, refl, sym, ap, ◌∙◌, subst, ◌⊎◌, inl, inr, arith}
 use Rattle.std.specs.Prelude.{slice_get}
 use Rattle.std.proofs.lemmas.Bool.{cases_lt, cases_eq, or_cases}
@@ -34,7 +34,7 @@ through_map [] x A B f t = f t
 through_map (i ∷ is) x A B f (inl u) = inl u
 through_map (i ∷ is) x A B f (inr t) = inr (t.0, through_map is x A B f t.1)
 
--- it is read there, or passes it with whatever holds then
+-- it is read there, or A holds after it and any B may be put in A's place
 either : (is : List Instr) (x : ℕ) (A B : Type 0) → Through is x A → Through is x B ⊎ (A × (B → Through is x B))
 either [] x A B t = inr (t, λ b. b)
 either (i ∷ is) x A B (inl u) = inl (inl u)
@@ -78,14 +78,14 @@ module _ (code new_code : Code) (to : ℕ → ℕ) (p : ℕ) (window new : List 
   abbrev Apart : ℕ → Type 0
   Apart q = (q < p) ⊎ (p + length window ≤ q)
 
-  -- what stands behind the window
+  -- the place right after the window
   abbrev end : ℕ
   end = p + length new
 
   to_end : to (p + length window) ≡ end
   to_end = let b = at.behind (p + length window) (omega arith) in omega arith
 
-  -- what the flows behind the window read is read from there still
+  -- what the flows after the window read is still read from there
   along : (fs : List Flow) (q : ℕ) → p + length window ≤ q → AreFlowsFrom code q fs → read_along fs x ≡ true → Reads new_code x (to q)
   along [] q l h t = absurd (cc)
   along (f ∷ fs) q l h t =
@@ -131,7 +131,7 @@ module _ (code new_code : Code) (to : ℕ → ℕ) (p : ℕ) (window new : List 
               subst (Reads new_code x) (let z : p ≡ to s = omega arith in z) (enter (subst (Reads code x) e r) (k.1 0 (omega arith) (omega arith)))
         ]
 
-    -- behind an instruction of the window
+    -- after an instruction of the window
     rest : (s j : ℕ) → s ≡ p + (j + 1) → j < length window → Stays s → Through (drop (j + 1) window) x (Reads new_code x end)
     rest s j e l k =
         elim (cases_lt (j + 1) (length window)) [
@@ -162,7 +162,7 @@ module _ (code new_code : Code) (to : ℕ → ℕ) (p : ℕ) (window new : List 
           subst (λ (is : List Instr). Through is x (Reads new_code x end)) (sym i.2) (inr (ap (λ (v : Way). one_of x v.writes) one ∙ n, rest s j (omega arith) l (reads_stay s t))),
     )
 
-    -- what is read from a place outside the window is read from it still
+    -- what is read from a place outside the window is still read from it
     pub still_read : (q : ℕ) → IsOutside p (length window) q → Reads code x q → Reads new_code x (to q)
     still_read q o r = arrive q o r (reads_stay q r)
 

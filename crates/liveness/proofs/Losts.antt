@@ -72,7 +72,7 @@ told_one ms ms' place tells l t e p = (back, on)
     on (inl m) = ap (λ y. marked y p) e ∙ mark_kept ms place p l m
     on (inr s) = ap (λ y. marked y p) e ∙ ap (marked (slice_set ms place true)) s.0 ∙ marked_set ms place true l
 
--- of the touched places, those that are left are still to be told
+-- of the touched places, those that are left are still to be looked at
 pub record IsTelling (touched rest : List ℕ) (was before : List Items) (ms ms' : List Bool) : Type 0 where
   pub many : length ms' ≡ length ms
   pub members : (p : ℕ) → one_of p rest ≡ true → one_of p touched ≡ true

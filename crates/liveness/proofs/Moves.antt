@@ -208,7 +208,7 @@ module _ (code : Code) (p : ℕ) (window new : List Instr) (at : KeepsAt code p 
   outside_next q (inl h) = inl (omega arith)
   outside_next q (inr h) = inr (omega arith)
 
-  -- where a way of a place leads, if so it is with the next place, with labels and with code points
+  -- P holds where a way of a place leads, if it does of the next place, of labels' places and of code points
   pub lands : (P : ℕ → Type 0) (q : ℕ) → P (q + 1) → ((s : ℕ) → IsLabelsPlace code.labels s → P s) → ((s : ℕ) → IsPoint code s → P s) → (k : ℕ) (w : Way) (s : ℕ) → slice_get (ways code q) k ≡ Some w → Follows code q w.leads s → P s
   lands P q next label point k w s e f = on (slice_get code.places q) e
     where

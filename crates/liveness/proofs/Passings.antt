@@ -1,4 +1,4 @@
--- What ways pass on, against the model's ways.
+-- The code's functions on what ways read and pass on agree with the model's ways.
 use Rattle.std.proofs.Common.{◌≡◌, ◌≢◌, ℕ, zero, suc, ◌+◌, ◌<◌, ◌&&◌, ◌||◌, not, Bool, true, false, List, [], ◌∷◌, length, get_or, Option, Some, None, refl, sym, ap, ◌∙◌, subst, ◌⊎◌, inl, inr, arith, eq-eqb}
 use Rattle.std.specs.Prelude.{slice_get}
 use Rattle.std.proofs.lemmas.Bool.{or_cases, or_left, or_right}
@@ -35,13 +35,13 @@ one_way false false w = refl
 
 -- ---- the ways of a place ----
 
--- a place of the code has ways by the list
+-- each way of a place in the model has its way in the list
 pub ways_there : (code : Code) (all : List (Option Ways)) → AreAllWays code all → length all ≡ length code.places → (p k : ℕ) (v : ModelWay) → slice_get (ways code p) k ≡ Some v → AreWays p (ways code p) (ways_at all p)
 ways_there code all a m p k v g =
     let e = present_at all p (let l = within code p k v g in omega (arith, l, m)) in
     subst (λ (o : Option (Option Ways)). AreWays p (ways code p) (ways_in o)) (sym e.1) (a p e.0 e.1)
 
--- it reads what they read
+-- ways read what the model's ways read
 pub uses_are : (p x : ℕ) (ms : List ModelWay) (es : List Way) → AreWays p ms es → uses_among es x ≡ some_reads ms x
 uses_are p x [] [] a = refl
 uses_are p x [] (e ∷ es) a = absurd a

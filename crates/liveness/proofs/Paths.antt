@@ -1,4 +1,4 @@
--- Sets that no visit changes are what is live by paths.
+-- Sets that no visit changes have exactly the items that are live, which is said by paths.
 use Rattle.std.proofs.Common.{◌≡◌, ℕ, zero, suc, ◌+◌, ◌<◌, ◌==◌, ◌&&◌, ◌||◌, not, true, false, List, [], ◌∷◌, length, Option, Some, refl, sym, ap, ◌∙◌, subst, ◌⊎◌, inl, inr, arith, ◌↔◌}
 use Rattle.std.specs.Prelude.{slice_get}
 use Rattle.std.proofs.lemmas.Bool.{not-true, or_cases}
@@ -25,7 +25,7 @@ use Rattle.thumb_model.proofs.Shared.{within}
 pub has_zero : (x : ℕ) → has 0 x ≡ false
 has_zero x = ap (λ n. n == 1) (bit_at-zero x)
 
--- what a way does for an item, by the sets so far
+-- a way makes an item live before its place, by the sets so far
 abbrev pub Helps : ℕ → List Items → ℕ → ℕ → ModelWay → Type 0
 Helps p b w x v = (one_of x v.reads ≡ true) ⊎ ((one_of x v.writes ≡ false) × (has (there (next_of p v.leads) b w) x ≡ true))
 
@@ -104,7 +104,7 @@ gained_reads code p b w x es s a h =
     go k v g (inl r) = now p k v g r
     go k v g (inr r) = let f = goes_to code b w s p x v.leads r.1 in later p k v f.0 g r.0 f.1 f.2
 
--- the sets are finished
+-- the sets are finished: sound, and no visit would change them
 pub record AreFinished (code : Code) (all : List (Option Ways)) (b a : List Items) (w : ℕ) : Type 0 where
   pub as_many : length all ≡ length code.places
   pub has_ways : AreAllWays code all

@@ -1,4 +1,4 @@
--- How sets settle, and in how many visits.
+-- Working out live items from scratch: the invariant is preserved, and visits are bounded.
 use Rattle.std.proofs.Common.{◌≡◌, ◌≢◌, ℕ, zero, suc, replicate, ◌+◌, ◌-◌, ◌*◌, ◌^◌, ◌<◌, ◌≤◌, min, Bool, true, false, List, [], ◌∷◌, length, mul-le-mul_right, Option, Some, refl, sym, ap, ◌∙◌, ◌⊎◌, inl, inr, arith}
 use Rattle.std.specs.Prelude.{slice_get}
 use Rattle.std.proofs.lemmas.Option.{slice_get_within}
@@ -48,7 +48,7 @@ begun code all f w before after sound waiting many marks = record {
   closed = λ q ws at off none. absurd (let t = marks q (slice_get_within all q ws at) in cc);
 }
 
--- a place that waits no more is pending
+-- a place that was taken is pending
 pub taken_settling : (code : Code) (all : List (Option Ways)) (f : Found) (p : ℕ) (w w' : Waiting) → IsSettling code all [] f w → IsTaken p w w' → IsSettling code all (p ∷ []) f w'
 taken_settling code all f p w w' s t = record {
   before_len = s.before_len;

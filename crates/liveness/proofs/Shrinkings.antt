@@ -24,7 +24,7 @@ use Rattle.liveness.specs.Walk.{start_at, IsFitWalk}
 use Rattle.liveness.specs.Window.{AreAscending}
 use Rattle.liveness.proofs.Windows.{ascends}
 
--- where the sets were exact, a place that wasn't touched lacks nothing: growing may begin with those that were
+-- where the sets were exact, a place that wasn't touched lacks nothing: growing may begin with the touched places alone
 pub growing_begins : (t : Change) (all : List (Option Ways)) (g : Graph) (old : Window) (k k' : Walk) (marks : List Bool) (n : ℕ) → IsChangeBy t all g old → IsFitWalk marks n k' → ((p : ℕ) → start_at k' p ≡ set_at k.before.sets.items p) → ((p : ℕ) → old.first ≤ p → p < old.end → one_of p k'.touched.places ≡ true)
     → ((p x : ℕ) → (has (set_at k.before.sets.items p) x ≡ true) ↔ Reads t.code x p) → ((p x : ℕ) → has (set_at k'.before.sets.items p) x ≡ true → Reads t.new x p) → IsGrowing t.new k'.before.sets.items k'.touched.places
 growing_begins t all g old k k' marks n by fit start touched exact read = record { read = read; closed = closed }

@@ -1,4 +1,4 @@
--- What is kept of a listing at first.
+-- What `KeptLive` begins with meets its invariant.
 use Rattle.std.proofs.Common.{◌≡◌, ℕ, zero, suc, ◌+◌, ◌<◌, ◌≤◌, ◌^◌, ◌==◌, Bool, true, false, List, [], ◌∷◌, length, take, replicate, Option, if◌then◌else◌, sym, ap, ◌∙◌, inl, inr, arith, ◌↔◌}
 use Rattle.std.specs.Prelude.{slice_set}
 use Rattle.std.proofs.lemmas.Bool.{cases_eq, cases_lt, or_cases, or_left, or_right}

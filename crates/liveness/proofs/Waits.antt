@@ -1,4 +1,4 @@
--- Places that begin to wait, and cease to.
+-- Pushing and taking places preserves the invariant of those that wait.
 use Rattle.std.proofs.Common.{◌≡◌, ◌≢◌, ℕ, zero, suc, ◌+◌, ◌<◌, ◌≤◌, ◌||◌, Bool, true, false, List, [], ◌∷◌, ◌++◌, length, length-append, replicate, refl, sym, ap, ◌∙◌, ◌⊎◌, inl, inr, arith, ne_eqb}
 use Rattle.std.specs.Prelude.{slice_set}
 use Rattle.std.specs.Int.{from_bool}

@@ -10,13 +10,13 @@ use Rattle.code_flow.specs.declared.way.Ways.{Ways}
 use Rattle.liveness.specs.Live.{set_at}
 use Rattle.liveness.specs.Graph.{ways_at}
 
--- the word where a way from p leads, if that is ahead
+-- the set, as a word, of the place where a way from p leads, if that is greater than p
 abbrev pub ahead : ℕ → Next → List Items → ℕ
 ahead p (Place q) sets = if nat_lt p q then set_at sets q else 0
 ahead p Points sets = 0
 ahead p Out sets = 0
 
--- what is read from p for sure, by what is from the places ahead
+-- whether item x is read from p for sure, given the sets of the places ahead
 abbrev pub gained_ahead : ℕ → List Way → List Items → ℕ → Bool
 gained_ahead p [] sets x = false
 gained_ahead p (w ∷ ws) sets x = (has w.uses.bits x || (has (ahead p w.next sets) x && not (has w.writes.bits x))) || gained_ahead p ws sets x

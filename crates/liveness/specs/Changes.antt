@@ -30,7 +30,7 @@ pub record WasLive (lines : List ListingLine) (place old new : ℕ) (sets : Sets
   pub labels_stay : (k : ℕ) (l : Label) → slice_get (labels_from 0 before) k ≡ Some l → is_code (places_of before) l ≡ true → is_code (replaced (code_of before) place old instrs).places (move_label place (old - new) l) ≡ true
   pub is : lines ≡ replaced_lines write place old instrs before
 
--- each of the items is read in straight code before it is written, or by flows of the places from one on
+-- each of the items is read in straight code before it is written, or by the flows of some places from `behind` on
 pub record AreReadFrom (code : Code) (instrs : List Instr) (items : Items) (behind : ℕ) : Type 0 where
   pub ahead : List Flow
   pub flows : AreFlowsFrom code behind ahead

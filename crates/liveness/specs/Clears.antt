@@ -1,4 +1,4 @@
--- Items that are cleared backwards from a window that gives way.
+-- The invariant of clearing items backwards from a window that gives way.
 use Rattle.std.specs.Prelude.{◌≡◌, ℕ, ◌+◌, ◌<◌, ◌≤◌, ◌&&◌, ◌||◌, not, Bool, true, false, List, length, Option, ◌⊎◌}
 use Rattle.thumb_instr.specs.declared.instr.Instr.{Instr}
 use Rattle.thumb_instr.specs.declared.items.Items.{Items}
@@ -20,11 +20,11 @@ use Rattle.liveness.specs.Within.{IsWired}
 
 -- ---- one place ----
 
--- the item is before no place that passes it to any code point, but where that keeps it
+-- item x is only then in the set before a place that passes it to any code point, if that place keeps it
 abbrev pub ReturnsClear : List (Option Ways) → List Items → Walk → ℕ → Type 0
 ReturnsClear all forward k x = (p : ℕ) → passes_points (ways_at all p) x ≡ true → has (set_at k.before.sets.items p) x ≡ true → Keeps all forward p x
 
--- what was cleared before q was cleared from where it leads there, and by what is gone from all code points
+-- what was cleared before q is cleared from q's predecessors too; if q is a code point, from those of all code points, and `gone'` has it
 pub record ClearsStep (all : List (Option Ways)) (g : Graph) (forward : PointSets) (window : Window) (q : ℕ) (k : Walk) (gone : Items) (k' : Walk) (gone' : Items) : Type 0 where
   pub before : IsWired all g.callers → (p x : ℕ) → (p < window.first) ⊎ (window.end ≤ p) → cleared k q x ≡ true → passes_to q (ways_at all p) x ≡ true → has (set_at k'.before.sets.items p) x ≡ true → Keeps all forward.sets.items p x
   pub through : (x : ℕ) → q ≡ window.end → cleared k q x ≡ true → has window.writes.bits x ≡ false → has (set_at k'.before.sets.items window.first) x ≡ true → (has window.reads.bits x ≡ true) ⊎ (has (set_at forward.sets.items window.first) x ≡ true)
@@ -63,7 +63,7 @@ pub record IsChangeBy (t : Change) (all : List (Option Ways)) (g : Graph) (windo
   pub reads : (x : ℕ) → has window.reads.bits x ≡ reads_first t.old x
   pub writes : (x : ℕ) → has window.writes.bits x ≡ writes_in t.old x
 
--- the marks of one item
+-- before which places item x is, and before which it is cleared but its predecessors are still to be looked at
 abbrev pub in_sets : List Items → ℕ → ℕ → Bool
 in_sets sets x p = has (set_at sets p) x
 
@@ -73,6 +73,6 @@ pending k x p = one_of p k.stack.places && cleared k p x
 abbrev pub IsClearingAt : Change → List Items → Walk → ℕ → Type 0
 IsClearingAt t forward k x = IsClearing t.code t.place t.old t.is x (in_sets forward x) (in_sets k.before.sets.items x) (pending k x)
 
--- the walk went on
+-- the walk goes on from k to k' and preserves the invariant
 abbrev pub IsSettledBy : List (Option Ways) → Graph → PointSets → Window → Walk → Walk → Type 0
 IsSettledBy all g forward window k k' = (t : Change) → IsChangeBy t all g window → ((x : ℕ) → IsClearingAt t forward.sets.items k x) → (x : ℕ) → IsClearingAt t forward.sets.items k' x

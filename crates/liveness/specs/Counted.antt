@@ -11,7 +11,7 @@ points_with x [] ss = 0
 points_with x (m ∷ ms) [] = 0
 points_with x (m ∷ ms) (s ∷ ss) = from_bool (m && has s.bits x) + points_with x ms ss
 
--- the counts are those of the marked places, and the word has what is counted
+-- the counts are those of the marked places, and `points` has the items whose count isn't 0
 pub record AreCounted (marks : List Bool) (s : PointSets) : Type 0 where
   pub kinds : length s.counts.items ≡ 19
   pub counts : (x : ℕ) → x < 19 → get_or s.counts.items x 0 ≡ points_with x marks s.sets.items

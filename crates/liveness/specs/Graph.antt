@@ -1,4 +1,4 @@
--- From where ways lead to a place, and to any code point.
+-- The predecessors of each place, and the places from which a way leads to any code point, as tables.
 use Rattle.std.specs.Prelude.{◌≡◌, ℕ, suc, ◌+◌, ◌<◌, ◌≤◌, ◌==◌, ◌||◌, Bool, true, false, List, [], ◌∷◌, length, Option, Some, None, slice_get, if◌then◌else◌}
 use Rattle.thumb_instr.specs.Items.{one_of}
 use Rattle.thumb_model.specs.Listing.{Code}
@@ -59,7 +59,7 @@ JumpsTo all t q = jump_from (q + 1) (ways_at all q) ≡ Some t
 
 -- ---- jumps to a place ----
 
--- of the jumps to t from places before n, the last has this number, counted from 1, which is 0 where there is none
+-- `number` is that of the last jump to t from a place before n, counted from 1, or 0 where there is none
 pub record IsLast (all : List (Option Ways)) (jumps : List Jump) (t n number : ℕ) : Type 0 where
   pub within : number ≤ length jumps
   pub jump : (k : ℕ) (j : Jump) → number ≡ suc k → slice_get jumps k ≡ Some j → (j.place < n) × JumpsTo all t j.place
@@ -85,7 +85,7 @@ pub record AreReturns (all : List (Option Ways)) (n : ℕ) (returns : List ℕ) 
   pub all_of_them : (q : ℕ) → q < n → some_return (ways_at all q) ≡ true → one_of q returns ≡ true
   pub within : (q : ℕ) → one_of q returns ≡ true → q < n
 
--- the graph of a listing, whose ways these are
+-- g is the graph of a listing, and `all` has the ways of its places
 pub record IsGraph (code : Code) (all : List (Option Ways)) (g : Graph) : Type 0 where
   pub as_many : length all ≡ length code.places
   pub ways : AreAllWays code all

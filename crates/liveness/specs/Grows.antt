@@ -29,6 +29,6 @@ pub record IsGrowing (code : Code) (sets : List Items) (stack : List ℕ) : Type
   pub read : (p x : ℕ) → has (set_at sets p) x ≡ true → Reads code x p
   pub closed : (x p : ℕ) → one_of p stack ≡ false → IsClosedAt code x (in_sets sets x) p
 
--- so it stays
+-- that is preserved from the old sets and stack to the new
 abbrev pub IsGrownBy : List (Option Ways) → Graph → List Items → List ℕ → List Items → List ℕ → Type 0
 IsGrownBy all g sets stack sets' stack' = (code : Code) → IsGraph code all g → IsGrowing code sets stack → IsGrowing code sets' stack'

@@ -26,7 +26,7 @@ abbrev pub onward_writes : List Way → Option (List ℕ)
 onward_writes [] = None
 onward_writes (w ∷ ws) = if_onward w.leads w.writes (onward_writes ws)
 
--- a set has what is in the list, where there are any
+-- the set has just the items of the list, or there is neither
 abbrev pub HasThese : Option (List ℕ) → Option Items → Type 0
 HasThese None None = Unit {0}
 HasThese (Some list) (Some set) = (x : ℕ) → has set.bits x ≡ one_of x list
@@ -53,7 +53,7 @@ pub record KeepsAt (code : Code) (p : ℕ) (window new : List Instr) : Type 0 wh
   pub unlabelled : (k : ℕ) (l : Label) → slice_get code.labels k ≡ Some l → (l.place ≤ p) ⊎ (p + length window ≤ l.place)
   pub labels_stay : (k : ℕ) (l : Label) → slice_get code.labels k ≡ Some l → is_code code.places l ≡ true → is_code (replaced code p (length window) new).places (move_label p (length window - length new) l) ≡ true
 
--- the sets with these in place of those of `count` places from p on
+-- the sets, with new ones in place of those of `count` places from p on
 abbrev pub replaced_sets : ℕ → ℕ → List NewSets → Sets → Sets
 replaced_sets p count new sets = record {
   before = take p sets.before ++ (map (λ n. n.before) new ++ drop (p + count) sets.before);

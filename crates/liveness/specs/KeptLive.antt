@@ -34,7 +34,7 @@ pub record IsKeptLive (code : Code) (k : Parts) : Type 0 where
 abbrev pub LosesAt : ℕ → ℕ → Type 0
 LosesAt old new = (x : ℕ) × (has old x ≡ true) × (has new x ≡ false)
 
--- sets, counts and graph are of as many places
+-- sets, counts and graph are for the same number of places, and no place is due
 pub record IsFitKept (k : KeptFlow) : Type 0 where
   pub inside : IsInside (length k.ways.items) k.graph
   pub forward_many : length k.forward.sets.items ≡ length k.ways.items
@@ -43,13 +43,13 @@ pub record IsFitKept (k : KeptFlow) : Type 0 where
   pub due_none : (q : ℕ) → marked k.due q ≡ false
   pub walk : IsFitWalk k.graph.is_point.items (length k.ways.items) k.walk
 
--- and no place is on a stack
+-- between calls no place is on a stack either
 pub record IsIdle (k : KeptFlow) : Type 0 where
   pub fit : IsFitKept k
   pub stack : k.walk.stack.places ≡ []
   pub touched : k.walk.touched.places ≡ []
 
--- where the sets were those of the old code, what they still have is read in the new one
+-- if the sets were those of the old code, then what they still have is live in the new one
 abbrev pub IsShrunkBy : List (Option Ways) → Graph → List Items → Window → Window → Walk → Walk → Type 0
 IsShrunkBy all g forward old fresh k k' =
     (t : Change) → IsChangeBy t all g old → IsUnlabelled t.code t.place (length t.old) → ((x : ℕ) → has fresh.reads.bits x ≡ reads_first t.is x) → ((x : ℕ) → has fresh.writes.bits x ≡ writes_in t.is x) → IsAhead all forward

@@ -1,4 +1,4 @@
--- What is kept of a code.
+-- What contracts see of `KeptLive`.
 use Rattle.std.specs.Prelude.{List, Option}
 use Rattle.thumb_instr.specs.declared.items.Items.{Items}
 use Rattle.code_flow.specs.declared.way.Ways.{Ways}

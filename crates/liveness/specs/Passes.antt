@@ -12,13 +12,13 @@ use Rattle.code_flow.specs.declared.way.Ways.{Ways}
 use Rattle.code_flow.specs.Flow.{way_list}
 use Rattle.liveness.specs.Live.{set_at}
 
--- the word where a way leads
+-- the set, as a word, where a way leads; `points` is that of all code points
 abbrev pub there : Next → List Items → ℕ → ℕ
 there (Place q) sets points = set_at sets q
 there Points sets points = points
 there Out sets points = 0
 
--- what is read from the place on, and what is read after it
+-- whether item x is read from a place with these ways on, and whether it is read after that place
 abbrev pub gained : List Way → List Items → ℕ → ℕ → Bool
 gained [] sets points x = false
 gained (w ∷ ws) sets points x = (has w.uses.bits x || (has (there w.next sets points) x && not (has w.writes.bits x))) || gained ws sets points x
@@ -36,7 +36,7 @@ unfoldable pub total : List Items → ℕ
 total [] = 0
 total (s ∷ ss) = weight_below 19 s.bits + total ss
 
--- a visit of place p, whose ways these are, turned the sets before and after places, and the word of the code points, into these
+-- a visit of place p, which has these ways, turned the sets b before and a after places, and the word w of all code points, into b', a' and w'
 pub record IsVisit (ws : List Way) (is_point : Bool) (p : ℕ) (b a : List Items) (w : ℕ) (b' a' : List Items) (w' : ℕ) (changed : Bool) : Type 0 where
   pub after_here : (x : ℕ) → has (set_at a' p) x ≡ led ws b w x
   pub after_else : (q : ℕ) → q ≢ p → slice_get a' q ≡ slice_get a q
@@ -57,6 +57,6 @@ pub record IsClosed (ws : List Way) (p : ℕ) (b a : List Items) (w : ℕ) : Typ
   pub before : (x : ℕ) → gained ws b w x ≡ true → has (set_at b p) x ≡ true
   pub after : (x : ℕ) → has (set_at a p) x ≡ led ws b w x
 
--- nor would one of any place
+-- a visit of any place would change nothing
 abbrev pub AreClosed : List (Option Ways) → List Items → List Items → ℕ → Type 0
 AreClosed all b a w = (q : ℕ) (ws : Option Ways) → slice_get all q ≡ Some ws → IsClosed (way_list ws) q b a w

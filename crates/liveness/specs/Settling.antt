@@ -1,4 +1,4 @@
--- Sets of live items on their way.
+-- The invariant and the measure of working out live items from scratch.
 use Rattle.std.specs.Prelude.{◌≡◌, ℕ, ◌+◌, ◌≤◌, false, List, length, Option, Some, slice_get, ◌⊎◌}
 use Rattle.thumb_instr.specs.Items.{one_of}
 use Rattle.thumb_model.specs.Listing.{Code}

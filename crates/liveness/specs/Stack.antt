@@ -1,4 +1,4 @@
--- Places that wait, in the order in which they came, of so many.
+-- A stack of places as contracts see it: the places in the order in which they came, and for how many there is room.
 use Rattle.std.specs.Prelude.{ℕ, List}
 
 pub record Stack : Type 0 where

@@ -1,4 +1,4 @@
--- What is kept of places that wait.
+-- The invariant of a stack of places.
 use Rattle.std.specs.Prelude.{◌≡◌, ℕ, ◌≤◌, false, List, [], ◌∷◌, length, vec_capacity}
 use Rattle.kept_places.specs.Marks.{marked}
 use Rattle.thumb_instr.specs.Items.{one_of}

@@ -16,7 +16,7 @@ pub record AreWaiting (w : Waiting) : Type 0 where
   pub listed : (q : ℕ) → marked w.marks.items q ≡ true → (one_of q w.again.items ≡ true) ⊎ (q < w.fresh)
   pub few : left w ≤ count_marked w.marks.items
 
--- more places wait than before
+-- all places that waited still wait, and no fewer than before
 pub record WaitMore (w w' : Waiting) : Type 0 where
   pub waiting : AreWaiting w'
   pub as_many : length w'.marks.items ≡ length w.marks.items

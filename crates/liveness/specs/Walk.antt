@@ -14,7 +14,7 @@ start_at k p = if one_of p k.touched.places then set_at k.was.items p else set_a
 abbrev pub cleared : Walk → ℕ → ℕ → Bool
 cleared k p x = has (start_at k p) x && not (has (set_at k.before.sets.items p) x)
 
--- sets for so many places, of which these are code points
+-- the walk has sets for n places; `marks` says which are code points
 pub record IsFitWalk (marks : List Bool) (n : ℕ) (k : Walk) : Type 0 where
   pub enough : n ≤ length marks
   pub few : n < 2 ^ 32

@@ -8,13 +8,13 @@ use Rattle.code_flow.specs.Flow.{AreWays, way_list}
 use Rattle.shrinking_sets.specs.Straight.{nop, IsExchange, IsUnlabelled}
 use Rattle.padded_code.specs.Spread.{spread}
 
--- the instruction of this number, or what stands where a place is gone
+-- the instruction of this number, or the nop that stands where a place is gone
 abbrev pub nth_or_nop : List Instr → ℕ → Instr
 nth_or_nop [] k = nop
 nth_or_nop (i ∷ is) zero = i
 nth_or_nop (i ∷ is) (suc k) = nth_or_nop is k
 
--- each place is greater than the one before it, and the first isn't below this
+-- the places are in ascending order, and none is below `from`
 abbrev pub AreAscending : ℕ → List ℕ → Type 0
 AreAscending from [] = Unit {0}
 AreAscending from (p ∷ ps) = (from ≤ p) × AreAscending (suc p) ps

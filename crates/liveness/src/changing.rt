@@ -1,4 +1,4 @@
-//! The sets of live items of a listing in which instructions gave way to others.
+//! Updates the sets of live items of a listing in which instructions gave way to others, without working out all anew where it can.
 ghost use Rattle.std.specs.Prelude.{◌≡◌, ◌≤◌, ◌+◌, ◌*◌, ◌<◌, ◌^◌, ◌++◌, ℕ, length, map, take, drop, slice_get, true, IfSome, OnOk, OnErr, Some};
 ghost use Rattle.thumb_instr.specs.declared.instr.Instr.{Instr as AnInstr};
 ghost use Rattle.thumb_model.specs.Listing.{code_of, places_of, plain};
@@ -31,7 +31,7 @@ fn plain_at(listing: &Listing, place: u32) -> Option<Instr>
     }
 }
 
-/// The instructions of so many places from one on, where they are at most five and mention nothing.
+/// The instructions of `count` places from `place` on, where they are at most five and mention nothing.
 fn plain_from(listing: &Listing, place: u32, count: u32) -> Option<Seq>
     ensures as_many { IfSome result (λ is. length is ≡ count) }
     ensures stand { IfSome result (λ is. (k : ℕ) (i : AnInstr) → slice_get is k ≡ Some i → slice_get (places_of listing.now) (place + k) ≡ Some (plain i)) }
@@ -49,7 +49,7 @@ fn plain_from(listing: &Listing, place: u32, count: u32) -> Option<Seq>
     Some(instrs)
 }
 
-/// Whether each of these items is read in straight code before it is written, or else by the flows of the places from one on.
+/// Whether each of these items is surely read in straight code before it is written, or else by the flows of the places from `behind` on.
 fn are_read(listing: &Listing, instrs: &[Instr], items: Items, behind: u32) -> bool
     ensures { result ≡ true → AreReadFrom (code_of listing.now) instrs.now items behind }
 {
@@ -61,7 +61,7 @@ fn are_read(listing: &Listing, instrs: &[Instr], items: Items, behind: u32) -> b
     missing.minus(read_ahead(ahead.as_slice())).bits == 0
 }
 
-/// Leaves sets out: those of so many places from one on.
+/// Removes the sets of `count` places from `place` on.
 fn leave_out(sets: &mut Vec<Items>, place: usize, count: usize)
     requires { place + count ≤ length sets.old.items }
     ensures { sets.new.items ≡ take place sets.old.items ++ drop (place + count) sets.old.items }
@@ -71,7 +71,7 @@ fn leave_out(sets: &mut Vec<Items>, place: usize, count: usize)
     }
 }
 
-/// Puts the sets of instructions in place of those of the places from one on.
+/// Puts the sets of new instructions in place of those of as many places from `place` on.
 fn put(before: &mut Vec<Items>, after: &mut Vec<Items>, place: usize, new: &[NewSets])
     requires before { place + length new.now ≤ length before.old.items }
     requires after { place + length new.now ≤ length after.old.items }
@@ -85,8 +85,8 @@ fn put(before: &mut Vec<Items>, after: &mut Vec<Items>, place: usize, new: &[New
 }
 
 impl Live {
-    /// The sets of new instructions that stand in place of others, where all other sets stay: where the set before them is that before the others, and each
-    /// item of it is read by the new instructions or by what follows them, so that none was live for the others alone.
+    /// The sets of the new instructions, if it is known that all other sets stay: the set before the window is as it was, and each of its items is read by
+    /// the new instructions or by what follows them, so that none was live for the old instructions alone.
     fn kept(
         &self,
         listing: &Listing,
@@ -113,7 +113,7 @@ impl Live {
         Some(new_sets(instrs.as_slice(), after))
     }
 
-    /// Puts the sets of instructions in place of those of `count` places from one on.
+    /// Puts the sets of new instructions in place of those of `count` places from `place` on.
     fn give_way(&mut self, place: usize, count: usize, new: &[NewSets])
         requires before { place + count ≤ length self.old.before }
         requires after { place + count ≤ length self.old.after }
@@ -125,10 +125,10 @@ impl Live {
         leave_out(&mut self.after, place + new.len(), count - new.len());
     }
 
-    /// Brings the sets to what the listing has become, in which `new` instructions stand at the place where `old` stood. They are then what `live` gives.
+    /// Updates the sets for the listing in which `new` instructions stand at the place where `old` stood. They are then what `live` gives.
     ///
-    /// Where the sets of the new instructions alone differ, they are put in place of the old ones, without a visit of a place. Else all are found anew, in
-    /// as many steps. Where memory is wanting, the sets are as they were.
+    /// Where it is known that all other sets stay, only those of the new instructions are put in, without a visit of a place. Else all are worked out anew,
+    /// in the steps of `live`. Where memory runs out, the sets stay as they were.
     pub fn change<L: Ledger>(
         &mut self,
         alloc: Global,

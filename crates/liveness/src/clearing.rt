@@ -1,5 +1,5 @@
-//! Items are cleared backwards from a window that gives way: from each place that leads to a place without them, unless it reads them itself or they are
-//! read from there for sure.
+//! Clears items backwards from a window that gives way: an item that was cleared before a place is cleared before its predecessors too, unless these read
+//! it themselves or it is read from there for sure.
 ghost use Rattle.std.specs.Prelude.{[], ◌≡◌, ◌<◌, ◌≤◌, ◌+◌, ◌-◌, ◌&&◌, ◌||◌, true, false, ℕ, length, ◌⊎◌};
 ghost use Rattle.thumb_instr.specs.Items.{has, one_of};
 ghost use Rattle.liveness.specs.Live.{set_at};
@@ -18,7 +18,7 @@ use crate::window::Window;
 use code_flow::Ways;
 use thumb_instr::Items;
 
-/// Clears what was cleared before a place from another that leads there.
+/// Clears items, which were cleared before `place`, from the set of `before`, from where a way leads there.
 fn clear_place(
     ways: &[Option<Ways>],
     forward: &[Items],
@@ -43,7 +43,7 @@ fn clear_place(
     clear_at(marks, walk, before, lost);
 }
 
-/// Clears what was cleared at code points from a place that leads to any of them.
+/// Clears items, which code points lost, from the set of a place from where a way leads to any code point.
 fn clear_return(
     ways: &[Option<Ways>],
     forward: &[Items],
@@ -67,7 +67,7 @@ fn clear_return(
     clear_at(marks, walk, before, lost);
 }
 
-/// Clears what was cleared before a place from the place right before it; and from the first place of the window, as it was, where it ends there.
+/// Clears what was cleared before a place from the place right before it, or, at the window's end, from the window's first place by what the old window did.
 fn clear_before(
     ways: &[Option<Ways>],
     forward: &[Items],
@@ -102,7 +102,7 @@ fn clear_before(
     clear_place(ways, forward, place - 1, place, items, marks, walk);
 }
 
-/// Clears what was cleared before a place from those that jump there.
+/// Clears what was cleared before a place from the places that jump there.
 fn clear_callers(
     ways: &[Option<Ways>],
     forward: &[Items],
@@ -129,7 +129,7 @@ fn clear_callers(
     }
 }
 
-/// Clears what no code point has any more from the places that lead to any of them.
+/// Clears what a code point lost from all places from where a way leads to any code point.
 fn clear_returns(
     ways: &[Option<Ways>],
     forward: &[Items],
@@ -184,7 +184,7 @@ fn clear_points(
     );
 }
 
-/// Clears what was cleared before a place, which is on the stack no more, from where it leads there.
+/// Clears what was cleared before a place, which was just popped, from its predecessors.
 fn clear_step(
     ways: &[Option<Ways>],
     graph: &Graph,

@@ -20,7 +20,7 @@ pub(crate) struct PointSets {
     pub(crate) points: Items,
 }
 
-/// A count of the code points that have an item, where one more or one fewer has it now.
+/// The new count of the code points that have an item, where one of them had it or not and has it or not.
 fn recounted(count: u32, had: bool, has: bool) -> u32
     requires had { had ≡ true → 1 ≤ count }
     requires room { had ≡ false → count < 2 ^ 32 - 1 }
@@ -33,7 +33,7 @@ fn recounted(count: u32, had: bool, has: bool) -> u32
     }
 }
 
-/// Counts anew where a code point has other items than before. The items that some code point has now.
+/// Updates the counts where a code point's set changes. Answers the items that some code point has now.
 fn recount(counts: &mut Vec<u32>, old: Items, new: Items) -> Items
     requires kinds { length counts.old.items ≡ 19 }
     requires had { (x : ℕ) → x < 19 → has old.bits x ≡ true → 1 ≤ get_or counts.old.items x 0 }
@@ -52,7 +52,7 @@ fn recount(counts: &mut Vec<u32>, old: Items, new: Items) -> Items
     points
 }
 
-/// The items and this one, where code points have it.
+/// The items, with this one if its count isn't 0.
 fn with_counted(points: Items, item: u8, count: u32) -> Items
     requires { item < 19 }
     ensures { (x : ℕ) → has result.bits x ≡ (has points.bits x || ((x == item) && nat_lt 0 count)) }
@@ -63,7 +63,7 @@ fn with_counted(points: Items, item: u8, count: u32) -> Items
     points.union(Items::one(item))
 }
 
-/// Sets for so many places, without an item.
+/// Empty sets for so many places.
 pub(crate) fn no_sets(alloc: Global, _marks: &[bool], count: usize) -> Result<PointSets, AllocError>
     ensures counted { IfOk result (λ s. AreCounted _marks.now s) }
     ensures many { IfOk result (λ s. length s.sets.items ≡ count) }
@@ -76,7 +76,7 @@ pub(crate) fn no_sets(alloc: Global, _marks: &[bool], count: usize) -> Result<Po
     })
 }
 
-/// Puts a set in place of that of a place.
+/// Puts a set in place of that of a place, and updates the counts if that is a code point.
 pub(crate) fn put(marks: &[bool], all: &mut PointSets, place: usize, new: Items)
     requires counted { AreCounted marks.now all.old }
     requires place { place < length all.old.sets.items }

@@ -1,4 +1,4 @@
-//! What a place reads, and what it writes on its way to the next place.
+//! The flow of a place: what it reads, and what it writes on its way to the next place.
 ghost use Rattle.std.specs.Prelude.{◌≡◌, ◌<◌, ◌-◌, ◌^◌, ℕ, [], length, Option, true, None, Some};
 ghost use Rattle.thumb_instr.specs.Items.{has};
 ghost use Rattle.thumb_model.specs.Listing.{code_of, places_of};
@@ -34,7 +34,7 @@ impl Default for Flow {
     }
 }
 
-/// The most flows that are looked at behind a place.
+/// The most flows that are looked at after a place.
 const AHEAD: usize = 64;
 
 /// The flows of the places from one on: 64 of them, or as many as there are.
@@ -51,7 +51,7 @@ pub(crate) fn flows_from(listing: &Listing, place: u32) -> ArrayVec<Flow, AHEAD>
     flows
 }
 
-/// That of a place where no instruction stands.
+/// The flow of a place where no instruction stands.
 fn nothing() -> Flow
     ensures { FlowOf [] result }
 {
@@ -61,7 +61,7 @@ fn nothing() -> Flow
     }
 }
 
-/// That of an instruction that goes straight on.
+/// The flow of an instruction that goes straight on.
 fn straight(instr: &Instr) -> Flow
     requires { is_straight instr.now ≡ true }
     ensures { (aim : Option ℕ) → FlowOf (ways_of aim instr.now) result }
@@ -73,7 +73,7 @@ fn straight(instr: &Instr) -> Flow
     }
 }
 
-/// That of any instruction. `target` is the place of the code label that it mentions.
+/// The flow of any instruction. `target` is the place of the code label that it mentions.
 fn branching(instr: &Instr, target: Option<u32>, place: u32) -> Flow
     requires { place < 2 ^ 32 - 1 }
     ensures { FlowOf (ways_of target instr.now) result }
@@ -106,7 +106,7 @@ fn flow_at(listing: &Listing, place: u32) -> Flow
     }
 }
 
-/// Whether control goes on from an instruction to the next place alone, and comes back from nowhere.
+/// Whether control goes on from an instruction to the next place alone, with no call in between.
 fn is_straight(instr: &Instr) -> bool
     ensures { result ≡ is_straight instr.now }
 {
@@ -121,7 +121,7 @@ fn is_straight(instr: &Instr) -> bool
     }
 }
 
-/// What some way reads.
+/// The items that at least one way reads.
 fn reads_of(ways: Ways) -> Items
     ensures { (x : ℕ) → has result.bits x ≡ uses_among (way_list (Some ways)) x }
 {

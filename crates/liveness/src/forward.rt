@@ -1,5 +1,5 @@
-//! The items that are read for sure: along ways that all lead to greater places. No loop can hold up such an item, so what is worked out anew after a change,
-//! the greatest place first, needs no clearing before.
+//! The items that are read for sure: along ways that all lead to greater places. No loop can keep such an item alive by itself, so after a change the sets are
+//! worked out anew, the greatest place first, with nothing cleared before.
 ghost use Rattle.std.specs.Prelude.{[], ◌∷◌, ◌≡◌, ◌≢◌, ◌<◌, ◌≤◌, ◌+◌, ◌^◌, ◌⊎◌, true, false, ℕ, Bool, List, length, IfOk};
 ghost use Rattle.thumb_instr.specs.Items.{has};
 ghost use Rattle.kept_places.specs.Marks.{marked};
@@ -43,7 +43,7 @@ fn read_along(place: u32, way: Way, sets: &[Items]) -> Items
         .union(set_ahead(place, way.next, sets).minus(way.writes))
 }
 
-/// What is read from a place for sure, by what is from the places ahead.
+/// What is read from a place for sure, given what is read for sure from the places ahead.
 fn read_ahead(place: u32, ways: Option<Ways>, sets: &[Items]) -> Items
     ensures { (x : ℕ) → has result.bits x ≡ gained_ahead place (way_list ways) sets.now x }
 {
@@ -81,7 +81,7 @@ pub(crate) fn all_forward(
     Ok(forward)
 }
 
-/// Lets the place before one be due, where a way leads from there to that one.
+/// Makes the place right before `place` due, if a way leads from it to `place`.
 fn due_before(ways: &[Option<Ways>], place: u32, due: &mut PlaceSet)
     requires place { place < length ways.now }
     requires many { length due.old ≡ length ways.now }
@@ -100,7 +100,7 @@ fn due_before(ways: &[Option<Ways>], place: u32, due: &mut PlaceSet)
     due.insert(before);
 }
 
-/// Lets a place be due, if it stands before another.
+/// Makes `other` due, if it comes before `place`.
 fn due_if_before(place: u32, other: u32, due: &mut PlaceSet)
     requires { other < length due.old }
     ensures many { length due.new ≡ length due.old }
@@ -113,7 +113,7 @@ fn due_if_before(place: u32, other: u32, due: &mut PlaceSet)
     }
 }
 
-/// Lets the places before one be due from which a jump leads there. `_ways` are those of all places.
+/// Makes the places before `place` due that jump to it. `_ways` are those of all places.
 fn due_callers(_ways: &[Option<Ways>], callers: &Callers, place: u32, due: &mut PlaceSet)
     requires callers { AreWithin (length _ways.now) callers.now }
     requires place { place < length _ways.now }
@@ -131,7 +131,7 @@ fn due_callers(_ways: &[Option<Ways>], callers: &Callers, place: u32, due: &mut 
     }
 }
 
-/// Works out anew what is read for sure from a place that is due no more. Where it changes, the places before it are due from which a way leads there.
+/// Works out anew what is read for sure from a place that was just taken. If that changes, the earlier places become due from which a way leads there.
 fn renew_at(
     marks: &[bool],
     ways: &[Option<Ways>],

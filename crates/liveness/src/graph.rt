@@ -1,4 +1,4 @@
-//! The ways of a listing backward: from where they lead to a place, and to any code point.
+//! The flow graph backwards: the predecessors of each place, and the places from which a way leads to any code point.
 ghost use Rattle.std.specs.Prelude.{◌≡◌, ◌<◌, ◌+◌, ◌-◌, ◌^◌, Some, length, true, IfOk, OnOk};
 ghost use Rattle.thumb_model.specs.Listing.{code_of, places_of};
 ghost use Rattle.code_flow.specs.Flow.{way_list};
@@ -9,7 +9,7 @@ use code_flow::{Next, Way, Ways, all_points};
 use listing_parser::Listing;
 use std::alloc::{AllocError, Global};
 
-/// A place from which a branch or call leads to another that it names. `earlier` is the number of the jump before it that leads there too, counted from 1,
+/// A place from which a branch or call leads to another that it names. `earlier` is the number of the previous jump to the same place, counted from 1,
 /// or 0 where it is the first.
 #[derive(Clone, Copy, Debug, PartialEq, Eq)]
 pub struct Jump {
@@ -24,7 +24,7 @@ pub struct Callers {
     pub jumps: Vec<Jump>,
 }
 
-/// What the ways of a listing lead to: its code points, the jumps to each place, and the places from which a way leads to any code point.
+/// Where the ways of a listing lead: its code points, the jumps to each place, and the places from which a way leads to any code point.
 #[derive(Drop)]
 pub struct Graph {
     pub is_point: Vec<bool>,
@@ -32,7 +32,7 @@ pub struct Graph {
     pub returns: Vec<u32>,
 }
 
-/// The place that a place's first way leads to, where that isn't the next one. A second way leads to no other.
+/// The place that a place's first way leads to, where that isn't the next one. A second way names no place but the next one.
 fn jump_from(ways: Option<Ways>, next: u32) -> Option<u32>
     ensures { result ≡ jump_from next (way_list ways) }
 {
@@ -103,7 +103,7 @@ fn note_return(
     Ok(())
 }
 
-/// What the ways of a listing lead to, each place looked at once.
+/// Where the ways of a listing lead. Each place is looked at once.
 pub fn graph_of(
     alloc: Global,
     listing: &Listing,

@@ -15,7 +15,7 @@ use crate::stack::PlaceStack;
 use crate::visiting::look;
 use code_flow::Ways;
 
-/// Lets the place before one come, where a way leads from there to that one.
+/// Pushes the place right before `place`, if a way leads from it to `place`.
 fn tell_before(ways: &[Option<Ways>], place: u32, stack: &mut PlaceStack)
     requires place { place < length ways.now }
     requires room { stack.old.room ≡ length ways.now }
@@ -35,7 +35,7 @@ fn tell_before(ways: &[Option<Ways>], place: u32, stack: &mut PlaceStack)
     stack.push(before);
 }
 
-/// Lets the places come from which a jump leads to one. `_ways` are those of all places.
+/// Pushes the places that jump to `place`. `_ways` are those of all places.
 fn tell_callers(_ways: &[Option<Ways>], callers: &Callers, place: u32, stack: &mut PlaceStack)
     requires place { place < length _ways.now }
     requires callers { AreWithin (length _ways.now) callers.now }
@@ -54,7 +54,7 @@ fn tell_callers(_ways: &[Option<Ways>], callers: &Callers, place: u32, stack: &m
     }
 }
 
-/// Lets the places come from which a way leads to any code point.
+/// Pushes the places from which a way leads to any code point.
 fn tell_returns(returns: &[u32], stack: &mut PlaceStack)
     requires within { (q : ℕ) → one_of q returns.now ≡ true → q < stack.old.room }
     requires few { length stack.old.places ≤ stack.old.room }
@@ -68,7 +68,7 @@ fn tell_returns(returns: &[u32], stack: &mut PlaceStack)
     }
 }
 
-/// Visits a place that is on the stack no more.
+/// Visits a place that was just popped: if its set grows, its predecessors are pushed.
 fn grow_at(
     ways: &[Option<Ways>],
     graph: &Graph,

@@ -1,4 +1,4 @@
-//! The sets of live items of new instructions, and what is read behind them.
+//! The sets of live items of new instructions, and what is read after these: so `Live::change` sees whether all other sets stay.
 ghost use Rattle.std.specs.Prelude.{◌≡◌, ◌≤◌, ◌||◌, ◌+◌, ℕ, drop, length};
 ghost use Rattle.thumb_instr.specs.Items.{has};
 ghost use Rattle.liveness.specs.Through.{live_through, passed, read_along, AreThrough};
@@ -43,7 +43,7 @@ pub(crate) fn set_before(instrs: &[Instr], after: Items) -> Items
     }
 }
 
-/// What is read before it is written along flows, each to the next.
+/// What is read before it is written along the flows of consecutive places.
 pub(crate) fn read_ahead(ahead: &[Flow]) -> Items
     ensures { (x : ℕ) → has result.bits x ≡ read_along ahead.now x }
 {
@@ -56,7 +56,7 @@ pub(crate) fn read_ahead(ahead: &[Flow]) -> Items
     read
 }
 
-/// What is read from a place on, where these are from the next.
+/// What is read before it is written from a place on, where `read` is that from the next place on.
 fn read_at(flow: Flow, read: Items) -> Items
     ensures { (x : ℕ) → has result.bits x ≡ (has flow.reads.bits x || passed flow.onward (has read.bits x) x) }
 {

@@ -28,7 +28,8 @@ use kept_places::PlaceSet;
 use std::marker::Model;
 use thumb_instr::{Instr, Items};
 
-/// The ways of each place now, what leads to each, what is read from each for sure, and the live items before each.
+/// The ways of each place now, what leads to each, what is read from each for sure (`forward`), and the live items before each (`walk`). Between calls
+/// `due` is empty.
 #[derive(Drop)]
 pub(crate) struct KeptFlow {
     pub(crate) ways: Vec<Option<Ways>>,
@@ -63,7 +64,7 @@ struct Exchanged {
     fresh: Window,
 }
 
-/// Lets so many places be due.
+/// Puts the places in `first..end` into the set of those that are due.
 fn add_places(due: &mut PlaceSet, first: u32, end: u32)
     requires { end ≤ length due.old }
     ensures many { length due.new ≡ length due.old }
@@ -121,7 +122,7 @@ fn exchange(kept: &mut KeptFlow, places: &[u32], new: &[Instr], first: u32, end:
     Exchanged { old, fresh }
 }
 
-/// Lets all touched places come onto the stack.
+/// Pushes all touched places onto the stack.
 fn wait_again(walk: &mut Walk)
     requires room { walk.old.stack.room ≡ walk.old.touched.room }
     ensures before { walk.new.before ≡ walk.old.before }
@@ -136,7 +137,7 @@ fn wait_again(walk: &mut Walk)
     }
 }
 
-/// Tells of the touched places those that lost an item in the end, and touches no place any more.
+/// Adds to `lost` the touched places that lost an item in the end. No place is touched then.
 fn tell_lost(walk: &mut Walk, lost: &mut PlaceSet)
     requires room { walk.old.touched.room ≡ length lost.old }
     requires was { length walk.old.was.items ≡ length lost.old }
@@ -159,7 +160,7 @@ fn tell_lost(walk: &mut Walk, lost: &mut PlaceSet)
     }
 }
 
-/// Puts a place into a set, if it is to be there.
+/// Puts a place into a set, if `tells` is true.
 fn tell_if(places: &mut PlaceSet, place: u32, tells: bool)
     requires { place < length places.old }
     ensures many { length places.new ≡ length places.old }
@@ -202,7 +203,7 @@ fn shrink(kept: &mut KeptFlow, window: Exchanged)
     );
 }
 
-/// Lets what is still read grow back, and tells which places lost an item in the end.
+/// Lets what is still read grow back, and adds to `lost` the places that lost an item in the end.
 fn regrow(kept: &mut KeptFlow, lost: &mut PlaceSet)
     requires fit { IsFitKept kept.old }
     requires stack { kept.old.walk.stack.places ≡ [] }
@@ -226,7 +227,7 @@ fn regrow(kept: &mut KeptFlow, lost: &mut PlaceSet)
     tell_lost(&mut kept.walk, lost);
 }
 
-/// Lets instructions take the places of a window.
+/// Lets new instructions take the places of a window, as `KeptLive::replace` says.
 fn replace_in(kept: &mut KeptFlow, places: &[u32], new: &[Instr], lost: &mut PlaceSet)
     requires idle { IsIdle kept.old }
     requires some { 0 < length places.now }
@@ -256,7 +257,7 @@ impl KeptLive {
         self.kept.walk.before.sets[place as usize]
     }
 
-    /// Lets new instructions take the places of a window, which are kept ones in order: the first of them, and the others are gone. `lost` gains the places
+    /// Lets new instructions take the first places of a window, whose places are kept ones in ascending order; the others are gone. `lost` gains the places
     /// before which an item was live that isn't any more. No memory is taken.
     ///
     /// Visited are the places at which an item is cleared or comes back, those from which ways lead there, and the window's.

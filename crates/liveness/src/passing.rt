@@ -10,7 +10,7 @@ use crate::graph::is_return;
 use code_flow::{Next, Way, Ways};
 use thumb_instr::Items;
 
-/// What some way reads.
+/// The items that at least one way reads.
 pub(crate) fn uses_in(ways: Option<Ways>) -> Items
     ensures { (x : ℕ) → has result.bits x ≡ uses_among (way_list ways) x }
 {
@@ -23,7 +23,7 @@ pub(crate) fn uses_in(ways: Option<Ways>) -> Items
     }
 }
 
-/// What some way writes.
+/// The items that at least one way writes.
 pub(crate) fn writes_in(ways: Option<Ways>) -> Items
     ensures { (x : ℕ) → has result.bits x ≡ writes_among (way_list ways) x }
 {
@@ -36,7 +36,7 @@ pub(crate) fn writes_in(ways: Option<Ways>) -> Items
     }
 }
 
-/// Those of the items that a way doesn't write, if it is one of those that count.
+/// Those of the items that a way doesn't write, or none if the way doesn't count.
 fn passed_along(counts: bool, way: Way, items: Items) -> Items
     ensures { (x : ℕ) → has result.bits x ≡ (counts && (has items.bits x && not (has way.writes.bits x))) }
 {

@@ -1,4 +1,4 @@
-//! Visits of places until none would change anything: where the set before a place grows, those from which ways lead to it wait for another visit.
+//! Visits of places until none would change anything: where the set before a place grows, its predecessors wait for another visit.
 ghost use Rattle.std.specs.Prelude.{[], ◌∷◌, ◌≡◌, ℕ, ◌+◌, ◌-◌, ◌*◌, ◌^◌, ◌<◌, ◌≤◌, true, min, length, OnOk};
 ghost use Rattle.thumb_instr.specs.Items.{one_of};
 ghost use Rattle.thumb_model.specs.Listing.{code_of};
@@ -39,7 +39,7 @@ pub fn some_leads(place: usize, ways: Option<Ways>) -> bool
     }
 }
 
-/// Lets the place before one wait, where a way leads from there to that one.
+/// Lets the place right before `place` wait, if a way leads from it to `place`.
 fn tell_before(ways: &[Option<Ways>], place: u32, waiting: &mut Waiting) -> Result<(), AllocError>
     requires waiting { AreWaiting waiting.old }
     requires as_many { length waiting.old.marks.items ≡ length ways.now }
@@ -57,7 +57,7 @@ fn tell_before(ways: &[Option<Ways>], place: u32, waiting: &mut Waiting) -> Resu
     waiting.push(before)
 }
 
-/// Lets the places wait from which a jump leads to one. `_ways` are those of all places.
+/// Lets the places wait that jump to `place`. `_ways` are those of all places.
 fn tell_callers(
     _ways: &[Option<Ways>],
     callers: &Callers,
@@ -80,7 +80,7 @@ fn tell_callers(
     Ok(())
 }
 
-/// Lets the places wait from which a way leads to one.
+/// Lets the predecessors of `place` wait.
 fn tell_leading(
     _listing: &Listing,
     ways: &[Option<Ways>],
@@ -114,7 +114,7 @@ fn tell_returns(returns: &[u32], waiting: &mut Waiting) -> Result<(), AllocError
     Ok(())
 }
 
-/// Visits a place that waits no more. Where its set grew, or that of all code points, the places wait from which a way leads there.
+/// Visits a place that was just taken. If its set grows, or that of all code points, the places wait from which a way leads there.
 fn advance<L: Ledger>(
     listing: &Listing,
     ways: &[Option<Ways>],

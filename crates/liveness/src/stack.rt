@@ -1,11 +1,11 @@
-//! Places that wait, each once, the last first. All memory is taken beforehand, so that nothing that waits can be lost.
+//! A stack of places, each at most once. All memory is taken beforehand, so that a push can't fail.
 ghost use Rattle.std.specs.Prelude.{◌≡◌, ◌<◌, ◌≤◌, ◌+◌, ◌==◌, ◌||◌, ◌++◌, ◌∷◌, [], ℕ, length, get_or, IfOk, IfSome, IfNone};
 ghost use Rattle.thumb_instr.specs.Items.{one_of};
 
 use std::alloc::{AllocError, Global};
 use std::marker::Model;
 
-/// Some of so many places, in the order in which they came. A place that is among them doesn't come again.
+/// Places below `room`, in the order in which they were pushed, each at most once.
 #[derive(Drop)]
 pub(crate) struct PlaceStack {
     places: Vec<u32>,
@@ -26,7 +26,7 @@ impl Model for PlaceStack {
 }
 
 impl PlaceStack {
-    /// None of so many places.
+    /// An empty stack for places below `room`.
     pub(crate) fn new(alloc: Global, room: usize) -> Result<Self, AllocError>
         ensures none { IfOk result (λ s. s.places ≡ []) }
         ensures room { IfOk result (λ s. s.room ≡ room) }
@@ -37,7 +37,7 @@ impl PlaceStack {
         })
     }
 
-    /// Lets a place come, where it isn't there.
+    /// Pushes a place, unless it is there already.
     pub(crate) fn push(&mut self, place: u32)
         requires { place < self.old.room }
         ensures members { (q : ℕ) → one_of q self.new.places ≡ (one_of q self.old.places || (q == place)) }
@@ -56,7 +56,7 @@ impl PlaceStack {
         }
     }
 
-    /// Takes the place that came last, where there is one.
+    /// Pops the place that was pushed last, if there is one.
     pub(crate) fn pop(&mut self) -> Option<u32>
         ensures taken { IfSome result (λ p. self.old.places ≡ self.new.places ++ p ∷ []) }
         ensures within { IfSome result (λ p. p < self.old.room) }
@@ -85,7 +85,7 @@ impl PlaceStack {
         self.places.len()
     }
 
-    /// The place of this number, in the order in which they came.
+    /// The place of this number, in the order in which they were pushed.
     pub(crate) fn at(&self, number: usize) -> u32
         requires { number < length self.now.places }
         ensures place { result ≡ get_or self.now.places number 0 }

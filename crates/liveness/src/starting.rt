@@ -1,4 +1,4 @@
-//! What is kept of a listing at first: its live items from scratch, and what is read from each place for sure.
+//! What `KeptLive` begins with: the live items of a listing from scratch, and what is read from each place for sure.
 ghost use Rattle.std.specs.Prelude.{[], ◌≡◌, ◌≤◌, ◌<◌, ◌+◌, ◌*◌, ◌^◌, ◌-◌, ◌↔◌, true, ℕ, length, min, IfOk, OnOk};
 ghost use Rattle.thumb_instr.specs.Items.{has};
 ghost use Rattle.thumb_model.specs.Listing.{code_of, places_of};
@@ -48,7 +48,7 @@ fn live_sets<L: Ledger>(
     Ok(found.before)
 }
 
-/// The sets of places, of which these are code points, where no place is touched.
+/// A walk with these sets, in which no place is touched. `marks` says which places are code points.
 fn walk_of(alloc: Global, marks: &[bool], sets: &[Items]) -> Result<Walk, AllocError>
     requires marks { length sets.now ≤ length marks.now }
     requires few { length sets.now < 2 ^ 32 }

@@ -1,4 +1,4 @@
-//! A visit of a place: what its ways find by the sets so far comes into the sets before and after it.
+//! A visit of a place: the sets before and after it are updated by the sets to which its ways lead.
 ghost use Rattle.std.specs.Prelude.{[], ◌∷◌, ◌≡◌, ℕ, ◌+◌, ◌-◌, ◌^◌, ◌<◌, min, length};
 ghost use Rattle.thumb_instr.specs.Items.{has};
 ghost use Rattle.code_flow.specs.Flow.{way_list};
@@ -75,7 +75,7 @@ pub fn look(ways: Option<Ways>, before: &[Items], points: Items) -> Seen
     }
 }
 
-/// Visits a place: brings the sets before and after it up to date, and the code points' set. Whether the set before it changed.
+/// Visits a place: brings the sets before and after it up to date, and the code points' set. Answers whether the set before it changed.
 pub(crate) fn visit<L: Ledger>(
     ways: Option<Ways>,
     is_point: bool,

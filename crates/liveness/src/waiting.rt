@@ -5,8 +5,8 @@ ghost use Rattle.liveness.specs.Waiting.{left, AreWaiting, WaitMore, IsTaken};
 
 use std::alloc::{AllocError, Global};
 
-/// Places that wait for a visit: those below `fresh`, of which none was visited yet, and those that are to be visited again. The last of these comes first.
-/// All of them are marked.
+/// Places that wait for a visit: those below `fresh`, of which none was visited yet, and those that are to be visited again. The last added of these is taken
+/// first. All places that wait are marked.
 #[derive(Drop)]
 pub(crate) struct Waiting {
     pub(crate) fresh: u32,
@@ -45,7 +45,7 @@ impl Waiting {
         Ok(())
     }
 
-    /// Takes the place that comes first, where some wait.
+    /// Takes the next place: the last one that is to be visited again, or else the last fresh one.
     pub(crate) fn pop(&mut self) -> Option<u32>
         requires waiting { AreWaiting self.old }
         ensures some { IfSome result (λ place. IsTaken place self.old self.new) }

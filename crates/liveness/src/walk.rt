@@ -1,4 +1,4 @@
-//! The sets of live items while they shrink: what they were before is kept of each place that was touched.
+//! The sets of live items while they shrink, with what the set of each touched place was at first.
 ghost use Rattle.std.specs.Prelude.{◌≡◌, ◌≢◌, ◌<◌, ◌&&◌, not, true, false, ℕ, length};
 ghost use Rattle.thumb_instr.specs.Items.{has, one_of};
 ghost use Rattle.liveness.specs.Live.{set_at};
@@ -17,7 +17,7 @@ pub(crate) struct Walk {
     pub(crate) touched: PlaceStack,
 }
 
-/// Touches a place.
+/// Touches a place: notes what its set is, unless it is touched already.
 pub(crate) fn touch(_marks: &[bool], walk: &mut Walk, place: u32)
     requires fit { IsFitWalk _marks.now (length walk.old.was.items) walk.old }
     requires place { place < length walk.old.was.items }
@@ -53,7 +53,7 @@ pub(crate) fn empty_at(marks: &[bool], walk: &mut Walk, place: u32)
     put(marks, &mut walk.before, place as usize, Items::none());
 }
 
-/// Clears items before a place. Where it had some of them, what leads there is to be cleared too.
+/// Clears items from the set before a place. If it had some of them, the place is pushed, so that its predecessors are cleared too.
 pub(crate) fn clear_at(marks: &[bool], walk: &mut Walk, place: u32, lost: Items)
     requires fit { IsFitWalk marks.now (length walk.old.was.items) walk.old }
     requires place { place < length walk.old.was.items }

@@ -18,7 +18,7 @@ pub(crate) struct Window {
     pub(crate) writes: Items,
 }
 
-/// The window of the places from one on, each of which goes on to the next.
+/// The window of the places in `first..end`, each of which goes on to the next.
 pub(crate) fn window_of(ways: &[Option<Ways>], first: u32, end: u32) -> Window
     requires ordered { first ≤ end }
     requires within { end ≤ length ways.now }
@@ -45,7 +45,7 @@ pub(crate) fn window_of(ways: &[Option<Ways>], first: u32, end: u32) -> Window
     }
 }
 
-/// The instruction of this number, or what stands where a place is gone.
+/// The instruction of this number, or the nop that stands where a place is gone.
 fn instr_at(new: &[Instr], number: usize) -> Instr
     ensures { result ≡ nth_or_nop new.now number }
 {
@@ -57,7 +57,7 @@ fn instr_at(new: &[Instr], number: usize) -> Instr
     }
 }
 
-/// Puts the ways of instructions at places, in order. The places that are left over are gone.
+/// Puts the ways of instructions at places, in order. The places that are left over are gone: they get those of a nop.
 pub(crate) fn put_ways(ways: &mut [Option<Ways>], places: &[u32], new: &[Instr])
     requires few { length ways.old < 2 ^ 32 }
     requires ascending { AreAscending 0 places.now }

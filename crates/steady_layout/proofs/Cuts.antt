@@ -297,7 +297,7 @@ cut write at n is short twos (l ∷ ls) q p e out h = cut_step write at n q p is
 
 -- ---- an instruction that goes ----
 
--- of one that surely ends at a multiple of 4 so does what stands before it
+-- an instruction that surely ends at a multiple of 4 surely begins at one
 begins_aligned : (x : Bool) (i : Instr) (m : Option Mention) → ends_aligned x (Instruction i m) ≡ true → x ≡ true
 begins_aligned x i m h = (and_parts x (instr_size i == 4) h).0
 

@@ -10,7 +10,7 @@ use Rattle.steady_layout.specs.Steady.{reaches, steady_branch, steady_literal, s
 
 -- ---- a start in another layout, and what lies before and behind it there ----
 
--- it is at no greater address, and surely a multiple of 4 where the other is
+-- the one start is at no greater address than the other, and surely a multiple of 4 where that is
 pub record IsWithin (o n : Start) : Type 0 where
   pub at : n.at ≤ o.at
   pub aligned : o.aligned ≡ true → n.aligned ≡ true

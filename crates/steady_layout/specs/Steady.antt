@@ -28,7 +28,7 @@ ends_aligned before (Words vs) = before
 ends_aligned before (Aligns size most) = aligns_surely size most
 ends_aligned before (Sets name address) = before
 
--- lines laid out one behind the other, each with the most bytes that it takes
+-- lines laid out one after the other, each with the most bytes that it may take
 abbrev pub behind : Start → Statement → Start
 behind here s = record { at = here.at + most_of s; aligned = ends_aligned here.aligned s }
 
@@ -50,12 +50,12 @@ first base = record { at = base; aligned = true }
 abbrev pub reaches : ℕ → ℕ → Option ℕ → Bool
 reaches half at to = is_none (branch_fault half at to)
 
--- a branch to a label, which such runs bring nearer, if they move it, or to an address that is set, which lies still while the branch comes nearer to the base
+-- a label can only come nearer to its branch; an address that is set stays while the branch moves towards the base, so both ends of its move are tried
 abbrev pub steady_branch : ℕ → ℕ → Start → Option Start → Option ℕ → Bool
 steady_branch half base here (Some label) set = reaches half here.at (Some label.at)
 steady_branch half base here None set = reaches half base set && reaches half here.at set
 
--- a literal lies behind its instruction, surely at a multiple of 4, and 1020 bytes at most from what its address and 4 come to, rounded down: 2 more than the address at least
+-- a literal lies after its instruction, surely at a multiple of 4, at most 1020 bytes from the rounded pc, which is at least the instruction's address and 2
 abbrev pub steady_literal : Start → Option Start → Option ℕ → ℕ → Bool
 steady_literal here (Some label) set plus = (label.aligned && plus % 4 == 0) && (nat_lt here.at label.at && nat_le (label.at + plus) (here.at + 1022))
 steady_literal here None set plus = is_none set

@@ -1,4 +1,4 @@
-//! Whether what a line mentions stays within reach however lines between come nearer.
+//! Whether what a line mentions stays within reach however many bytes go in between.
 ghost use Rattle.std.specs.Prelude.{◌≡◌, ◌≤◌, ◌^◌, Some};
 ghost use Rattle.thumb_model.specs.Layout.{cleared};
 ghost use Rattle.listing_parser.specs.Views.{mention_view, statement_view};
@@ -34,7 +34,7 @@ fn steady_branch(half: u32, base: u32, here: Start, label: Option<Start>, set: O
     }
 }
 
-/// Whether a literal stays within reach and at a multiple of 4: one at a label, or one with no address at all.
+/// Whether a literal stays within reach and at a multiple of 4. It does where its name has no address at all; one that is only set isn't accepted.
 fn steady_literal(here: Start, label: Option<Start>, set: Option<u32>, plus: u32) -> bool
     ensures { result ≡ literal_is_steady here label set plus }
 {

@@ -1,4 +1,4 @@
-//! Whether a listing is steady: whatever rewriting does to it, each mention stays within reach, so that no layout need be asked on the way.
+//! Whether a listing is steady: whatever rewriting does to it, each mention stays within reach, so that no layout is needed after a replacement.
 ghost use Rattle.std.specs.Prelude.{◌≡◌, ◌%◌, ◌↔◌, true, IfOk};
 ghost use Rattle.steady_layout.specs.Steady.{IsSteady, all_steady as are_all_steady, first, labels_in, sets_in};
 ghost use Rattle.steady_layout.specs.Starts.{AreStarts};

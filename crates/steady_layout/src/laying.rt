@@ -1,4 +1,4 @@
-//! The widest layout: lines one behind the other, each with the most bytes that it takes.
+//! The widest layout: lines one after the other, each with the most bytes that it may take.
 ghost use Rattle.std.specs.Prelude.{◌≤◌, ◌^◌, map, IfOk, MatchOption};
 ghost use Rattle.listing_parser.specs.Views.{line_view};
 ghost use Rattle.steady_layout.specs.Steady.{first, widest_end};
@@ -9,7 +9,7 @@ use label_layout::CODE_END;
 use listing_parser::{ListingLine, Memory};
 use std::alloc::Global;
 
-/// Where each line begins in the widest layout of lines that begin at the base: None exactly where it ends behind the Code region.
+/// Where each line begins in the widest layout of lines that begin at the base: None exactly where it ends past the Code region.
 pub fn lay_widest(
     alloc: Global,
     lines: &[ListingLine],

@@ -23,7 +23,7 @@ fn most_padding(size: u32, most: u32) -> u32
     most.min(size.saturating_sub(1))
 }
 
-/// The address behind a statement that takes the most bytes that it may, where it lies in the Code region.
+/// The address after a statement that takes the most bytes that it may. None where it lies past the end of the Code region.
 fn furthest(statement: &Statement, at: u32) -> Option<u32>
     requires { at ≤ 2 ^ 29 }
     ensures { result ≡ in_code_region (at + most_of (statement_view statement.now)) }
@@ -54,7 +54,7 @@ fn ends_aligned(aligned: bool, statement: &Statement) -> bool
     }
 }
 
-/// Where the line behind a statement begins, where it lies in the Code region.
+/// Where the line after a statement begins. None where that lies past the end of the Code region.
 pub fn next_start(here: Start, statement: &Statement) -> Option<Start>
     requires { here.at ≤ 2 ^ 29 }
     ensures { result ≡ (if nat_le (here.at + most_of (statement_view statement.now)) (2 ^ 29) then Some (behind here (statement_view statement.now)) else None) }

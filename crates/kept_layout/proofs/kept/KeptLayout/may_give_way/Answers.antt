@@ -25,7 +25,7 @@ move_within_reach-requires-clause-few c = λ s e.
     let r = c.requires in
     subst (λ n. n ≤ s.bytes) (sym c.bytes_gone-bytes.ensures) (bytes_within _ _ _ _ _ s e (gives_way r.stands r.some r.fewer r.in_window))
 
--- what is told of a block that shrinks, told of lines
+-- what holds of the block that shrinks, as a statement on lines
 told : (k : KeptLayout) (lines : List ListingLine) (place : ℕ) (window new : List Instr) (bytes : ℕ) (b : Bool) → GivesWay k lines place window new → bytes ≡ 2 * (length window - length new)
     → ((gone : ℕ) → (b ≡ true) ↔ AllReach k.base (lessen k.here bytes gone (footprints_of k.blocks.items))) → (b ≡ true) ↔ Layable k.base (replaced_lines own_line place (length window) new lines)
 told k lines place window new bytes b g e h =

@@ -7,7 +7,7 @@ use Rattle.kept_layout.specs.Moves.{IsLookedAt, IsMovedTo, IsRight, moved_starts
 use Rattle.kept_layout.proofs.ShrinkingReach.{reach_from, right_all, right_from, Moves}
 use Rattle.kept_layout.proofs.kept.KeptLayout.move_within_reach.Goals as goal
 
--- all is within reach exactly where it is told so, whatever is moved is looked at
+-- the test's answer says exactly whether all is within reach, as all that moves is looked at
 told : (k : KeptLayout) (bytes gone : ℕ) (m : Move) (b : Bool) → IsLaid k → AreWide (footprints_of k.blocks.items) → IsMovedTo k bytes (news k bytes m.at.items) m.by → (b ≡ true → IsLookedAt k (news k bytes m.at.items) m.by)
     → (((j : ℕ) → IsRight (moved_starts k (news k bytes m.at.items) m.by) k.blocks.items j) → b ≡ true) → (b ≡ true) ↔ AllReach k.base (lessen k.here bytes gone (footprints_of k.blocks.items))
 told k bytes gone m b laid wide moved all none =

@@ -10,7 +10,7 @@ use Rattle.kept_layout.proofs.ShrinkingNotes.{after_shrinking, laid_after, map_l
 use Rattle.kept_layout.proofs.ShrinkingReach.{right_from}
 use Rattle.kept_layout.proofs.kept.KeptLayout.shrink.Goals as goal
 
--- the block that it stands at, once all are noted
+-- the current block, once all are noted
 here_read : (k l : KeptLayout) (s : Block) → l ≡ record k { blocks = l.blocks } → map unplaced l.blocks.items ≡ map unplaced k.blocks.items → k.here < length k.blocks.items → s ≡ slice_index_or l.blocks.items l.here s
     → slice_get l.blocks.items l.here ≡ Some s
 here_read k l s fields same within is =

@@ -8,7 +8,7 @@ use Rattle.kept_layout.proofs.ShrinkingWalk.{walk_on, walk_over, walk_together}
 use Rattle.kept_layout.proofs.Walls.{calm_known, news_none, news_on}
 use Rattle.kept_layout.proofs.kept.KeptLayout.walk.Goals as goal
 
--- the calm ones have moved, and none behind them
+-- the walk begins where the calm blocks have moved, and no block after them
 calm_moved : (k : KeptLayout) (bytes at wall : ℕ) (items : List ℕ) → items ≡ [] → IsWalked k bytes (calm_starts k bytes) at wall → IsWalked k bytes (news k bytes items) at wall
 calm_moved k bytes at wall items e w = subst (λ (xs : List ℕ). IsWalked k bytes xs at wall) (news_none k bytes items e) w
 
