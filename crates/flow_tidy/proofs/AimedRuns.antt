@@ -1,4 +1,4 @@
--- The listing in which a branch goes to the end of its chain runs the same, and reaches the same.
+-- The listing in which a branch is redirected to the end of its chain runs the same, and reaches the same.
 use Rattle.std.proofs.Common.{◌≡◌, ◌≢◌, ◌↔◌, ℕ, zero, suc, ◌+◌, ◌<◌, ◌≤◌, Bool, true, false, List, [], Option, Some, None, IsSome, refl, sym, ap, ◌∙◌, subst, ◌⊎◌, inl, inr, arith, if◌then◌else◌}
 use Rattle.std.specs.Prelude.{slice_get}
 use Rattle.std.proofs.lemmas.Bool.{cases_eq}
@@ -39,7 +39,7 @@ taken_step names code p q (instr.Branch d) mention w es b t e =
     ap (λ (o : Option ℕ). does p (p + 1) (jumps (target_at names mention o) w) (state w (Here p) es)) e ∙ same_events w q _ _ (append_nothing es)
 taken_step names code p q i mention w es b t e = absurd (cc)
 
--- a row: one that isn't goes on
+-- a row: a branch that isn't taken goes on to the next place
 passed_step : (names : Naming) (code : Code) (p : ℕ) (i : Instr) (mention : Option Mention) (w : World) (es : List Event) → is_branch i ≡ true → is_taken i w.values ≡ false → step_on names code p (Some (Op i mention)) (state w (Here p) es) ≡ state w (Here (p + 1)) es
 passed_step names code p (instr.BranchIf c d) mention w es b t =
     ap (λ (x : Bool). does p (p + 1) (if x then jumps (target_at names mention (aim_of code mention)) w else puts [] On w) (state w (Here p) es)) t

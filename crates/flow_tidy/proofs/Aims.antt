@@ -1,4 +1,4 @@
--- A branch that goes elsewhere moves nothing: lines that can be laid out still can exactly where it reaches its new label.
+-- Redirecting a branch moves nothing: lines that can be laid out still can be exactly where the branch reaches its new label.
 use Rattle.std.proofs.Common.{◌≡◌, ◌↔◌, ℕ, zero, suc, ◌+◌, ◌-◌, ◌==◌, ◌&&◌, true, false, List, [], ◌∷◌, ◌++◌, length, Option, Some, None, refl, sym, ap, ◌∙◌, subst, arith, ne_eqb, if◌then◌else◌}
 use Rattle.std.specs.Prelude.{slice_get}
 use Rattle.std.proofs.lemmas.Option.{same_Some}

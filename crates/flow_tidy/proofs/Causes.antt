@@ -1,4 +1,5 @@
--- Where changes come to have causes: after a change a place has a cause where it had one before, and else only where it stands right before what went, or where a branch with a condition went that lets chains go on.
+-- Where causes arise: after a change a place has one only if it had one before, or stands right before what was removed, or if this was a conditional branch
+-- by whose removal chains go on.
 use Rattle.std.proofs.Common.{◌≡◌, ◌≢◌, ◌∙◌, ◌⊎◌, inl, inr, ℕ, zero, suc, ◌+◌, ◌&&◌, not, Bool, true, false, [], Option, Some, None, IsSome, refl, sym, ap, subst, arith}
 use Rattle.std.specs.Prelude.{slice_get, is_some}
 use Rattle.std.specs.Option.{option_map}
@@ -44,7 +45,7 @@ option_back : (f : ℕ → ℕ) (o : Option ℕ) (q : ℕ) → option_map f o �
 option_back f None q e = absurd (cc)
 option_back f (Some r) q e = (r, refl, same_Some (f r) q e)
 
--- ---- a branch that goes elsewhere ----
+-- ---- a redirected branch ----
 
 module _ (code : Code) (p : ℕ) (label : Name) (g : GoesToEnd code p label) where
   abbrev aimed : Code
@@ -96,7 +97,7 @@ module _ (code : Code) (p : ℕ) (label : Name) (g : GoesToEnd code p label) whe
   aimed_caused q (ToEnd to) ne h = record { cause = ToEnd to; is = record { i = h.i; mention = h.mention; stands = there q _ ne h.stands; branch = h.branch; end = aimed_end h.mention.name to h.end } }
   aimed_caused q Idle ne h = record { cause = Idle; is = record { i = h.i; mention = h.mention; stands = there q _ ne h.stands; no_call = h.no_call; unreached = λ r. h.unreached ((reached_same code p label g q).0 r) } }
 
--- ---- an instruction that goes ----
+-- ---- a removed instruction ----
 
 -- the label that a branch to the next place mentions
 record Mentions (code : Code) (p : ℕ) (i : Instr) : Type 0 where

@@ -1,4 +1,4 @@
--- What is known of a draft stays known while its instructions go and its branches go elsewhere.
+-- What is known of a draft stays known while instructions are removed and branches redirected.
 use Rattle.std.proofs.Common.{◌≡◌, ◌∙◌, ◌<◌, ℕ, zero, suc, Bool, true, false, List, [], ◌∷◌, length, replicate, Some, ap, refl, subst, sym, arith}
 use Rattle.std.specs.Prelude.{slice_set}
 use Rattle.thumb_model.specs.Listing.{code_of, places_of, Code, ListingLine, Name}
@@ -17,7 +17,7 @@ use Rattle.flow_tidy.proofs.Aimed.{aimed_code, code_aimed}
 use Rattle.flow_tidy.proofs.Quickly.{code_goes, due_no_more, reached_left, soonest_idle, soonest_next}
 use Rattle.flow_tidy.proofs.Settled.{due_aimed, marks_aimed, MayVanish}
 
--- what the code tells where an instruction goes at a kept place
+-- what contracts say of a draft where the instruction at a kept place is removed
 pub record IsLeft (d e : Drafted) (p : ℕ) (dues : List Bool) : Type 0 where
   pub given : e.given ≡ d.given
   pub aims : e.aims ≡ d.aims

@@ -229,7 +229,7 @@ none_known d n known e h = record {
     never (suc n) zero o e = cc
     never (suc n) (suc p) o e = never n p o e
 
--- as where a place of a draft went and all was forgotten
+-- so it is where a place of a draft is removed and all is forgotten
 pub forgotten : (d same e : Drafted) (p : ℕ) (old new : List Known) → same ≡ d → e.gone ≡ slice_set same.gone p true → AreEnds d old → new ≡ replicate (length old) Nothing → AreEnds e new
 forgotten d same e p old new f g a h =
     none_known e (length old) new h (a.many ∙ sym (ap (λ (gs : List Bool). length gs) g ∙ set_length same.gone p true ∙ ap (λ (x : Drafted). length x.gone) f))
@@ -341,7 +341,7 @@ counts_from since latest (suc n) (f ∷ fs) e h =
     let rest : map (known_in since latest) fs ≡ replicate n Nothing = counts_from since latest n fs (omega arith) (λ p g k. h (suc p) g k) in
     ap (λ (k : Known). k ∷ map (known_in since latest) fs) first ∙ ap (λ (ks : List Known). Nothing ∷ ks) rest
 
--- what is found nowhere counts for nothing
+-- where nothing was found, nothing is known
 pub nothing_counts : (since latest n : ℕ) (found : List Found) → found ≡ replicate n (record { stamp = 0; known = Nothing }) → map (known_in since latest) found ≡ replicate n Nothing
 nothing_counts since latest n found e = ap (map (known_in since latest)) e ∙ all n
   where

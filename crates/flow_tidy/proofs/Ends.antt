@@ -162,7 +162,7 @@ same_length (suc p) label (x ∷ xs) = ap suc (same_length p label xs)
 
 -- ---- how many changes there are ----
 
--- with no more branches of chains than places left, as each place goes
+-- how many changes n places allow: each may be removed, and then each that is left may be a branch of a chain anew
 abbrev most : ℕ → ℕ
 most zero = 0
 most (suc n) = most n + n + 1
@@ -186,7 +186,7 @@ one_place_less s p ls i mention e =
 abbrev chains_of : List ListingLine → ℕ
 chains_of ls = chained (code_of ls) (places_of ls)
 
--- a change leaves more room than it takes
+-- a change lowers the bound on how many changes there can still be, and adds no place
 Leaves : List ListingLine → List ListingLine → Type 0
 Leaves ls new = (chains_of new + most (length (places_of new)) + 1 ≤ chains_of ls + most (length (places_of ls))) × (length (places_of new) ≤ length (places_of ls))
 

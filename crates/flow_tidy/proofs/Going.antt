@@ -1,4 +1,4 @@
--- The listing without an instruction that passes nothing on but to the next place: its places, labels, points and ways.
+-- The listing without an instruction whose only way, if it is reached, leads to the next place: its places, labels, points and ways.
 use Rattle.std.proofs.Common.{◌≡◌, ◌≢◌, ℕ, ◌+◌, ◌-◌, ◌<◌, ◌≤◌, true, false, List, [], ◌∷◌, ◌++◌, length, take, drop, map, Option, Some, None, refl, sym, ap, ◌∙◌, subst, inl, inr, arith}
 use Rattle.std.specs.Prelude.{slice_get}
 use Rattle.std.specs.Option.{option_map}

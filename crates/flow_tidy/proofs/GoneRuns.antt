@@ -62,7 +62,7 @@ module _ (names : Naming) (code : Code) (literals : HasLiterals code) (p : ℕ) 
     pub events : s.events ≡ t.events
     pub both : AtBoth s.at t.at
 
-  -- ---- what is around an instruction is tied ----
+  -- ---- what the places around decide for an instruction, in both listings ----
 
   target_tied : (mention : Option Mention) (o o' : Option ℕ) → o' ≡ option_map come o → ((r : ℕ) → o ≡ Some r → Reached code r) → TargetTied CameTo (target_at names mention o) (target_at names mention o')
   target_tied mention None o' e h = subst (λ (x : Option ℕ). TargetTied CameTo (target_at names mention None) (target_at names mention x)) (sym e) refl

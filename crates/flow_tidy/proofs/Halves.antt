@@ -120,7 +120,7 @@ pub record LiesBy (name : Name) (ls : List ListingLine) (at r q : ℕ) : Type 0 
   pub number : q ≡ r + more
   pub least : at + 2 * halves (places_of ls) more ≤ address
 
--- one that no label of a line is
+-- the place of a name that is no label of the line
 lies_behind : (name : Name) (l : ListingLine) (ls : List ListingLine) (at r q : ℕ) → is_among name l.names ≡ false → LiesBy name ls (at + size_at l.statement at) (r + length (places_in l.statement)) q → LiesBy name (l ∷ ls) at r q
 lies_behind name l ls at r q a rest =
     let n : ℕ = length (places_in l.statement) in

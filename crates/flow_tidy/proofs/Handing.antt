@@ -1,4 +1,4 @@
--- Tidying that begins by places that stay and goes on with a listing.
+-- Tidying that begins with a draft, whose places keep their numbers, and goes on with a listing: the changes of both together.
 use Rattle.std.proofs.Common.{ℕ, ◌+◌, ◌*◌, ◌<◌, ◌≤◌, ◌^◌, List, ◌++◌, length, length-append, arith}
 use Rattle.std.proofs.Math.Nat.{mul-le-mul_left}
 use Rattle.thumb_model.specs.Listing.{ListingLine, places_of}

@@ -1,4 +1,4 @@
--- What is known of chains' ends stays true where a branch goes to the end of its chain.
+-- What is known of chains' ends stays true where a branch is redirected to the end of its chain.
 use Rattle.std.proofs.Common.{◌≡◌, ◌∙◌, ℕ, zero, suc, ◌<◌, Bool, true, false, List, length, Option, Some, None, refl, sym, ap, subst, inl, inr, if◌then◌else◌}
 use Rattle.std.specs.Prelude.{option_and_then, slice_get}
 use Rattle.std.proofs.lemmas.Bool.{cases_eq}
@@ -75,7 +75,7 @@ module _ (code : Code) (r : ℕ) (label : Name) (g : GoesToEnd code r label) whe
       let e = some_of (place_of code label) (last_is_code code g.end.more g.mention.name label g.end.leads) in
       (e.0, e.1, stops_at code label e.0 e.1 g.end.stops)
 
-  -- and the one that the branch goes to, from which one does
+  -- and the place that the branch goes to, from which a hop leads on
   start : (s : ℕ) × (place_of code g.mention.name ≡ Some s) × ((to : ℕ) × (hop_at code s ≡ Some to))
   start =
       let hop = g.end.leads.1 in
@@ -128,11 +128,11 @@ module _ (code : Code) (r : ℕ) (label : Name) (g : GoesToEnd code r label) whe
   not_last : IsLastHop code r → ⊥
   not_last h = not_end h.end (sym (hop_was true (was_always h.end h.hop)) ∙ h.hop) h.stops
 
-  -- and is it now
+  -- and is the last one now
   is_last : is_always g.i ≡ true → IsLastHop new r
   is_last a = record { end = end.0; hop = hop_is true a ∙ end.1; stops = none_stays end.0 end.2 }
 
-  -- whose end is the label
+  -- the chain that went on from it had the label as its end
   ended : (n l : ℕ) → LastBy code n r l → name_in (slice_get code.places l) ≡ Some label
   ended zero l h = absurd (not_last (subst (IsLastHop code) (sym h.0) h.1))
   ended (suc n) l h =

@@ -32,7 +32,7 @@ left_set (false ∷ gs) (x ∷ xs) zero v e = refl
 left_set (true ∷ gs) (x ∷ xs) (suc p) v e = left_set gs xs p v e
 left_set (false ∷ gs) (x ∷ xs) (suc p) v e = ap (λ (ys : List Bool). x ∷ ys) (left_set gs xs p v e)
 
--- that of another isn't seen
+-- to set the mark of a place that is gone makes no difference
 pub left_unset : (gone xs : List Bool) (p : ℕ) (v : Bool) → is_gone gone p ≡ true → left gone (slice_set xs p v) ≡ left gone xs
 left_unset [] xs p v e = absurd (cc)
 left_unset (g ∷ gs) [] p v e = refl

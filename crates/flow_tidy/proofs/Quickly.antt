@@ -1,4 +1,4 @@
--- Tidying by places that stay: what is known of a draft when an instruction goes, and that a change that is made is the first.
+-- Tidying while places keep their numbers: what is known of a draft when an instruction is removed, and that a change that is made is the first.
 use Rattle.std.proofs.Common.{◌≡◌, ◌∙◌, inl, inr, ℕ, zero, suc, ◌+◌, ◌-◌, ◌<◌, ◌≤◌, Bool, true, false, List, [], ◌∷◌, length, replicate, Some, refl, sym, ap, subst, arith}
 use Rattle.std.specs.Prelude.{slice_get, slice_set}
 use Rattle.std.specs.List.{remove}
@@ -28,7 +28,7 @@ use Rattle.flow_tidy.proofs.Rooms.{get_short, have_left, lines_few}
 use Rattle.flow_tidy.proofs.Settled.{due_all, due_left, marks_left, may_go, may_leave, still_due, MayVanish}
 use Rattle.flow_tidy.proofs.Whole.{change_keeps}
 
--- ---- an instruction that goes ----
+-- ---- a removed instruction ----
 
 pub op_goes : (code : Code) (r : ℕ) → MayVanish code r → is_op_place (slice_get code.places r) ≡ true
 op_goes code r (inl g) = ap is_op_place g.stands
@@ -47,7 +47,7 @@ module _ (gone : List Bool) (p : ℕ) (code new : Code) (within : p < length gon
       subst (AreMarks new) (sym (left_gone gone reached p kept within (omega arith)))
       (subst (λ (c : Code). AreMarks c (remove (left gone reached) (rank gone p))) (sym less) (marks_left code (rank gone p) (left gone reached) (may_go code (rank gone p) goes) a))
 
-  -- the mark of what goes isn't seen
+  -- whether the mark of the removed place is cleared makes no difference
   marks_now : (due : List Bool) → length due ≡ length gone → left now (slice_set due p false) ≡ remove (left gone due) (rank gone p)
   marks_now due e = left_unset now due p false (marked_set gone p true within) ∙ left_gone gone due p kept within (omega arith)
 

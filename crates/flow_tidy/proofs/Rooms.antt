@@ -1,4 +1,4 @@
--- Lines that have room stay few and short when an instruction goes or a branch goes elsewhere.
+-- Lines that have room stay few and short when an instruction is removed or a branch is redirected.
 use Rattle.std.proofs.Common.{◌≡◌, ◌∙◌, ℕ, zero, suc, ◌+◌, ◌-◌, ◌≤◌, ◌==◌, ◌&&◌, Bool, true, false, List, [], ◌∷◌, ◌++◌, length, map, take, Option, Some, refl, sym, ap, subst, inl, inr, arith, ne_eqb, if◌then◌else◌}
 use Rattle.std.specs.Prelude.{slice_get}
 use Rattle.std.proofs.lemmas.Bool.{cases_Bool}
@@ -31,7 +31,7 @@ pub lines_few : (ls : List ListingLine) → length ls ≤ room_taken ls
 lines_few [] = omega arith
 lines_few (l ∷ ls) = let r = lines_few ls in let o = counts_one l in omega arith
 
--- ---- an instruction that goes ----
+-- ---- a removed instruction ----
 
 kept_room : (l : ListingLine) (ns : List Name) (rest : List ListingLine) → room_taken (labels_kept l ns ++ rest) ≤ (if some_name ns then 2 else 1) + room_taken rest
 kept_room l [] rest = omega arith
@@ -69,7 +69,7 @@ short_left longest write p (l ∷ ls) h = elim (cases_Bool (is_op l.statement &&
 pub have_left : (most longest : ℕ) (write : Instr → List ℕ) (p : ℕ) (ls : List ListingLine) → HaveRoom most longest ls → HaveRoom most longest (replaced_lines write p 1 [] ls)
 have_left most longest write p ls h = record { few = let r = room_left write p ls in let f = h.few in omega arith; short = short_left longest write p ls h.short }
 
--- ---- a branch that goes elsewhere ----
+-- ---- a redirected branch ----
 
 bare_one : (b : Bool) → one_or_two (b && false) ≡ 1
 bare_one true = refl

@@ -1,4 +1,4 @@
--- The lines of a draft stay sure while its instructions go and its branches go elsewhere.
+-- The lines of a draft can still surely be laid out (`IsSure`) while instructions are removed and branches redirected.
 use Rattle.std.proofs.Common.{◌≡◌, ◌∙◌, inl, inr, ◌+◌, ◌<◌, ℕ, Bool, true, false, List, [], length, Option, Some, None, refl, ap, subst, sym, arith}
 use Rattle.std.specs.Prelude.{option_map, slice_get, slice_set}
 use Rattle.std.proofs.lemmas.Bool.{cases_eq}
@@ -46,7 +46,7 @@ draft_of e given gone aims f g a h =
 whole_of : (base : ℕ) (e : Drafted) (given : List ListingLine) (aims : List (Option Name)) → e.given ≡ given → e.aims ≡ aims → IsSteady base (now_of [] aims given) → IsSteady base (whole e)
 whole_of base e given aims f a h = subst (λ x. IsSteady base (now_of [] x e.given)) (sym a) (subst (λ x. IsSteady base (now_of [] aims x)) (sym f) h)
 
--- ---- an instruction that goes ----
+-- ---- a removed instruction ----
 
 -- a branch is no call of a label
 branch_narrow : (i : Instr) (m : Option Mention) → is_branch i ≡ true → wide_of (Some (Op i m)) ≡ 0
@@ -85,7 +85,7 @@ safe_left g d e p dues within kept goes s h =
       narrow = narrow_of e d.given (slice_set d.gone p true) h.given h.gone (still_narrow g d p s kept goes);
     }
 
--- ---- a branch that goes elsewhere ----
+-- ---- a redirected branch ----
 
 op_of : (o : Option Place) (i : Instr) → instr_in o ≡ Some i → (m : Option Mention) × (o ≡ Some (Op i m))
 op_of None i e = absurd (cc)

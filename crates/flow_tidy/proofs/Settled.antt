@@ -129,7 +129,7 @@ marks_left code p marks m a =
           (λ h. reached_forth code p m o.0 (says.0 h), λ h. says.1 (reached_back code p m (moved p 1 o.0) h o.0 refl o.1));
     }
 
--- ---- a branch that goes elsewhere ----
+-- ---- a redirected branch ----
 
 -- what is reached and due stays
 pub marks_aimed : (code : Code) (p : ℕ) (label : Name) (marks : List Bool) → GoesToEnd code p label → AreMarks code marks → AreMarks (aimed_code p label code) marks

@@ -11,7 +11,7 @@ use Rattle.thumb_model.proofs.Points.{point_places}
 
 -- ---- points ----
 
--- what one sees of a listing alone: any naming
+-- any naming, for what depends on the listing alone
 abbrev pub some_naming : Naming
 some_naming = record { word_of = λ n. 0; return_word = λ k. 0; low = 0; high = 0 }
 

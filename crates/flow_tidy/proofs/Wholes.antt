@@ -29,7 +29,7 @@ use Rattle.flow_tidy.proofs.WidestLayouts.{repeated as as_many_starts}
 
 -- ---- the line of an instruction, whose branch may go elsewhere ----
 
--- what it says now
+-- its statement now
 abbrev said : Option Name → Statement → Statement
 said None s = s
 said (Some label) s = aimed label s
@@ -123,7 +123,7 @@ pub whole_alike : (ls : List ListingLine) → AlikeRec ls
 whole_alike [] aims = record { ending = λ here. refl; label = λ name here. refl; sets = λ name. refl }
 whole_alike (l ∷ ls) aims = line_alike l l.statement ls refl (whole_alike ls) aims
 
--- ---- a branch that goes elsewhere ----
+-- ---- a redirected branch ----
 
 -- steady by names that lie at the same addresses
 same_steady : (labels others : Name → Option Start) (sets zets : Name → Option ℕ) → ((name : Name) → labels name ≡ others name) → ((name : Name) → sets name ≡ zets name)

@@ -1,4 +1,4 @@
--- Where the chains end that go on from places: what is remembered of it.
+-- Where chains of branches end, by places, and what the cache of ends holds.
 use Rattle.std.specs.Prelude.{◌≡◌, ℕ, zero, suc, ◌<◌, ◌≤◌, nat_eq, nat_lt, Bool, false, List, length, Option, Some, None, option_and_then, slice_get, if◌then◌else◌}
 use Rattle.thumb_model.specs.Listing.{Name, Code, code_of, place_of}
 use Rattle.kept_places.specs.Marks.{is_gone, rank}
@@ -14,13 +14,13 @@ use Rattle.flow_tidy.specs.Made.{label_of_always}
 abbrev pub hop_at : Code → ℕ → Option ℕ
 hop_at code p = option_and_then (place_of code) (label_of_always (slice_get code.places p))
 
--- a hop leads on from a place, and none from where that goes
+-- a hop leads on from a place, and none from where that hop leads
 pub record IsLastHop (code : Code) (p : ℕ) : Type 0 where
   pub end : ℕ
   pub hop : hop_at code p ≡ Some end
   pub stops : hop_at code end ≡ None
 
--- so many hops lead from a place to the last from which one leads on
+-- n hops lead from a place to the last one from which a hop leads on
 abbrev pub LastBy : Code → ℕ → ℕ → ℕ → Type 0
 LastBy code zero p last = (p ≡ last) × IsLastHop code last
 LastBy code (suc n) p last = (via : ℕ) × (hop_at code p ≡ Some via) × LastBy code n via last
@@ -50,17 +50,17 @@ pub record AreEnds (d : Drafted) (known : List Known) : Type 0 where
 abbrev pub AreWalked : Drafted → List Known → Option ℕ → Type 0
 AreWalked d known last = (p : ℕ) → is_gone d.gone p ≡ false → slice_get known p ≡ Some Walked → IsLast d p last
 
--- a walk's mark counts for this walk only
+-- that a walk passed a place counts for this walk only
 abbrev pub known_by : Bool → Known → Known
 known_by latest Nothing = Nothing
 known_by latest Walked = if latest then Walked else Nothing
 known_by latest (Last last) = Last last
 
--- what was found counts from a number on
+-- what was found counts if its stamp is `since` or later
 abbrev pub known_in : ℕ → ℕ → Found → Known
 known_in since latest found = if nat_lt found.stamp since then Nothing else known_by (nat_eq found.stamp latest) found.known
 
--- what was found has no number later than the latest
+-- what was found has no stamp later than the latest
 pub record IsStamped (since latest : ℕ) (found : List Found) : Type 0 where
   pub since_then : since ≤ latest
   pub stamps : (p : ℕ) (f : Found) → slice_get found p ≡ Some f → f.stamp ≤ latest

@@ -1,4 +1,4 @@
--- Places at which a change has its cause.
+-- Places that are due: all those at which a change has its cause, and what else is known of lines between changes.
 use Rattle.std.specs.Prelude.{◌≡◌, ℕ, zero, suc, ◌+◌, ◌<◌, ◌≤◌, ◌&&◌, ◌||◌, not, Bool, true, false, List, length, Option, Some, None, slice_get, slice_set}
 use Rattle.thumb_model.specs.Layout.{Layable}
 use Rattle.thumb_model.specs.Listing.{Name, Place, Op, Word, ListingLine, Code, code_of, is_call_instr}
@@ -41,7 +41,7 @@ is_branch_always None = false
 is_branch_always (Some (Word v)) = false
 is_branch_always (Some (Op i mention)) = is_always i
 
--- whether a branch with a condition stands at a place, and one without at the next: where the first goes, chains that ended at its labels go on
+-- whether a branch with a condition stands at a place, and one without at the next: once the first is removed, chains that ended at its labels go on
 abbrev pub lets_on : Code → ℕ → Bool
 lets_on code p = is_branch_if (slice_get code.places p) && is_branch_always (slice_get code.places (p + 1))
 
@@ -50,7 +50,7 @@ pub record IsLeast (due : List Bool) (place : ℕ) : Type 0 where
   pub within : place ≤ length due
   pub free : (k : ℕ) → k < place → slice_get due k ≡ Some true → ⊥
 
--- marks with that of the place before one set
+-- the marks with that of the place before this one set
 abbrev pub before_is_due : ℕ → List Bool → List Bool
 before_is_due zero due = due
 before_is_due (suc p) due = slice_set due p true

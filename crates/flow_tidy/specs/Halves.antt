@@ -21,7 +21,7 @@ wide_count [] n = 0
 wide_count (x ∷ xs) zero = 0
 wide_count (x ∷ xs) (suc n) = wide_of (Some x) + wide_count xs n
 
--- for each place how many before it are, and n more
+-- for each place n, and how many places before it are such
 abbrev pub wides_before : ℕ → List Place → List ℕ
 wides_before n [] = []
 wides_before n (x ∷ xs) = n ∷ wides_before (n + wide_of (Some x)) xs
@@ -30,6 +30,6 @@ wides_before n (x ∷ xs) = n ∷ wides_before (n + wide_of (Some x)) xs
 abbrev pub halves : List Place → ℕ → ℕ
 halves places n = n + wide_count places n
 
--- a branch that goes from -2 `half` to below 2 `half` bytes from its address and 4 doesn't reach a label, by the half-words before either
+-- a branch doesn't reach a label, by the half-words before each of them, if its displacement may be from -2 `half` to below 2 `half` bytes
 abbrev pub IsBeyond : ℕ → ℕ → ℕ → Type 0
 IsBeyond half from to = (from < to → from + half + 2 ≤ to) × (to ≤ from → to + half < from + 2)

@@ -1,4 +1,4 @@
--- What holds of tidying.
+-- The laws of tidying: runs are kept, it ends, is complete and determined, lines can still be laid out, and what is reached never changes.
 use Rattle.std.specs.Prelude.{◌≡◌, ◌≢◌, ◌↔◌, ℕ, ◌+◌, ◌*◌, ◌≤◌, List, [], ◌∷◌, length, IsSome}
 use Rattle.thumb_model.specs.Listing.{Name, ListingLine, places_of, code_of, place_of}
 use Rattle.thumb_model.specs.Literals.{HasLiterals}
@@ -36,13 +36,13 @@ TidyingStaysLayable = (s : Setting) (ls : List ListingLine) (cs : List Change) (
 abbrev pub ChangesKeepRuns : Type 0
 ChangesKeepRuns = (s : Setting) (c : Change) (ls : List ListingLine) → HasLiterals (code_of ls) → HasCause (code_of ls) c.place c.cause → Same (code_of ls) (code_of (lines_after s c ls))
 
--- and each code label stays one
+-- and each code label is still a code label
 abbrev pub LabelsStayCode : Type 0
 LabelsStayCode = (s : Setting) (c : Change) (ls : List ListingLine) → HasCause (code_of ls) c.place c.cause → (label : Name) → IsSome (place_of (code_of ls) label) → IsSome (place_of (code_of (lines_after s c ls)) label)
 
 -- ---- what is reached ----
 
--- where a place comes to when an instruction goes, or stays and goes elsewhere
+-- the number of place q after a change at p: it is one less where an instruction before q was removed
 abbrev pub came_to_by : ℕ → Cause → ℕ → ℕ
 came_to_by p ToNext q = moved p 1 q
 came_to_by p (ToEnd label) q = q
@@ -51,7 +51,7 @@ came_to_by p Idle q = moved p 1 q
 abbrev pub came_to : Change → ℕ → ℕ
 came_to c q = came_to_by c.place c.cause q
 
--- the place doesn't go
+-- the change doesn't remove the place q
 abbrev pub IsKeptBy : ℕ → Cause → ℕ → Type 0
 IsKeptBy p ToNext q = q ≢ p
 IsKeptBy p (ToEnd label) q = Unit {0}
@@ -60,7 +60,7 @@ IsKeptBy p Idle q = q ≢ p
 abbrev pub IsKept : Change → ℕ → Type 0
 IsKept c q = IsKeptBy c.place c.cause q
 
--- through all changes
+-- the number of a place after all changes
 abbrev pub came_through : List Change → ℕ → ℕ
 came_through [] q = q
 came_through (c ∷ cs) q = came_through cs (came_to c q)
@@ -73,6 +73,6 @@ AreKept (c ∷ cs) q = IsKept c q × AreKept cs (came_to c q)
 abbrev pub ReachedStays : Type 0
 ReachedStays = (s : Setting) (ls : List ListingLine) (cs : List Change) (new : List ListingLine) → AreTidied s ls cs new → (q : ℕ) → AreKept cs q → Reached (code_of ls) q ↔ Reached (code_of new) (came_through cs q)
 
--- and so after each change
+-- and the same after each change
 abbrev pub ReachedStaysByEach : Type 0
 ReachedStaysByEach = (s : Setting) (c : Change) (ls : List ListingLine) → HasCause (code_of ls) c.place c.cause → (q : ℕ) → IsKept c q → Reached (code_of ls) q ↔ Reached (code_of (lines_after s c ls)) (came_to c q)

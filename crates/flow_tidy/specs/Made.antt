@@ -1,4 +1,4 @@
--- What each step of tidying finds or makes, as the code tells it.
+-- What each step of tidying finds or makes, as the contracts of the code say it.
 use Rattle.std.specs.Prelude.{◌≡◌, ℕ, ◌≤◌, ◌==◌, not, Bool, List, ◌++◌, length, Option, Some, None, is_some, option_and_then, slice_get, if◌then◌else◌}
 use Rattle.thumb_model.specs.Listing.{Name, Place, Op, Word, ListingLine, Code, place_of}
 use Rattle.thumb_model.specs.Layout.{Layable}
@@ -48,12 +48,12 @@ AreShort longest ls = (k : ℕ) (l : ListingLine) → slice_get ls k ≡ Some l 
 abbrev pub AreWithin : ℕ → ℕ → List ListingLine → Type 0
 AreWithin most longest ls = (length ls ≤ most) × AreShort longest ls
 
--- where lines lie, if that is told
+-- the addresses of lines, if they are given
 abbrev pub IsMovedTo : ℕ → List ListingLine → Option Addresses → Type 0
 IsMovedTo base ls None = Unit {0}
 IsMovedTo base ls (Some a) = AreAddresses ls a × (a.base ≡ base)
 
--- these lines, and if it is told where they lie
+-- these lines, with their addresses if these are given
 abbrev pub AreLines : ℕ → List ListingLine → Changed → Type 0
 AreLines base ls new = (new.listing ≡ ls) × IsMovedTo base ls new.moved
 
@@ -88,7 +88,7 @@ abbrev pub IsMadeAt : Setting → ℕ → List ListingLine → Option Changed �
 IsMadeAt s p ls None = (o : Cause) → IsPossible s (change p o) ls → ⊥
 IsMadeAt s p ls (Some new) = (c : Cause) × IsPossible s (change p c) ls × ((o : Cause) → IsPossible s (change p o) ls → rank c ≤ rank o) × AreLines s.base (lines_by s p c ls) new
 
--- so many changes, each the first, lead from the given lines to these
+-- `count` changes, each the first that is possible, lead from the given lines to these
 pub record AreMadeBy (s : Setting) (given ls : List ListingLine) (count : ℕ) : Type 0 where
   pub changes : List Change
   pub counted : count ≡ length changes

@@ -1,4 +1,4 @@
--- Tidying by places that stay, as far as each change surely can be made.
+-- Tidying while places keep their numbers, as far as each change surely can be made.
 use Rattle.std.specs.Prelude.{◌≡◌, ℕ, ◌+◌, ◌%◌, ◌<◌, ◌≤◌, ◌&&◌, Bool, true, false, List, [], ◌∷◌, length, Some, option_and_then, slice_get, if◌then◌else◌}
 use Rattle.thumb_instr.specs.declared.instr.Instr.{Instr}
 use Rattle.thumb_model.specs.Listing.{Name, ListingLine, code_of, place_of, places_of}
@@ -34,7 +34,7 @@ abbrev pub some_name : List Name → Bool
 some_name [] = false
 some_name (n ∷ ns) = true
 
--- how many lines a line counts for: two where it may leave one for its labels
+-- how many lines may come of a line: two where an instruction's labels may get a line of their own
 abbrev pub counts_for : ListingLine → ℕ
 counts_for l = if is_op l.statement && some_name l.names then 2 else 1
 
@@ -67,7 +67,7 @@ pub record IsQuick (d : Drafted) (marks dues : List Bool) : Type 0 where
   pub reached : AreMarks (code_of (lines_now d)) (left d.gone marks)
   pub due : AreDue (code_of (lines_now d)) (left d.gone dues)
 
--- the lines with none of the instructions gone
+-- the lines with branches redirected as now, but with none of the instructions gone
 abbrev pub whole : Drafted → List ListingLine
 whole d = now_of [] d.aims d.given
 

@@ -1,4 +1,4 @@
--- Chains of branches, the changes of tidying, and tidying whole.
+-- What tidying is: chains of branches, the changes with their causes, and tidying by the first change that is possible until none is.
 use Rattle.std.specs.Prelude.{◌≡◌, ℕ, zero, suc, Bool, true, false, Some, IsSome, slice_get, ◌+◌, ◌≤◌, ◌==◌, List, [], ◌∷◌, length, Option, None, if◌then◌else◌, ◌*◌}
 use Rattle.thumb_instr.specs.declared.instr.Instr.{Instr}
 use Rattle.thumb_instr.specs.declared.instr.Instr.TheVariants as instr
@@ -16,7 +16,7 @@ use Rattle.listing_parser.specs.Parsing.{line_mentioning}
 use Rattle.flow_tidy.specs.declared.errors.TidyError.{TidyError}
 use Rattle.flow_tidy.specs.declared.errors.TidyError.TheVariants as error
 
--- Chains of branches: where a branch to a branch to a branch comes to.
+-- Chains of branches: where a branch to a branch to a branch ends.
 
 -- B without a condition
 abbrev pub is_always : Instr → Bool
@@ -34,7 +34,7 @@ pub record Hops (code : Code) (from to : Name) : Type 0 where
   pub named : mention.name ≡ to
   pub code_label : IsSome (place_of code to)
 
--- so many hops lead from a label to a label
+-- n hops lead from a label to a label
 abbrev pub HopsBy : Code → ℕ → Name → Name → Type 0
 HopsBy code zero from to = from ≡ to
 HopsBy code (suc n) from to = (via : Name) × Hops code from via × HopsBy code n via to
@@ -45,7 +45,7 @@ pub record IsEnd (code : Code) (from to : Name) : Type 0 where
   pub leads : HopsBy code (suc more) from to
   pub stops : (next : Name) → Hops code to next → ⊥
 
--- Tidying a listing's lines: branches to the next place go, branches to branches go to the end, and so do instructions that nothing reaches.
+-- Tidying a listing's lines: branches to the next place and instructions that nothing reaches are removed, and branches to branches go to their chain's end.
 
 -- what tidying is given: the base, how many lines a listing may have and how many bytes a line, and the bytes of an instruction's own line
 pub record Setting : Type 0 where
@@ -130,7 +130,7 @@ pub record IsPossible (s : Setting) (c : Change) (ls : List ListingLine) : Type 
 
 -- ---- tidying ----
 
--- what is tried first at a place
+-- the order in which causes are tried at a place
 abbrev pub rank : Cause → ℕ
 rank ToNext = 0
 rank (ToEnd label) = 1
@@ -162,7 +162,7 @@ AllPossible s ls (c ∷ cs) = IsPossible s c ls × AllPossible s (lines_after s 
 abbrev pub setting : ℕ → Setting
 setting base = record { base = base; most_lines = most_lines; longest_line = longest_line; write = line_mentioning }
 
--- these lines are the given ones tidied, by so many changes
+-- these lines are the given ones tidied, by `count` changes
 pub record AreTidiedBy (base : ℕ) (given new : List ListingLine) (count : ℕ) : Type 0 where
   pub changes : List Change
   pub are : AreTidied (setting base) given changes new
@@ -173,7 +173,7 @@ abbrev pub IsRefusal : ℕ → List ListingLine → TidyError → Type 0
 IsRefusal base lines (error.Line number k) = first_fault base lines ≡ Some (number, fault_of k)
 IsRefusal base lines error.Memory = Unit {0}
 
--- how many places are visited at most, for what is reached in so many places and after each of so many changes
+-- how many visits of places there are at most in the search for what is reached, with a search at first and one after each change
 abbrev pub tidying_cost : List ListingLine → ℕ → ℕ
 tidying_cost lines changes = (changes + 1) * (length (places_of lines) * (length (places_of lines) + 2))
 

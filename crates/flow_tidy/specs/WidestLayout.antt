@@ -14,7 +14,7 @@ places_begin [] ls = []
 places_begin (s ∷ ss) [] = []
 places_begin (s ∷ ss) (l ∷ ls) = replicate (length (places_in l.statement)) s ++ places_begin ss ls
 
--- so the lines and places of a listing begin
+-- the widest layout of a listing: where its lines and places begin, and how many wide places stand before each place
 pub record IsWidestLayout (ls : List ListingLine) (g : WidestLayout) : Type 0 where
   pub lines : AreStarts g.base ls g.lines.items
   pub places : g.places.items ≡ places_begin g.lines.items ls

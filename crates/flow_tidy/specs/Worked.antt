@@ -40,7 +40,7 @@ e = 101 ∷ []
 abbrev pub f : Name
 f = 102 ∷ []
 
--- f: beq a; movs; b e; nop; a: b c; e: bx lr; c: bx lr. The first branch gets c, and then the nop goes
+-- f: beq a; movs; b e; nop; a: b c; e: bx lr; c: bx lr. The first branch is redirected to c, and then the nop is removed
 abbrev pub crossing : Condition → Distance 128 → Distance 1024 → Within 0 8 → Within 0 256 → General → List ListingLine
 crossing k near far d n lr =
     labels f
@@ -70,7 +70,7 @@ crossed k near far d n lr =
     ∷ does (instr.Bx lr)
     ∷ []
 
--- a: b c; c: bx lr. The branch goes
+-- a: b c; c: bx lr. The branch is removed
 abbrev pub next_branch : Distance 1024 → General → List ListingLine
 next_branch far lr = labels a ∷ goes (instr.Branch far) c ∷ labels c ∷ does (instr.Bx lr) ∷ []
 

@@ -1,4 +1,4 @@
-//! Where chains end, remembered as long as no instruction goes: else the same hops are taken again from each place.
+//! A cache of where chains of branches end, valid as long as no instruction is removed: without it the same hops would be walked again from each place.
 ghost use Rattle.std.specs.Prelude.{◌≡◌, ◌<◌, ℕ, false, Some, length, slice_get, IfNone, IfSome};
 ghost use Rattle.thumb_model.specs.Listing.{code_of};
 ghost use Rattle.kept_places.specs.Marks.{is_gone, rank};
@@ -18,13 +18,13 @@ use std::marker::Model;
 pub(crate) enum Known {
     /// Nothing.
     Nothing,
-    /// The walk at hand came by.
+    /// The walk that is under way passed the place.
     Walked,
-    /// A place whose branch goes to its end as its last branch does, if it has an end.
+    /// A place whose branch goes to the chain's end, as the chain's last branch does; None if the chain has no end.
     Last(Option<u32>),
 }
 
-/// What was found of a place, with the number that was then the latest.
+/// What was found of a place, stamped with the number `latest` of that time.
 #[derive(Clone, Copy)]
 struct Found {
     stamp: u32,
@@ -33,7 +33,7 @@ struct Found {
 
 /// What is known of the chains that go on from the places of a draft. Contracts see a list with what is known of each.
 ///
-/// What was found before the number `since` counts for nothing, and that a walk came by counts only under that walk's own number, the latest.
+/// What has a stamp below `since` is forgotten, and that a walk passed a place counts only if it has that walk's own stamp, the latest.
 #[derive(Drop)]
 pub(crate) struct Ends {
     found: Vec<Found>,
@@ -54,7 +54,7 @@ impl Model for Ends {
     ghost invariant = { λ e. IsStamped e.since e.latest e.found.items };
 }
 
-/// What was found counts as this, by the first number that counts and the latest one.
+/// What is known by what was found, where stamps count from `since` on and the walk under way has the stamp `latest`.
 fn known_of(found: &Found, since: u32, latest: u32) -> Known
     ensures { result ≡ known_in since latest found.now }
 {
@@ -80,7 +80,7 @@ impl Ends {
     ghost use Rattle.flow_tidy.specs.declared.chain_ends.Known.TheVariants.{Nothing, Walked};
     ghost use Rattle.flow_tidy.specs.ChainEnds.{AreEnds};
 
-    /// Nothing of so many places.
+    /// Nothing is known of `count` places.
     pub(crate) fn none(alloc: Global, count: u32) -> Result<Self, AllocError>
         ensures { IfOk result (λ e. e ≡ replicate count Nothing) }
     {
@@ -96,7 +96,7 @@ impl Ends {
         })
     }
 
-    /// Forgets all, and lets the numbers begin again.
+    /// Forgets all, and begins the stamps again at 0.
     fn clear(&mut self)
         ensures { self.new ≡ replicate (length self.old) Nothing }
     {
@@ -121,7 +121,7 @@ impl Ends {
         }
     }
 
-    /// Begins a walk: none came by yet.
+    /// Begins a walk, which has passed no place yet.
     fn begin(&mut self)
         ensures known { (d : Drafted) → AreEnds d self.old → AreEnds d self.new }
         ensures unwalked { (q : ℕ) → slice_get self.new q ≡ Some Walked → ⊥ }
@@ -152,8 +152,9 @@ impl Ends {
     }
 }
 
-/// A kept place whose branch goes to the end of the chain that goes on from a kept place to a second one, if the chain has an end. The walk along it stops at the last
-/// branch, at a place of which the end is known, or where it comes to a place again: then the chain goes round. All places that the walk came by have the same end.
+/// A kept place whose branch goes to the end of the chain that hops from the kept place `first` to the kept place `second`, if the chain has an end. The walk
+/// along it stops at the last branch, at a place of which the end is known, or where it comes to a place again: then the chain is a cycle. All places that the
+/// walk passed have the same end.
 fn walk(draft: &mut Draft, ends: &mut Ends, first: u32, second: u32) -> Option<u32>
     requires within { (first < length draft.old.gone) × (second < length draft.old.gone) }
     requires kept { (is_gone draft.old.gone first ≡ false) × (is_gone draft.old.gone second ≡ false) }
@@ -185,7 +186,7 @@ fn walk(draft: &mut Draft, ends: &mut Ends, first: u32, second: u32) -> Option<u
     }
 }
 
-/// Notes which place's branch goes to the end of the chain, if it has an end, for the places from this one on that the walk came by.
+/// Notes for the places from `first` on that the walk passed which place's branch goes to the end of the chain, if it has an end.
 fn note_walked(draft: &mut Draft, ends: &mut Ends, first: u32, last: Option<u32>)
     requires within { first < length draft.old.gone }
     requires kept { is_gone draft.old.gone first ≡ false }

@@ -48,7 +48,7 @@ pub(crate) fn is_idle(listing: &Listing, reached: &Marks, place: u32) -> bool
     }
 }
 
-/// The listing without the instruction at a place.
+/// The listing without the instruction at a place, if that can be laid out and is within the limits.
 fn without(
     alloc: Global,
     listing: &Listing,
@@ -62,7 +62,7 @@ fn without(
     accepted(alloc, new, base)
 }
 
-/// The listing without a branch to the next place.
+/// The listing without the branch at a place, if that goes to the next place and may be removed.
 fn without_branch(
     alloc: Global,
     listing: &Listing,
@@ -104,7 +104,7 @@ fn reaches(listing: &Listing, laid: &Layout, place: u32, label: &[u8]) -> bool
     }
 }
 
-/// The listing with a branch going to the end of its chain. The layout is the listing's.
+/// The listing with the branch at a place redirected to the end of its chain, if it has one and that is possible. The layout is the given listing's.
 fn with_end(
     alloc: Global,
     listing: &Listing,
@@ -128,7 +128,7 @@ fn with_end(
     Ok(within_limits(new))
 }
 
-/// The listing without an instruction that nothing reaches.
+/// The listing without the instruction at a place, if nothing reaches it and it may be removed.
 fn without_idle(
     alloc: Global,
     listing: &Listing,

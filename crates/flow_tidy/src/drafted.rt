@@ -1,4 +1,4 @@
-//! What stands at the places of a draft. A place that is kept has its rank as its number in the lines now.
+//! What stands at the places of a draft: branches, where they go, and idle instructions. Contracts say it of the lines now, where a kept place has its rank.
 ghost use Rattle.std.specs.Prelude.{◌≡◌, ◌<◌, ◌↔◌, false, length, option_and_then, option_map, IfSome, IsTrue};
 ghost use Rattle.kept_places.specs.Marks.{is_gone, rank};
 ghost use Rattle.thumb_model.specs.Listing.{code_of, place_of};
@@ -91,7 +91,7 @@ fn is_branch_if(draft: &Draft, place: u32) -> bool
     }
 }
 
-/// Whether a branch without one stands at a kept place, or at the end.
+/// Whether a branch without a condition stands at a kept place; false of the end.
 fn is_branch_always(draft: &Draft, place: u32) -> bool
     requires kept { is_gone draft.now.gone place ≡ false }
     ensures { result ≡ branches_always (stands draft.now place) }
@@ -105,7 +105,7 @@ fn is_branch_always(draft: &Draft, place: u32) -> bool
     }
 }
 
-/// Whether chains may go on that ended at a kept place, once the instruction there goes.
+/// Whether chains that ended at a kept place may go on once the instruction there is removed: a conditional branch, followed by an unconditional one.
 pub(crate) fn lets_on(draft: &mut Draft, place: u32) -> bool
     requires within { place < length draft.old.gone }
     requires kept { is_gone draft.old.gone place ≡ false }

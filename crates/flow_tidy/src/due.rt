@@ -4,7 +4,7 @@ ghost use Rattle.std.specs.Prelude.{◌≡◌, ◌<◌, ◌≤◌, ℕ, Some, tr
 use std::alloc::{AllocError, Global};
 use std::marker::Model;
 
-/// Which places of a listing are due, while some of them go. Contracts see a mark for each. None before `least` is.
+/// Which places of a listing are due, while some of them are removed. Contracts see a mark for each place. No place before `least` is due.
 #[derive(Drop)]
 pub(crate) struct Due {
     marks: Vec<bool>,
@@ -42,7 +42,7 @@ impl Due {
     ghost use Rattle.std.specs.List.{remove};
     ghost use Rattle.flow_tidy.specs.Due.{before_is_due, IsLeast};
 
-    /// All of so many places.
+    /// All of `count` places are due.
     pub(crate) fn all(alloc: Global, count: u32) -> Result<Self, AllocError>
         ensures { IfOk result (λ d. d ≡ replicate count true) }
     {
@@ -50,14 +50,14 @@ impl Due {
         Ok(Due { marks, least: 0 })
     }
 
-    /// The places with these marks.
+    /// The places with these marks are due.
     pub(crate) fn of(marks: Vec<bool>) -> Self
         ensures { result ≡ marks.items }
     {
         Due { marks, least: 0 }
     }
 
-    /// A place before which none is due: the least that is, where one is.
+    /// The least place that is due, or the end where none is.
     pub(crate) fn least(&mut self) -> usize
         ensures least { IsLeast self.new result }
         ensures same { self.new ≡ self.old }
@@ -85,7 +85,7 @@ impl Due {
         self.marks[place as usize]
     }
 
-    /// Lets a place be due no more.
+    /// Marks a place as not due.
     pub(crate) fn take(&mut self, place: u32)
         requires { place < length self.old }
         ensures { self.new ≡ slice_set self.old place false }
@@ -102,7 +102,7 @@ impl Due {
         self.least = self.least.min(place);
     }
 
-    /// Lets a place go, and makes the one before due.
+    /// Drops the mark of a place that is removed, and makes the place before it due.
     pub(crate) fn leave(&mut self, place: u32)
         requires { place < length self.old }
         ensures { self.new ≡ before_is_due place (remove self.old place) }
@@ -115,7 +115,7 @@ impl Due {
         }
     }
 
-    /// Lets a place go, and makes all others due.
+    /// Drops the mark of a place that is removed, and makes all others due.
     pub(crate) fn leave_all(&mut self, place: u32)
         requires { place < length self.old }
         ensures { self.new ≡ replicate (length (remove self.old place)) true }

@@ -13,7 +13,7 @@ pub fn tidying_is_complete()
     ensures { TidyingIsComplete }
 {}
 
-/// There are at most so many changes, and no more places are left.
+/// Of n places there are at most n (n + 1) changes, and no more than n places are left.
 pub fn tidying_ends()
     ensures { TidyingEnds }
 {}
@@ -28,12 +28,12 @@ pub fn tidying_stays_layable()
     ensures { TidyingStaysLayable }
 {}
 
-/// One change keeps the runs: a branch to the next place goes, a branch goes to the end of its chain, or an instruction goes that nothing reaches.
+/// One change keeps the runs: a branch to the next place or an instruction that nothing reaches is removed, or a branch is redirected to the end of its chain.
 pub fn changes_keep_runs()
     ensures { ChangesKeepRuns }
 {}
 
-/// Each code label stays one.
+/// Each code label is still a code label after a change.
 pub fn labels_stay_code()
     ensures { LabelsStayCode }
 {}
@@ -48,7 +48,8 @@ pub fn reached_stays_by_each()
     ensures { ReachedStaysByEach }
 {}
 
-/// What tidying makes of four small listings: of a branch to a branch and an idle instruction, of a branch to the next place, of a loop and of a call that nothing reaches.
+/// What tidying makes of four small listings: of a branch to a branch and an idle instruction, of a branch to the next place, of a loop and of a call that
+/// nothing reaches.
 pub fn small_listings_are_tidied()
     ensures { SmallListings }
 {}

@@ -1,4 +1,4 @@
-//! Tidying a listing's branches and what nothing reaches.
+//! Tidying a listing: branches are redirected to the ends of their chains; branches to the next place and instructions that nothing reaches are removed.
 #![tactic(auto)]
 
 mod chain_ends;

@@ -60,7 +60,7 @@ fn are_within_limits(lines: &[ListingLine]) -> bool
     lines.len() <= MOST_LINES && are_short(lines)
 }
 
-/// A listing in which nothing moved, where it has neither too many lines nor too long ones; nothing of another.
+/// A listing in which nothing moved, if it has neither too many lines nor too long ones; else None.
 pub(crate) fn within_limits(listing: Listing) -> Option<Changed>
     ensures { IsWithin most_lines longest_line listing result }
 {
@@ -74,7 +74,7 @@ pub(crate) fn within_limits(listing: Listing) -> Option<Changed>
     }
 }
 
-/// A listing with where it lies, where it can be laid out from the base and is within the limits; nothing of another.
+/// A listing with its layout, if it can be laid out from the base and is within the limits; else None.
 pub(crate) fn accepted(
     alloc: Global,
     listing: Listing,
@@ -95,7 +95,7 @@ pub(crate) fn accepted(
     }
 }
 
-/// How many lines a line counts for: two where it may leave one for its labels.
+/// How many lines may come of a line: two where an instruction's labels may get a line of their own.
 fn counts_for(line: &ListingLine) -> usize
     ensures { result ≡ counts_for (line_view line.now) }
 {

@@ -1,4 +1,4 @@
-//! Marks of what is reached. Each place that stays is reached after a change exactly where it was before, so they are made once.
+//! Marks of what is reached. A place that stays is reached after a change exactly if it was before, so they are made once.
 ghost use Rattle.std.specs.Prelude.{◌≡◌, IfOk, length};
 
 use code_flow::Reached;
@@ -25,7 +25,7 @@ impl Marks {
     ghost use Rattle.std.specs.List.{remove};
     ghost use Rattle.flow_tidy.specs.Quick.{left};
 
-    /// The marks of so many places as they are.
+    /// The marks of all `count` places.
     pub(crate) fn of(alloc: Global, reached: &Reached, count: u32) -> Result<Self, AllocError>
         requires { count ≡ length reached.now }
         ensures { IfOk result (λ m. m ≡ reached.now) }
@@ -61,7 +61,7 @@ impl Marks {
         self.marks[place as usize]
     }
 
-    /// Lets a place go.
+    /// Drops the mark of a place that is removed.
     pub(crate) fn leave(&mut self, place: u32)
         requires { place < length self.old }
         ensures { self.new ≡ remove self.old place }

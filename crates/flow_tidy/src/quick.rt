@@ -1,5 +1,5 @@
-//! Tidying by places that stay, as long as each change surely can be made: an instruction goes, or a branch goes elsewhere that surely reaches where. A listing is
-//! made of what is left only in the end, where making one for each change takes as long as there are lines.
+//! Tidying while places keep their numbers, as long as each change surely can be made: an instruction is removed, or a branch is redirected to a label that it
+//! surely reaches. A listing is made only in the end, since making one takes time linear in its lines.
 ghost use Rattle.std.specs.Prelude.{◌≡◌, ◌⊎◌, ◌<◌, ◌^◌, [], true, false, IfOk, IfSome, OnOk, List, Bool, length, slice_set};
 ghost use Rattle.thumb_model.specs.Listing.{code_of, places_of, Name};
 ghost use Rattle.thumb_model.specs.Replaced.{replaced_lines};
@@ -40,8 +40,8 @@ pub(crate) fn is_sure(alloc: Global, listing: &Listing, base: u32) -> Result<boo
     is_steady(alloc, listing, base)
 }
 
-/// Lets the instruction at a kept place go, where its branch goes to the next place or nothing reaches it. The kept place before is due then, or all are where chains
-/// may go on.
+/// Removes the instruction at a kept place, whose branch goes to the next place or which nothing reaches. The kept place before becomes due; all places do, if
+/// chains that ended there may go on.
 fn remove(draft: &mut Draft, due: &mut Due, place: u32)
     requires within { place < length draft.old.gone }
     requires kept { is_gone draft.old.gone place ≡ false }
@@ -69,7 +69,7 @@ fn remove(draft: &mut Draft, due: &mut Due, place: u32)
     }
 }
 
-/// The label that the branch at a kept place has as the end of its chain, where the branch surely may go to it. The other place is that of the chain's last branch.
+/// The label that is the end of the chain of the branch at a kept place, if the branch surely may go to it. `last` is the place of the chain's last branch.
 fn sure_end(
     alloc: Global,
     draft: &Draft,
@@ -99,7 +99,7 @@ fn sure_end(
     Ok(Some(label))
 }
 
-/// How many half-words lie before a place in the lines now, at least.
+/// How many half-words lie before a place in the lines now, without any padding.
 fn halves_before(draft: &Draft, widest: &WidestLayout, place: u32) -> u64
     requires within { place < length draft.now.gone }
     requires safe { IsSafe widest.now draft.now }
@@ -109,7 +109,7 @@ fn halves_before(draft: &Draft, widest: &WidestLayout, place: u32) -> u64
     draft.number(place) as u64 + widest.wide[place as usize] as u64
 }
 
-/// Whether the branch at a kept place surely doesn't reach the end of its chain. The other place is that of the chain's last branch.
+/// Whether the branch at a kept place surely doesn't reach the end of its chain. `last` is the place of the chain's last branch.
 fn is_out_of_reach(draft: &Draft, widest: &WidestLayout, place: u32, last: u32) -> bool
     requires within { place < length draft.now.gone }
     requires kept { is_gone draft.now.gone place ≡ false }
@@ -138,7 +138,7 @@ fn is_out_of_reach(draft: &Draft, widest: &WidestLayout, place: u32, last: u32) 
     }
 }
 
-/// Lets the branch at a kept place go to the end of its chain, where it surely may. The other place is that of the chain's last branch.
+/// Redirects the branch at a kept place to the end of its chain, if it surely may go there. `last` is the place of the chain's last branch.
 fn retarget(
     alloc: Global,
     draft: &mut Draft,
@@ -171,7 +171,7 @@ fn retarget(
     }
 }
 
-/// Lets the instruction at a kept place go, if nothing reaches it. Else the place is due no more, unless a branch stands there that is out of reach of its end.
+/// Removes the instruction at a kept place, if nothing reaches it. Else the place isn't due any more, unless its branch is out of reach of its chain's end.
 fn change_idle(
     draft: &mut Draft,
     due: &mut Due,
@@ -272,7 +272,7 @@ fn change_if_due(
     change_at(alloc, draft, due, ends, reached, widest, place)
 }
 
-/// What becomes of the first place at which a change is possible. Places that are gone or not due are leapt over.
+/// What becomes of the first place at which a change is possible. Places that are gone or not due are skipped.
 pub(crate) fn first_change(
     alloc: Global,
     draft: &mut Draft,

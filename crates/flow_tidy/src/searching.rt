@@ -29,7 +29,7 @@ fn is_caused(listing: &Listing, reached: &Marks, place: u32) -> bool
     is_idle(listing, reached, place)
 }
 
-/// Lets a place be due no more where no change has its cause there.
+/// Marks a place as not due if no change has its cause there.
 fn judge(listing: &Listing, reached: &Marks, due: &mut Due, place: u32)
     requires within { place < length (places_of listing.now) }
     requires reached { AreMarks (code_of listing.now) reached.now }
@@ -41,7 +41,7 @@ fn judge(listing: &Listing, reached: &Marks, due: &mut Due, place: u32)
     }
 }
 
-/// The listing after the change at a place, where the place is due and one is possible. Where none has its cause, the place is due no more.
+/// The listing after the change at a place, if the place is due and a change is possible. If none has its cause there, the place isn't due any more.
 fn changed_if_due(
     alloc: Global,
     listing: &Listing,

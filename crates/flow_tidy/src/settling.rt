@@ -1,4 +1,4 @@
-//! What is known of a listing after a change, from what was known before.
+//! After a change the layout, the marks of what is reached and the places that are due are brought up to date: only a layout that moved is made anew.
 ghost use Rattle.std.specs.Prelude.{◌≡◌, ◌<◌, ◌⊎◌, [], OnOk, IfOk, length, slice_get};
 ghost use Rattle.thumb_model.specs.Layout.{Layable};
 ghost use Rattle.thumb_model.specs.Listing.{code_of, places_of};
@@ -37,7 +37,7 @@ fn is_branch_always(listing: &Listing, place: u32) -> bool
     }
 }
 
-/// Whether chains may go on that ended at a place, once the instruction there goes.
+/// Whether chains that ended at a place may go on once the instruction there is removed: a conditional branch, followed by an unconditional one.
 fn lets_on(listing: &Listing, place: u32) -> bool
     requires { place < length (places_of listing.now) }
     ensures { result ≡ code_lets_on (code_of listing.now) place }
@@ -47,7 +47,7 @@ fn lets_on(listing: &Listing, place: u32) -> bool
     is_branch_if(listing, place) && is_branch_always(listing, place + 1)
 }
 
-/// Where a listing lies that can be laid out.
+/// The layout of a listing that can be laid out.
 pub(crate) fn laid_out(alloc: Global, listing: &Listing, base: u32) -> Result<Layout, Memory>
     requires { Layable base listing.now }
     ensures base { IfOk result (λ l. l.base ≡ base) }
@@ -60,7 +60,7 @@ pub(crate) fn laid_out(alloc: Global, listing: &Listing, base: u32) -> Result<La
     }
 }
 
-/// Lets a place go whose branch goes to the next place, or which nothing reaches.
+/// Drops the marks of a place that is removed, whose branch goes to the next place or which nothing reaches, and marks what is due then.
 fn leave(listing: &Listing, place: u32, reached: &mut Marks, due: &mut Due)
     requires goes { GoesToNext (code_of listing.now) place ⊎ IsIdle (code_of listing.now) place }
     requires reached { AreMarks (code_of listing.now) reached.old }
@@ -76,7 +76,7 @@ fn leave(listing: &Listing, place: u32, reached: &mut Marks, due: &mut Due)
     }
 }
 
-/// Where the listing lies after a change. `moved` is what was found of it.
+/// The layout of the listing after a change. `moved` is that layout, if it was made with the change.
 fn laid_after(
     alloc: Global,
     new: &Listing,
@@ -94,7 +94,7 @@ fn laid_after(
     }
 }
 
-/// Settles what is known of a listing after a change that was found, and gives the listing then. A branch that goes elsewhere changes nothing of what is known.
+/// Brings what is known of a listing up to date after a change that was found, and returns the new listing. A redirected branch changes nothing of it.
 pub(crate) fn settle(
     alloc: Global,
     listing: &Listing,

@@ -52,7 +52,7 @@ fn tidied(
     Ok(Tidy { listing, changes })
 }
 
-/// What is left of the lines of a draft, from where a branch may have to go elsewhere.
+/// What is left of the lines of a draft, once it isn't sure by places whether a branch may be redirected: from there on each change makes a listing.
 fn tidied_on(alloc: Global, draft: Draft, base: u32, reached: &Reached) -> Result<Tidy, Memory>
     requires layable { Layable base (lines_now draft) }
     requires all { length reached.now ≡ length draft.gone }
@@ -65,8 +65,8 @@ fn tidied_on(alloc: Global, draft: Draft, base: u32, reached: &Reached) -> Resul
     tidied(alloc, listing, laid, marks)
 }
 
-/// What is left of a listing that surely can be laid out whichever of its instructions go: by places that stay, until it is not sure whether a branch may go elsewhere.
-/// The widest layout is the listing's, and each place at which a change has its cause is due.
+/// What is left of a listing that surely can be laid out whichever of its instructions go. Its places keep their numbers until it is not sure whether a branch
+/// may be redirected. The widest layout is the listing's, and each place at which a change has its cause is due.
 fn tidied_by_places(
     alloc: Global,
     listing: Listing,
@@ -106,11 +106,11 @@ fn tidied_by_places(
     }
 }
 
-/// Tidies a listing for an image that begins at the base: at the least place where a change is possible, a branch to the next place goes; else a branch goes
-/// to the end of the chain that it leads to; else an instruction goes that nothing reaches; until none is possible. What is left runs as the given listing does.
-/// One that cannot be laid out from the base is refused at its first such line.
+/// Tidies a listing for an image that begins at the base: at the least place where a change is possible, a branch to the next place is removed; else a branch
+/// is redirected to the end of its chain; else an instruction that nothing reaches is removed; until no change is possible. What is left runs as the given
+/// listing does. A listing that cannot be laid out from the base is refused at its first such line.
 ///
-/// A step is a visit of a place for what is reached.
+/// A step is a visit of a place in the search for what is reached.
 pub fn tidy<L: Ledger>(
     alloc: Global,
     listing: Listing,

@@ -1,5 +1,5 @@
-//! What is found at the start: where the lines and places of a listing begin in its widest layout, which tells that a branch surely reaches a label, whichever
-//! instructions go; and the places that are due.
+//! What is worked out at the start: where the lines and places of a listing begin in its widest layout, by which it is sure that a branch reaches a label,
+//! whichever instructions go; and the places that are due at first.
 ghost use Rattle.std.specs.Prelude.{◌≡◌, ◌++◌, ◌<◌, ◌≤◌, ◌^◌, Some, true, length, map, replicate, slice_get, IfOk, OnOk};
 ghost use Rattle.thumb_model.specs.Listing.{code_of, places_of};
 ghost use Rattle.code_flow.specs.Marks.{AreMarks};
@@ -31,7 +31,7 @@ pub(crate) struct WidestLayout {
     pub(crate) wide: Vec<u32>,
 }
 
-/// Adds the start of so many places.
+/// Adds the start of `count` places, the same for each.
 fn put_starts(starts: &mut Vec<Start>, start: Start, count: usize) -> Result<(), AllocError>
     ensures { OnOk result (starts.new.items ≡ starts.old.items ++ replicate count start) }
 {
@@ -66,7 +66,7 @@ struct Look {
     may_change: bool,
 }
 
-/// What is seen of a place, and whether that is reached.
+/// What is seen of a place, given whether it is reached.
 fn look_at(listing: &Listing, place: u32, is_reached: bool) -> Look
     ensures wide { result.wide ≡ one_if_wide (slice_get (places_of listing.now) place) }
     ensures few { result.wide ≤ 1 }
@@ -113,7 +113,7 @@ fn look_over(alloc: Global, listing: &Listing, reached: &Reached) -> Result<Seen
     Ok(Seen { wide, due })
 }
 
-/// Whether a branch that goes from -2 `half` to below 2 `half` bytes from its address and 4 reaches an address.
+/// Whether a branch at `from` reaches the address `to`, if its displacement from its address plus 4 may be from -2 `half` to below 2 `half` bytes.
 fn is_within(half: u32, from: u32, to: u32) -> bool
     requires { half ≤ 2 ^ 23 }
     ensures { result ≡ is_reached half from (Some to) }
@@ -175,7 +175,7 @@ pub(crate) fn reaches(
     }
 }
 
-/// Whether a branch that goes from -2 `half` to below 2 `half` bytes from its address and 4 doesn't reach a label, by the half-words before either.
+/// Whether a branch surely doesn't reach a label, by the half-words before each of them, if its displacement may be from -2 `half` to below 2 `half` bytes.
 pub(crate) fn is_beyond(half: u64, from: u64, to: u64) -> bool
     requires half { half ≤ 2 ^ 23 }
     requires from { from < 2 ^ 33 }

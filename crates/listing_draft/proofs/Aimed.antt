@@ -1,4 +1,4 @@
--- The lines of a draft once a branch goes elsewhere.
+-- The lines of a draft once a branch is redirected.
 use Rattle.std.proofs.Common.{◌≡◌, ◌∙◌, ℕ, zero, suc, ◌+◌, ◌-◌, ◌<◌, ◌==◌, ◌&&◌, Bool, true, false, List, [], ◌∷◌, ◌++◌, length, drop, Option, Some, None, refl, sym, ap, arith, ne_eqb, if◌then◌else◌}
 use Rattle.std.specs.Prelude.{slice_get, slice_set}
 use Rattle.thumb_instr.specs.declared.instr.Instr.{Instr}

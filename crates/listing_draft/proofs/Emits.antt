@@ -28,7 +28,7 @@ emitted_op gone aims n k m l ls out new all op e f h p =
     ∙ ap (λ xs. out ++ xs) (sym whole)
     ∙ h
 
--- another line is
+-- another line is emitted as it is
 pub emitted_other : (gone : List Bool) (aims : List (Option Name)) (n k m : ℕ) (l : ListingLine) (ls out new all : List ListingLine) → is_op l.statement ≡ false → k ≡ length (places_in l.statement) → m ≡ n + k → out ++ now_of (drop n gone) (drop n aims) (l ∷ ls) ≡ all
     → new ≡ out ++ l ∷ [] → new ++ now_of (drop m gone) (drop m aims) ls ≡ all
 emitted_other gone aims n k m l ls out new all op e f h p =

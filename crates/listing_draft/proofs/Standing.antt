@@ -1,4 +1,4 @@
--- Lines that become what they are now where they stand.
+-- Lines that are changed in place.
 use Rattle.std.proofs.Common.{◌≡◌, ◌∙◌, ℕ, zero, suc, ◌+◌, Bool, true, false, List, [], ◌∷◌, ◌++◌, length, map, take, drop, Option, Some, refl, sym, ap, subst, arith}
 use Rattle.std.specs.Prelude.{slice_get, slice_set}
 use Rattle.std.proofs.lemmas.Option.{same_Some}
@@ -37,7 +37,7 @@ to_line (x ∷ ys) zero (suc m) y e f =
 to_line (x ∷ ys) (suc n) zero y e f = absurd (omega arith)
 to_line (x ∷ ys) (suc n) (suc m) y e f = ap (λ (ls : List ListingLine). line_view x ∷ ls) (to_line ys n m y e (omega arith))
 
--- a line is another one
+-- a line is replaced by another one
 to_set : (ys : List Lines) (n m : ℕ) (y new : Lines) → slice_get ys n ≡ Some y → m ≡ n + 1 → take m (map line_view (slice_set ys n new)) ≡ take n (map line_view ys) ++ line_view new ∷ []
 to_set [] n m y new e f = absurd (cc)
 to_set (x ∷ ys) zero zero y new e f = absurd (omega arith)
@@ -53,7 +53,7 @@ behind_set (x ∷ ys) zero (suc m) new f = refl
 behind_set (x ∷ ys) (suc n) zero new f = absurd (omega arith)
 behind_set (x ∷ ys) (suc n) (suc m) new f = behind_set ys n m new (omega arith)
 
--- a line is one that says the same
+-- a line is replaced by one that says the same
 pub set_alike : (ys : List Lines) (n : ℕ) (y new : Lines) → slice_get ys n ≡ Some y → line_view new ≡ line_view y → map line_view (slice_set ys n new) ≡ map line_view ys
 set_alike [] n y new e f = absurd (cc)
 set_alike (x ∷ ys) zero y new e f = ap (λ (l : ListingLine). l ∷ map line_view ys) (f ∙ ap line_view (sym (same_Some x y e)))

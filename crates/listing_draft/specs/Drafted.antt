@@ -1,4 +1,4 @@
--- A listing of which instructions are gone and branches go elsewhere, by the places of the lines that were given.
+-- A listing from which instructions are removed and in which branches are redirected, by the places of the given lines.
 use Rattle.std.specs.Prelude.{ℕ, zero, suc, Bool, true, false, List, [], ◌∷◌, ◌++◌, length, drop, replicate, Option, Some, None, slice_get, if◌then◌else◌}
 use Rattle.thumb_instr.specs.declared.instr.Instr.{Instr}
 use Rattle.thumb_model.specs.Listing.{Name, Mention, Place, Op, Word, ListingLine, places_in, places_of}

@@ -1,4 +1,4 @@
-//! A listing of which instructions go and branches go elsewhere while the numbers of its places stay.
+//! A listing from which instructions are removed and in which branches are redirected, as tidying does, while the numbers of its places stay.
 ghost use Rattle.std.specs.Prelude.{◌≡◌, option_map, replicate, None, IfOk};
 ghost use Rattle.listing_parser.specs.Views.{place_view};
 ghost use Rattle.listing_draft.specs.Drafted.{instr_in, name_in};
@@ -11,9 +11,9 @@ use std::alloc::{AllocError, Global};
 use std::marker::Model;
 use thumb_instr::Instr;
 
-/// A listing of which instructions go and branches go elsewhere while the numbers of its places stay. Contracts see the lines that were given, which places
-/// are gone, and the labels that branches go to now where they were given others; `lines_now` of these are the lines now. A place that is kept has there the
-/// number of the kept places before it, its rank.
+/// A listing from which instructions are removed and in which branches are redirected while the numbers of its places stay. Contracts see the given lines,
+/// which places are gone, and the new labels of redirected branches; `lines_now` makes the lines now of these. There a kept place has as its number its rank:
+/// how many kept places stand before it.
 ///
 /// `kept` has the places that are kept, `aims` the labels, and `is_changed` tells whether anything was changed.
 #[derive(Drop)]
@@ -37,7 +37,7 @@ impl Model for Draft {
     ghost invariant = { IsDraftInside };
 }
 
-/// No label for each of so many places.
+/// No new label for any of `count` places.
 fn none_aimed(alloc: Global, count: u32) -> Result<Vec<Option<Vec<u8>>>, AllocError>
     ensures { IfOk result (λ aims. names_of aims.items ≡ replicate count None) }
 {
@@ -92,7 +92,7 @@ impl Draft {
     ghost use Rattle.listing_draft.specs.Drafted.{instr_in, lines_now, name_in, stands, unchanged};
     ghost use Rattle.listing_draft.specs.Invariant.{IsDraft};
 
-    /// A listing of which nothing is changed.
+    /// The draft of a listing of which nothing is changed yet.
     pub fn new(alloc: Global, listing: Listing) -> Result<Self, AllocError>
         ensures is { IfOk result (λ d. d ≡ unchanged listing) }
         ensures lines { IfOk result (λ d. lines_now d ≡ listing) }
@@ -185,7 +185,7 @@ impl Draft {
         }
     }
 
-    /// The place as it was given before which the label stands that the instruction at a kept place mentions now.
+    /// The place, by its given number, before which the label stands that the instruction at a kept place mentions now.
     fn label_place(&self, place: u32) -> Option<u32>
         requires within { place < length self.now.gone }
         requires kept { is_gone self.now.gone place ≡ false }
@@ -216,7 +216,7 @@ impl Draft {
         }
     }
 
-    /// Lets the instruction at a kept place go: its labels stay.
+    /// Removes the instruction at a kept place: its labels stay.
     pub fn remove(&mut self, place: u32)
         requires within { place < length self.old.gone }
         requires kept { is_gone self.old.gone place ≡ false }
@@ -230,7 +230,7 @@ impl Draft {
         self.is_changed = true;
     }
 
-    /// Lets the branch at a kept place go to another label.
+    /// Redirects the branch at a kept place to another label.
     pub fn aim(&mut self, place: u32, name: Vec<u8>)
         requires within { place < length self.old.gone }
         requires kept { is_gone self.old.gone place ≡ false }

@@ -1,4 +1,4 @@
-//! The lines of a draft. As long as each line stays one line they stay where they are, and the others are moved over as they are in one pass.
+//! Making the lines of a draft: they are changed in place up to the first line that doesn't stay one line; then all are moved to a new list in one pass.
 ghost use Rattle.std.specs.Prelude.{◌≡◌, ◌≤◌, ◌+◌, ◌++◌, ◌∷◌, [], Some, true, false, length, map, take, drop, option_map, IfOk, OnOk};
 ghost use Rattle.thumb_model.specs.Listing.{places_of};
 ghost use Rattle.thumb_model.specs.Replaced.{is_op, labels_kept};
@@ -35,7 +35,7 @@ fn emit_labels(out: &mut Vec<ListingLine>, line: ListingLine) -> Result<(), Allo
     Ok(())
 }
 
-/// Adds the lines of a branch that goes elsewhere.
+/// Adds the lines of a redirected branch: one for its labels, if it has any, and its own.
 fn emit_aimed(
     alloc: Global,
     out: &mut Vec<ListingLine>,
@@ -53,7 +53,7 @@ fn emit_aimed(
     Ok(())
 }
 
-/// Adds what an instruction's line is now.
+/// Adds the lines that an instruction's line is now.
 fn emit_op(
     alloc: Global,
     out: &mut Vec<ListingLine>,
@@ -77,7 +77,7 @@ fn emit_op(
     }
 }
 
-/// Makes an instruction's line what it is now, if it stays one line. Tells whether it does.
+/// Changes an instruction's line in place to what it is now, if it stays one line. Returns whether it does.
 fn change_one(
     alloc: Global,
     line: &mut ListingLine,
@@ -103,7 +103,7 @@ fn change_one(
     Ok(true)
 }
 
-/// Makes the lines what they are now where they stand, up to the first that doesn't stay one line. Tells how far.
+/// Changes the lines in place to what they are now, up to the first that doesn't stay one line. Returns how many lines and places come before that.
 fn change_standing(
     alloc: Global,
     lines: &mut Vec<ListingLine>,
@@ -138,7 +138,7 @@ fn change_standing(
     })
 }
 
-/// The lines now, where those that were passed are what they are now.
+/// The lines now, where those that were passed are changed already.
 fn emit_behind(
     alloc: Global,
     lines: Vec<ListingLine>,
@@ -174,7 +174,7 @@ fn emit_behind(
     Ok(out)
 }
 
-/// The lines now.
+/// The lines that the given lines are now.
 pub(crate) fn emit(
     alloc: Global,
     mut lines: Vec<ListingLine>,

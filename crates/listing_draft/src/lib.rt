@@ -1,4 +1,4 @@
-//! A listing of which instructions go and branches go elsewhere while the numbers of its places stay.
+//! A listing from which instructions are removed and in which branches are redirected while the numbers of its places stay.
 //!
 //! What changes is noted by places: no line is moved or written before the listing is asked for in the end.
 #![tactic(auto)]

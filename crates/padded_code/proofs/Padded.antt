@@ -117,7 +117,7 @@ module _ (gone : List Bool) (padded code : Code) (s : IsPadded gone padded code)
   ways_kept : (p : ℕ) → is_gone gone p ≡ false → ways code (to p) ≡ map (way_to to) (ways padded p)
   ways_kept p t = ap (λ (o : Option Place). ways_on code o) (place_kept p t) ∙ ways_on_ranked (slice_get padded.places p)
 
-  -- one that is gone has one way, on
+  -- a place that is gone has one way, to the next place
   way_gone : (p k : ℕ) (w : Way) → is_gone gone p ≡ true → slice_get (ways padded p) k ≡ Some w → way [] [] Onward ≡ w
   way_gone p k w t e = nop_way padded k w (ap (λ (o : Option Place). slice_get (ways_on padded o) k) (sym (s.nops p t)) ∙ e)
 
@@ -185,7 +185,7 @@ module _ (gone : List Bool) (padded code : Code) (s : IsPadded gone padded code)
       let q = follows_back p j v.0.leads t g in
       later p k v.0 q.0 v.1 (ap (λ (u : Way). one_of x u.writes) v.2 ∙ n) q.1 (rec q.0 q.2))
 
-  -- and to it
+  -- to the padded code
   pub back : (x r : ℕ) → Reads code x r → (p : ℕ) → to p ≡ r → Reads padded x p
   back x _ (now r k w e h) = back_now x r k w e h
   back x _ (later r k w j e n f h) = back_later x r k w j e n f (back x j h)

@@ -131,7 +131,7 @@ outer_is_none gone from r q (p ∷ ps) is e a o =
 
 -- ---- what stands ----
 
--- these stand from a place on
+-- these instructions stand from a place on
 abbrev StandPlain : List Place → ℕ → List Instr → Type 0
 StandPlain places w is = (j : ℕ) (i : Instr) → slice_get is j ≡ Some i → slice_get places (w + j) ≡ Some (plain i)
 

@@ -6,13 +6,13 @@ use Rattle.thumb_model.specs.Replaced.{move_label, replaced}
 use Rattle.kept_places.specs.Marks.{is_gone, rank}
 use Rattle.padded_code.specs.Padding.{nop, IsPadded}
 
--- the marks, where these places take instructions
+-- which places are gone where instructions are put at these places: also those of these that get none
 abbrev pub marks_after : List ℕ → List Instr → List Bool → List Bool
 marks_after [] is gone = gone
 marks_after (p ∷ ps) [] gone = marks_after ps [] (slice_set gone p true)
 marks_after (p ∷ ps) (i ∷ is) gone = marks_after ps is gone
 
--- what stands at the places then
+-- what stands at all places then: a nop at those of these that get no instruction
 abbrev pub places_after : List ℕ → List Instr → List Place → List Place
 places_after [] is places = places
 places_after (p ∷ ps) [] places = places_after ps [] (slice_set places p nop)
@@ -37,14 +37,14 @@ pub record GivesWay (gone : List Bool) (padded code : Code) (r : ℕ) (ps : List
 abbrev pub ExchangeStaysPadded : Type 0
 ExchangeStaysPadded = (gone : List Bool) (padded code : Code) → IsPadded gone padded code → (r : ℕ) (ps : List ℕ) (is : List Instr) → GivesWay gone padded code r ps is → IsPadded (marks_after ps is gone) (exchanged ps is padded) (replaced code r (length ps) is)
 
--- another place at p
+-- the code with something else at place p
 abbrev pub put_at : ℕ → Place → Code → Code
 put_at p y code = record { places = slice_set code.places p y; labels = code.labels }
 
--- another instruction at a kept place, whatever it is and mentions, stands at its rank
+-- another instruction that is put at a kept place, whatever it is and mentions, stands at that place's rank in the code that is left
 abbrev pub PutStaysPadded : Type 0
 PutStaysPadded = (gone : List Bool) (padded code : Code) → IsPadded gone padded code → (p : ℕ) (y : Place) → is_gone gone p ≡ false → is_op_place (Some y) ≡ true → IsPadded gone (put_at p y padded) (put_at (rank gone p) y code)
 
--- a code of which nothing is gone stands for itself
+-- a code of which nothing is gone is its own padded code
 abbrev pub WholeIsPadded : Type 0
 WholeIsPadded = (gone : List Bool) (code : Code) → ((p : ℕ) → is_gone gone p ≡ false) → IsPadded gone code code

@@ -23,7 +23,7 @@ pub record FitsAt (rule : Rule) (registers : List Low) (padded code : Code) (r p
   pub live : (x : ℕ) → Reads padded x (suc q) → (one_of x (map (item_under registers) rule.mask) ≡ true) ⊎ ((x < 15) × (one_of x (map (λ r. r.number) registers) ≡ false))
   pub labels_stay : (k : ℕ) (l : Label) → slice_get code.labels k ≡ Some l → is_code code.places l ≡ true → is_code (replaced code r (length rule.left) (map (renamed registers) rule.right)).places (move_label r (length rule.left - length rule.right) l) ≡ true
 
--- a window of the padded code: its places, its first and its last, where an instruction that may stand in a window stands
+-- a window of n kept places of the padded code, from the rank r on: p is the first and q the last, where an instruction of windows stands
 pub record IsWindow (gone : List Bool) (padded : Code) (r n p q : ℕ) (ps : List ℕ) : Type 0 where
   pub as_many : length ps ≡ n
   pub ranked : AreRanked gone r ps
@@ -35,7 +35,7 @@ pub record IsWindow (gone : List Bool) (padded : Code) (r n p q : ℕ) (ps : Lis
   pub last_stands : slice_get padded.places q ≡ Some (plain instr)
   pub last_goes_on : is_in_window instr ≡ true
 
--- a rule applies in the code where it fits in the padded one
+-- a rule applies in the code exactly where it fits in the padded one
 abbrev pub AppliesByPlaces : Type 0
 AppliesByPlaces =
     (gone : List Bool) (padded code : Code) → IsPadded gone padded code → length gone ≡ length padded.places → (rule : Rule) (registers : List Low) (r p q : ℕ) (ps : List ℕ) →
@@ -46,7 +46,7 @@ abbrev pub IsLeastScratchAt : Rule → List Low → Code → ℕ → Type 0
 IsLeastScratchAt rule registers padded q = (scratch : Low) → slice_get registers (register_count rule.left) ≡ Some scratch → (x : ℕ) → x < scratch.number →
     (one_of x (map (λ r. r.number) (take (register_count rule.left) registers)) ≡ true) ⊎ Reads padded x (suc q)
 
--- it is the least in the code where it is in the padded one
+-- it is the least in the code exactly where it is in the padded one
 abbrev pub LeastByPlaces : Type 0
 LeastByPlaces =
     (gone : List Bool) (padded code : Code) → IsPadded gone padded code → length gone ≡ length padded.places → (rule : Rule) (registers : List Low) (r p q : ℕ) (ps : List ℕ) →

@@ -1,4 +1,4 @@
--- Lines that are rewritten, and a padded code.
+-- What a replacement in lines is in the padded code of these lines.
 use Rattle.std.specs.Prelude.{◌≡◌, ℕ, ◌≤◌, Bool, List, length, map}
 use Rattle.thumb_instr.specs.Window.{renamed}
 use Rattle.thumb_model.specs.Listing.{ListingLine, Code, code_of}
@@ -7,7 +7,7 @@ use Rattle.padded_code.specs.Padding.{IsPadded}
 use Rattle.padded_code.specs.Exchange.{marks_after, exchanged}
 use Rattle.padded_code.specs.Windows.{AreRanked}
 
--- lines in which a rule's window gives way are padded by the code in which its kept places do
+-- where a rule's window gives way in lines, the padded code in which its kept places give way pads the code of the lines that are left
 abbrev pub LinesStayPadded : Type 0
 LinesStayPadded =
     (s : Setting) (r : Replacement) (ls : List ListingLine) (a : AppliesIn s r ls) → length a.rule.right ≤ length a.rule.left → (gone : List Bool) (padded : Code) → IsPadded gone padded (code_of ls) →

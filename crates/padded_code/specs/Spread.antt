@@ -17,7 +17,7 @@ abbrev pub others_of : List Instr → List Instr
 others_of [] = []
 others_of (i ∷ is) = is
 
--- the instructions at the kept places ps, as they stand from a place on: with a nop at each place before the last that is gone or takes none of them
+-- the instructions at the kept places ps, as they stand from a place on: with a nop at each place up to the last of ps that is gone or gets none of them
 abbrev pub spread : ℕ → List ℕ → List Instr → List Instr
 spread from [] is = []
 spread from (p ∷ ps) is = nops (p - from) ++ (first_of is ∷ spread (suc p) ps (others_of is))
@@ -34,7 +34,7 @@ ExchangeIsStraight =
     map (slice_get padded.places) (p ∷ ps) ≡ map Some (map plain window) → length is ≤ length (p ∷ ps) → list_all is_straight window ≡ true → list_all is_straight is ≡ true →
     IsExchange padded (exchanged (p ∷ ps) is padded) p (spread p (p ∷ ps) window) (spread p (p ∷ ps) is)
 
--- it ends behind its last place
+-- such straight code ends right behind the window's last place
 abbrev pub SpreadsEnd : Type 0
 SpreadsEnd = (gone : List Bool) (r p : ℕ) (ps : List ℕ) (is : List Instr) → AreRanked gone r (p ∷ ps) → p + length (spread p (p ∷ ps) is) ≡ suc (last_of p ps)
 

@@ -24,11 +24,11 @@ WindowsAreKept = (gone : List Bool) (padded code : Code) → IsPadded gone padde
 abbrev pub NopsReadOn : Type 0
 NopsReadOn = (code : Code) (p : ℕ) → slice_get code.places p ≡ Some nop → (x : ℕ) → Reads code x p ↔ Reads code x (suc p)
 
--- so is what is read behind n of them
+-- what is read from the first of n nops is what is read from the place behind the last
 abbrev pub NodesReadAlike : Type 0
 NodesReadAlike = (code : Code) (n p : ℕ) → ((k : ℕ) → k < n → slice_get code.places (p + k) ≡ Some nop) → (x : ℕ) → Reads code x p ↔ Reads code x (p + n)
 
--- what stands at them in the code stands at the kept ones in the padded code
+-- what stands at places of the code stands at the kept places of these ranks in the padded code
 abbrev pub WindowsStandAlike : Type 0
 WindowsStandAlike = (gone : List Bool) (padded code : Code) → IsPadded gone padded code → length gone ≡ length padded.places → (r : ℕ) (ps : List ℕ) → AreRanked gone r ps → map Some (take (length ps) (drop r code.places)) ≡ map (slice_get padded.places) ps
 

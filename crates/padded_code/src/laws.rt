@@ -27,7 +27,7 @@ pub fn padding_keeps_points()
     ensures { PaddingKeepsPoints }
 {}
 
-/// A code of which nothing is gone stands for itself.
+/// A code of which nothing is gone is its own padded code.
 pub fn whole_is_padded()
     ensures { WholeIsPadded }
 {}
@@ -37,7 +37,7 @@ pub fn exchange_stays_padded()
     ensures { ExchangeStaysPadded }
 {}
 
-/// Another instruction at a kept place stands at its rank.
+/// Another instruction that is put at a kept place stands at that place's rank in the code that is left.
 pub fn put_stays_padded()
     ensures { PutStaysPadded }
 {}
@@ -52,7 +52,7 @@ pub fn windows_are_kept()
     ensures { WindowsAreKept }
 {}
 
-/// What stands at them in the code stands at the kept ones in the padded code.
+/// What stands at places of the code stands at the kept places of these ranks in the padded code.
 pub fn windows_stand_alike()
     ensures { WindowsStandAlike }
 {}
@@ -62,7 +62,7 @@ pub fn nops_read_on()
     ensures { NopsReadOn }
 {}
 
-/// What is read before places where nops stand is what is read behind them.
+/// What is read from the first of some nops is what is read from the place behind the last.
 pub fn nodes_read_alike()
     ensures { NodesReadAlike }
 {}
@@ -72,17 +72,17 @@ pub fn live_is_read_behind()
     ensures { LiveIsReadBehind }
 {}
 
-/// A rule applies in the code where it fits in the padded one.
+/// A rule applies in the code exactly where it fits in the padded one.
 pub fn applies_by_places()
     ensures { AppliesByPlaces }
 {}
 
-/// A scratch register is the least that is free in the code where it is in the padded one.
+/// A scratch register is the least that is free in the code exactly where it is in the padded one.
 pub fn least_by_places()
     ensures { LeastByPlaces }
 {}
 
-/// Lines in which a rule's window gives way are padded by the code in which its kept places do.
+/// Where a rule's window gives way in lines, the padded code in which its kept places give way pads the code of the lines that are left.
 pub fn lines_stay_padded()
     ensures { LinesStayPadded }
 {}

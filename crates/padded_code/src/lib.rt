@@ -1,5 +1,5 @@
-//! What a code means whose places never move, with a nop where a place is gone: definitions, and the laws by which it stands for the code of the places
-//! that are kept.
+//! Padded codes: their places never move, and a nop stands where a place is gone. Definitions, and the laws by which a padded code stands for the code of the
+//! places that are kept.
 #![tactic(auto)]
 
 pub mod laws;

@@ -9,7 +9,7 @@ use Rattle.thumb_model.specs.Replaced.{replaced}
 use Rattle.rule_model.specs.Rules.{Rule, weight, Applies}
 use Rattle.rule_model.specs.Laws.{instructions, CostsAreKept}
 
--- what costs more than another sequence is some instructions
+-- a sequence that costs more than another isn't empty
 pub lowers_some : (cost : Instr → ℕ) (left right : List Instr) → weight cost right < weight cost left → 0 < length left
 lowers_some cost [] right h = absurd (omega arith)
 lowers_some cost (i ∷ is) right h = omega arith
@@ -81,7 +81,7 @@ module _ (cost : Instr → ℕ) where
         let rest = weight_normalised is in
         omega arith
 
-    -- the cost of the right side comes for that of the left side
+    -- the cost of the right side replaces that of the left side
     pub weight_after : (rule : Rule) (registers : List Low) (code : Code) (p : ℕ) → Applies rule registers code p → paid (replaced code p (length rule.left) (map (renamed registers) rule.right)).places + weight cost rule.left ≡ paid code.places + weight cost rule.right
     weight_after rule registers code p a =
         let new = paid_three (take p code.places) (map plain (map (renamed registers) rule.right)) (drop (p + length rule.left) code.places) in

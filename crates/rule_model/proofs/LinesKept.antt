@@ -19,7 +19,7 @@ use Rattle.rule_model.proofs.Table.{window_length, one_keeps, places_after}
 use Rattle.rule_model.proofs.Costs.{lowers_some, weight_is_length, weight_after}
 use Rattle.thumb_model.proofs.Follow.{Keeps, keeps_refl, keeps_trans}
 
--- a rule applies to lines whose instructions from the place on it takes, and whose labels stand outside
+-- where a rule applies, instructions stand from its place on that it replaces, and no label stands between them
 pub record IsLineWindow (rule : Rule) (r : Replacement) (ls : List ListingLine) : Type 0 where
   pub last : ℕ
   pub as_many : length rule.left ≡ suc last

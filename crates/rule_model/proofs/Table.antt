@@ -22,7 +22,7 @@ straight : (registers : List Low) (k : ℕ) (is : List Instr) → AreOver k is �
 straight registers k [] h = tt
 straight registers k (i ∷ is) h = (window_renamed registers i (h.0), straight registers k is h.2)
 
--- what the normal forms are straight with
+-- instructions whose normal forms may stand in windows may stand there themselves
 straight_window : (is js : List Instr) → map normalised is ≡ js → AreStraight js → AreStraight is
 straight_window [] js e h = tt
 straight_window (i ∷ is) [] e h = absurd (cc)
@@ -119,7 +119,7 @@ pub one_keeps : (rule : Rule) (registers : List Low) (code : Code) (p : ℕ) →
 one_keeps rule registers code p eq some a =
     subst (λ c. Keeps code (replaced code p c (map (renamed registers) rule.right))) (window_length rule registers code p a) (replaced_keeps code p _ _ (applies_sound rule registers code p eq some a))
 
--- the places of the right side come for those of the left side
+-- the places of the right side replace those of the left side
 pub places_after : (rule : Rule) (registers : List Low) (code : Code) (p : ℕ) → 0 < length rule.left → Applies rule registers code p → length (replaced code p (length rule.left) (map (renamed registers) rule.right)).places + length rule.left ≡ length code.places + length rule.right
 places_after rule registers code p some a =
     let n : length a.window ≡ length rule.left = window_length rule registers code p a in

@@ -31,7 +31,7 @@ all_same : (f g : List Low) (xs : List ℕ) → map (item_under f) xs ≡ map (i
 all_same f g [] e = tt
 all_same f g (x ∷ xs) e = (cc, all_same f g xs (cc))
 
--- a renamed instruction tells what its registers became
+-- two maps that rename an instruction alike agree on its registers
 renamed_tells : (f g : List Low) (i : Instr) → is_in_window i ≡ true → renamed f i ≡ renamed g i → AgreeOnAll f g (named i)
 renamed_tells f g i w e = all_same f g (named i) (sym (named_renamed f i w) ∙ ap named e ∙ named_renamed g i w)
 

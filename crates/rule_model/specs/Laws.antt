@@ -1,4 +1,4 @@
--- What holds of rewriting.
+-- The laws of rewriting by a table: runs are kept, it is complete and determined, lines can still be laid out, and costs fall.
 use Rattle.std.specs.Prelude.{◌≡◌, ◌≢◌, ℕ, ◌+◌, ◌≤◌, max, List, [], ◌∷◌, length, map, Some, IsSome, slice_get}
 use Rattle.thumb_instr.specs.declared.instr.Instr.{Instr}
 use Rattle.thumb_instr.specs.Window.{Low, renamed}
@@ -43,7 +43,7 @@ RewritingIsComplete = (s : Setting) (ls : List ListingLine) (rs : List Replaceme
 abbrev pub RewritingStaysLayable : Type 0
 RewritingStaysLayable = (s : Setting) (ls : List ListingLine) (rs : List Replacement) (new : List ListingLine) → Layable s.base ls → AreRewritten s ls rs new → Layable s.base new
 
--- each replacement lowers the cost, no place comes, and the lines stay within their limit
+-- each replacement lowers the cost, no place is added, and the lines stay within their limit
 abbrev pub RewritingLowers : Type 0
 RewritingLowers =
     (s : Setting) (ls : List ListingLine) (rs : List Replacement) (new : List ListingLine) → CostsAreKept s.cost → AreSound s.table → AreRewritten s ls rs new →
@@ -51,7 +51,7 @@ RewritingLowers =
     × (length (places_of new) ≤ length (places_of ls))
     × (length new ≤ max (length ls) s.most_lines)
 
--- where each instruction costs 1, each replacement takes a place away, and there are no more lines
+-- where each instruction costs 1, each replacement takes a place away, and no line is added
 abbrev pub RewritingShortens : Type 0
 RewritingShortens = (s : Setting) (ls : List ListingLine) (rs : List Replacement) (new : List ListingLine) → CostsOne s → AreRewritten s ls rs new → (length (places_of new) + length rs ≤ length (places_of ls)) × (length new ≤ length ls)
 
@@ -59,7 +59,7 @@ RewritingShortens = (s : Setting) (ls : List ListingLine) (rs : List Replacement
 abbrev pub LinesAreReplacedAsPlaces : Type 0
 LinesAreReplacedAsPlaces = (s : Setting) (r : Replacement) (ls : List ListingLine) → AreSound s.table → (a : AppliesIn s r ls) → code_of (lines_after s r ls) ≡ replaced (code_of ls) r.place (length a.rule.left) (map (renamed r.registers) a.rule.right)
 
--- each code label stays one
+-- each code label is still a code label after a replacement
 abbrev pub LabelsStayCode : Type 0
 LabelsStayCode = (s : Setting) (r : Replacement) (ls : List ListingLine) → AreSound s.table → AppliesIn s r ls → (label : Name) → IsSome (place_of (code_of ls) label) → IsSome (place_of (code_of (lines_after s r ls)) label)
 
@@ -73,7 +73,7 @@ IsDetermined =
 abbrev pub TellsApart : Naming → Code → Type 0
 TellsApart names code = (j k : ℕ) (v w p q : ℕ) → slice_get (points names code) j ≡ Some (v, p) → slice_get (points names code) k ≡ Some (w, q) → p ≢ q → v ≢ w
 
--- a naming that fits the lines that are left, and tells the given lines' code points apart, fits those
+-- a naming that fits the lines that are left, and tells the given lines' code points apart, fits the given lines
 abbrev pub LeftNamingsFitGiven : Type 0
 LeftNamingsFitGiven =
     (s : Setting) (ls : List ListingLine) (rs : List Replacement) (new : List ListingLine) → AreSound s.table → AreRewritten s ls rs new →

@@ -1,4 +1,4 @@
--- Rewriting a listing's lines by a table.
+-- What rewriting a listing's lines by a table is: the first replacement that can be made, again and again, until none can.
 use Rattle.std.specs.Prelude.{◌≡◌, ℕ, ◌+◌, ◌-◌, ◌<◌, ◌≤◌, max, true, List, [], ◌∷◌, length, take, map, Option, Some, None, slice_get, ◌⊎◌}
 use Rattle.thumb_instr.specs.declared.instr.Instr.{Instr}
 use Rattle.thumb_instr.specs.Window.{Low, renamed}

@@ -1,4 +1,4 @@
--- Rules, and where they apply.
+-- What a rule is, when it is sound, what a table of rules is, and where in a code a rule applies.
 use Rattle.std.specs.Prelude.{◌≡◌, ℕ, ◌+◌, ◌-◌, ◌<◌, ◌≤◌, max, true, false, List, [], ◌∷◌, length, take, drop, map, sum_by, Option, Some, None, slice_get, ◌⊎◌}
 use Rattle.thumb_instr.specs.declared.instr.Instr.{Instr}
 use Rattle.thumb_instr.specs.Window.{Low, renamed, item_under}

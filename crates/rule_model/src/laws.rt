@@ -27,22 +27,22 @@ pub fn rewriting_stays_layable()
     ensures { RewritingStaysLayable }
 {}
 
-/// Each replacement lowers the cost, no place comes, and the lines stay within their limit.
+/// Each replacement lowers the cost, no place is added, and the lines stay within their limit.
 pub fn rewriting_lowers()
     ensures { RewritingLowers }
 {}
 
-/// Where each instruction costs 1, each replacement takes a place away, and there are no more lines.
+/// Where each instruction costs 1, each replacement takes a place away, and no line is added.
 pub fn rewriting_shortens()
     ensures { RewritingShortens }
 {}
 
-/// A replacement is the same of lines and of their places and labels.
+/// Replacing lines replaces their places and labels.
 pub fn lines_are_replaced_as_places()
     ensures { LinesAreReplacedAsPlaces }
 {}
 
-/// Each code label stays one where a rule is used.
+/// Each code label is still a code label after a replacement.
 pub fn labels_stay_code()
     ensures { LabelsStayCode }
 {}

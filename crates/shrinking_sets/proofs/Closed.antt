@@ -1,4 +1,4 @@
--- A place that wasn't cleared lacks nothing.
+-- Where a place outside the window wasn't cleared, a visit of it would mark nothing.
 use Rattle.std.proofs.Common.{◌≡◌, ℕ, Bool, true, List, length, sym, ap, ◌∙◌}
 use Rattle.thumb_instr.specs.declared.instr.Instr.{Instr}
 use Rattle.thumb_model.specs.Listing.{Code}

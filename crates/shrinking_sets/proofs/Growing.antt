@@ -1,4 +1,4 @@
--- Marks that grow back.
+-- Marks that grow back: a visit preserves that places off the stack are closed; where all are, each place from which the item is read is marked.
 use Rattle.std.proofs.Common.{◌≡◌, ◌≢◌, ℕ, Bool, true, false, sym, ap, ◌∙◌, subst, ◌⊎◌, inl, inr}
 use Rattle.std.proofs.lemmas.Bool.{cases_Bool, cases_eq}
 use Rattle.thumb_model.specs.Listing.{Code}

@@ -1,4 +1,4 @@
--- What is lost at a window.
+-- Whether an item that was read at the window is lost there doesn't depend on what the old instructions write.
 use Rattle.std.proofs.Common.{◌≡◌, ℕ, ◌+◌, ◌&&◌, ◌||◌, not, Bool, true, false, List, length, refl, ◌⊎◌, inl, inr}
 use Rattle.thumb_instr.specs.declared.instr.Instr.{Instr}
 use Rattle.thumb_model.specs.Listing.{Code}

@@ -1,4 +1,4 @@
--- Places that are gone.
+-- The nops at places that are gone read and write nothing, and are straight.
 use Rattle.std.proofs.Common.{◌≡◌, ℕ, zero, suc, ◌&&◌, ◌||◌, not, true, false, List, [], ◌∷◌, ◌++◌, refl, ap}
 use Rattle.std.specs.List.{list_all}
 use Rattle.thumb_instr.specs.declared.instr.Instr.{Instr}

@@ -1,4 +1,4 @@
--- The code points as one node.
+-- One mark for all code points clears as much as the marks of the single code points.
 use Rattle.std.proofs.Common.{◌≡◌, ◌≢◌, ℕ, Bool, true, false, List, length, refl, sym, subst, ◌⊎◌, inl, inr}
 use Rattle.thumb_instr.specs.declared.instr.Instr.{Instr}
 use Rattle.thumb_model.specs.Listing.{Code, IsPoint}

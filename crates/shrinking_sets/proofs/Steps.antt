@@ -1,4 +1,4 @@
--- A visit of the walk where the code points have one mark.
+-- A visit where all code points share one mark is a visit of the walk that clears marks.
 use Rattle.std.proofs.Common.{◌≡◌, ℕ, Bool, true, List, length, sym, subst, ◌⊎◌, inl, inr}
 use Rattle.thumb_instr.specs.declared.instr.Instr.{Instr}
 use Rattle.thumb_model.specs.Listing.{Code}

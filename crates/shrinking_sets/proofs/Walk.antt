@@ -1,4 +1,4 @@
--- The walk that clears marks.
+-- The walk that clears marks: its invariant holds at first and is preserved by visits, and at the end what wasn't cleared is read.
 use Rattle.std.proofs.Common.{◌≡◌, ℕ, ◌+◌, ◌<◌, Bool, true, false, List, length, sym, ap, ◌∙◌, subst, ◌⊎◌, inl, inr, arith}
 use Rattle.std.proofs.lemmas.Bool.{cases_Bool, cases_eq}
 use Rattle.thumb_instr.specs.declared.instr.Instr.{Instr}

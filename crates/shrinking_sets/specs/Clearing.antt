@@ -6,7 +6,7 @@ use Rattle.thumb_model.specs.Flow.{AnyPoint, ways, Reads}
 use Rattle.shrinking_sets.specs.Straight.{reads_first, writes_in, IsApart}
 use Rattle.shrinking_sets.specs.Marks.{some_reads, Passes, KeepsMark, is_lost}
 
--- the marks are cleared backwards from each cleared place but the pending ones
+-- the invariant of the walk: the marks are cleared backwards from each cleared place but the pending ones
 pub record IsClearing (code : Code) (w : ℕ) (old is : List Instr) (x : ℕ) (f c pending : ℕ → Bool) : Type 0 where
   pub below : (p : ℕ) → c p ≡ true → Reads code x p
   pub inside : (j : ℕ) → 0 < j → j < length old → c (w + j) ≡ false
@@ -33,7 +33,7 @@ pub record IsStep (code : Code) (w : ℕ) (old : List Instr) (x : ℕ) (f c pend
 
 -- ---- the code points as one node ----
 
--- the same where g says whether the code points' own mark was cleared: a cleared code point clears it, unless a code point reads the item for sure, and then the ways to any code point clear by it
+-- the same with one mark for all code points, cleared where g: by a cleared code point, unless one reads the item for sure; then it clears ways to any of them
 pub record IsStepByPoints (code : Code) (w : ℕ) (old : List Instr) (x : ℕ) (f c pending : ℕ → Bool) (q : ℕ) (c' pending' : ℕ → Bool) (g : Bool) : Type 0 where
   pub fewer : (p : ℕ) → c' p ≡ true → c p ≡ true
   pub pushed : (p : ℕ) → c p ≡ true → c' p ≡ false → pending' p ≡ true
@@ -45,7 +45,7 @@ pub record IsStepByPoints (code : Code) (w : ℕ) (old : List Instr) (x : ℕ) (
 
 -- ---- marks that grow back ----
 
--- the place p was visited: it has what its ways give it, and where it gained the mark each place with a way there is on the stack, or has its mark
+-- the place p was visited: it has what its ways give it, and if it gained the mark, each place with a way to it is on the stack or has the mark
 pub record IsVisited (code : Code) (x : ℕ) (c stack : ℕ → Bool) (p : ℕ) (c' stack' : ℕ → Bool) : Type 0 where
   pub more : c p ≡ true → c' p ≡ true
   pub elsewhere : (q : ℕ) → q ≢ p → c' q ≡ c q
@@ -56,7 +56,7 @@ pub record IsVisited (code : Code) (x : ℕ) (c stack : ℕ → Bool) (p : ℕ) 
 
 -- ---- forward marks that are worked out anew ----
 
--- the mark of p was worked out anew: where it went, each lesser place with a way there is due
+-- the mark of p was worked out anew: if it was cleared, each lesser place with a way to p is due
 pub record IsForwardStep (code : Code) (x : ℕ) (f due : ℕ → Bool) (p : ℕ) (f' due' : ℕ → Bool) : Type 0 where
   pub elsewhere : (q : ℕ) → q ≢ p → f' q ≡ f q
   pub here : f' p ≡ true → (some_reads (ways code p) x ≡ true) ⊎ ((q : ℕ) × Passes code x p q × (p < q) × (f q ≡ true))

@@ -1,4 +1,4 @@
--- What holds of marks of places.
+-- The laws of the marks of places: forward marks, marks that are cleared, and marks that grow back.
 use Rattle.std.specs.Prelude.{◌≡◌, ℕ, ◌+◌, ◌<◌, ◌≤◌, ◌&&◌, ◌||◌, not, Bool, true, false, List, ◌++◌, length, take, drop, map, ◌⊎◌, ◌↔◌}
 use Rattle.std.specs.List.{list_all}
 use Rattle.thumb_instr.specs.declared.instr.Instr.{Instr}
@@ -19,13 +19,13 @@ ClearedIsRead =
     (code new : Code) (w : ℕ) (old is : List Instr) (x : ℕ) (f c : ℕ → Bool) → IsExchange code new w old is → IsForward new x f → IsCleared code w old is x f c
     → (p : ℕ) → c p ≡ true → Reads new x p
 
--- so it is where the code points have one mark
+-- the same where all code points share one mark
 abbrev pub ClearedByPointsIsRead : Type 0
 ClearedByPointsIsRead =
     (code new : Code) (w : ℕ) (old is : List Instr) (x : ℕ) (f c : ℕ → Bool) (v : Bool) → IsExchange code new w old is → IsForward new x f → IsClearedByPoints code w old is x f c v
     → (p : ℕ) → c p ≡ true → Reads new x p
 
--- a place outside the window that wasn't cleared lacks nothing
+-- where a place outside the window wasn't cleared, a visit of it would mark nothing
 abbrev pub OthersStayClosed : Type 0
 OthersStayClosed =
     (code new : Code) (w : ℕ) (old is : List Instr) (x : ℕ) (c : ℕ → Bool) → IsExchange code new w old is → ((p : ℕ) → c p ≡ true → Reads code x p)
@@ -33,7 +33,7 @@ OthersStayClosed =
 
 -- ---- the window ----
 
--- no way from outside an unlabelled window leads within it
+-- no way from outside an unlabelled window leads to a place inside it but its first
 abbrev pub NothingEnters : Type 0
 NothingEnters =
     (code new : Code) (w : ℕ) (old is : List Instr) → IsExchange code new w old is → IsUnlabelled code w (length old)
@@ -47,7 +47,7 @@ WindowIsThrough =
 
 -- ---- the walk ----
 
--- the walk begins, goes on from pending place to pending place, and ends where none is pending
+-- the invariant of the walk holds at its beginning and is preserved by visits; where no place is pending, what wasn't cleared is read
 abbrev pub ClearingBegins : Type 0
 ClearingBegins =
     (code new : Code) (w : ℕ) (old is : List Instr) (x : ℕ) (f c pending : ℕ → Bool) → IsExchange code new w old is → IsUnlabelled code w (length old) → 0 < length old → IsBegun code w old is x f c pending
@@ -63,7 +63,7 @@ ClearingEnds =
     (code new : Code) (w : ℕ) (old is : List Instr) (x : ℕ) (f c pending : ℕ → Bool) → IsExchange code new w old is → IsForward new x f → IsClearing code w old is x f c pending → ((q : ℕ) → pending q ≡ false)
     → (p : ℕ) → c p ≡ true → Reads new x p
 
--- a visit where the code points have one mark is such a visit
+-- a visit where all code points share one mark is a visit of that walk
 abbrev pub StepsByPoints : Type 0
 StepsByPoints =
     (code : Code) (w : ℕ) (old : List Instr) (x : ℕ) (f c pending : ℕ → Bool) (q : ℕ) (c' pending' : ℕ → Bool) (g : Bool) → IsStepByPoints code w old x f c pending q c' pending' g
@@ -71,7 +71,7 @@ StepsByPoints =
 
 -- ---- growing back ----
 
--- where each place off the stack is closed, so it is after a visit
+-- a visit preserves that each place that isn't on the stack is closed
 abbrev pub VisitsKeepClosed : Type 0
 VisitsKeepClosed =
     (code : Code) (x : ℕ) (c stack : ℕ → Bool) (p : ℕ) (c' stack' : ℕ → Bool) → ((q : ℕ) → stack q ≡ false → IsClosedAt code x c q) → IsVisited code x c stack p c' stack'
@@ -83,7 +83,7 @@ ClosedHaveAll = (code : Code) (x : ℕ) (c : ℕ → Bool) → ((q : ℕ) → Is
 
 -- ---- forward marks that are worked out anew ----
 
--- where a window gave way, marks go forward still but at the window, and where each place that isn't due goes forward, so it is after a step
+-- where a window gave way, the forward marks of places outside it still hold; and a step preserves that those of places that aren't due hold
 abbrev pub ForwardBegins : Type 0
 ForwardBegins =
     (code new : Code) (w : ℕ) (old is : List Instr) (x : ℕ) (f : ℕ → Bool) → IsExchange code new w old is → IsForward code x f
@@ -96,7 +96,7 @@ ForwardGoesOn =
 
 -- ---- what is lost ----
 
--- of an item that was read at the window, it needn't be asked whether the old instructions write it
+-- whether an item that was read at the window is lost there doesn't depend on what the old instructions write
 abbrev pub LostIsSimpler : Type 0
 LostIsSimpler =
     (code new : Code) (w : ℕ) (old is : List Instr) (x : ℕ) (sure : Bool) → IsExchange code new w old is → Reads code x w
@@ -104,7 +104,7 @@ LostIsSimpler =
 
 -- ---- the model's replacement ----
 
--- instructions that give way to as many are such an exchange
+-- the model's replacement by as many instructions is an exchange
 abbrev pub ReplacingIsExchange : Type 0
 ReplacingIsExchange =
     (code : Code) (w : ℕ) (old is : List Instr) → length is ≡ length old → 0 < length old → take (length old) (drop w code.places) ≡ map plain old → list_all is_straight old ≡ true → list_all is_straight is ≡ true

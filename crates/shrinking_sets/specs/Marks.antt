@@ -23,7 +23,7 @@ pub record Passes (code : Code) (x p q : ℕ) : Type 0 where
 abbrev pub IsForwardAt : Code → ℕ → (ℕ → Bool) → ℕ → Type 0
 IsForwardAt code x f p = f p ≡ true → (some_reads (ways code p) x ≡ true) ⊎ ((q : ℕ) × Passes code x p q × (p < q) × (f q ≡ true))
 
--- so does each
+-- so does each place
 abbrev pub IsForward : Code → ℕ → (ℕ → Bool) → Type 0
 IsForward code x f = (p : ℕ) → IsForwardAt code x f p
 
@@ -31,7 +31,7 @@ IsForward code x f = (p : ℕ) → IsForwardAt code x f p
 abbrev pub is_lost : List Instr → List Instr → Bool → ℕ → Bool
 is_lost old is sure x = not (reads_first is x) && ((reads_first old x || (writes_in is x && not (writes_in old x))) && not sure)
 
--- what keeps the mark of a place though the item was cleared where a way of it leads
+-- why a place keeps its mark though the item was cleared where a way of it leads: it reads the item, or the item is read for sure from it or along another way
 abbrev pub KeepsMark : Code → ℕ → (ℕ → Bool) → ℕ → Type 0
 KeepsMark code x f p = (some_reads (ways code p) x ≡ true) ⊎ ((f p ≡ true) ⊎ ((r : ℕ) × Passes code x p r × (f r ≡ true)))
 

@@ -12,17 +12,17 @@ pub fn cleared_is_read()
     ensures { ClearedIsRead }
 {}
 
-/// So it is where the code points have one mark.
+/// The same where all code points share one mark.
 pub fn cleared_by_points_is_read()
     ensures { ClearedByPointsIsRead }
 {}
 
-/// A place outside the window that wasn't cleared lacks nothing.
+/// Where a place outside the window wasn't cleared, a visit of it would mark nothing.
 pub fn others_stay_closed()
     ensures { OthersStayClosed }
 {}
 
-/// No way from outside an unlabelled window leads within it.
+/// No way from outside an unlabelled window leads to a place inside it but its first.
 pub fn nothing_enters()
     ensures { NothingEnters }
 {}
@@ -32,12 +32,12 @@ pub fn window_is_through()
     ensures { WindowIsThrough }
 {}
 
-/// The walk that clears marks begins at the window.
+/// The invariant of the walk that clears marks holds at its beginning.
 pub fn clearing_begins()
     ensures { ClearingBegins }
 {}
 
-/// A visit of a pending place keeps what the walk keeps.
+/// A visit of a place preserves the invariant of the walk.
 pub fn clearing_goes_on()
     ensures { ClearingGoesOn }
 {}
@@ -47,12 +47,12 @@ pub fn clearing_ends()
     ensures { ClearingEnds }
 {}
 
-/// A visit where the code points have one mark is such a visit.
+/// A visit where all code points share one mark is a visit of that walk.
 pub fn steps_by_points()
     ensures { StepsByPoints }
 {}
 
-/// Where each place off the stack is closed, so it is after a visit.
+/// A visit preserves that each place that isn't on the stack is closed: a visit of such a place would mark nothing.
 pub fn visits_keep_closed()
     ensures { VisitsKeepClosed }
 {}
@@ -62,12 +62,12 @@ pub fn closed_have_all()
     ensures { ClosedHaveAll }
 {}
 
-/// Of an item that was read at the window, it needn't be asked whether the old instructions write it.
+/// Whether an item that was read at the window is lost there doesn't depend on what the old instructions write.
 pub fn lost_is_simpler()
     ensures { LostIsSimpler }
 {}
 
-/// Instructions that give way to as many are such an exchange.
+/// The model's replacement by as many instructions is an exchange.
 pub fn replacing_is_exchange()
     ensures { ReplacingIsExchange }
 {}
@@ -77,12 +77,12 @@ pub fn padding_is_nothing()
     ensures { PaddingIsNothing }
 {}
 
-/// Where a window gave way, marks go forward still but at the window.
+/// Where a window gave way, the forward marks of all places outside the window still hold.
 pub fn forward_begins()
     ensures { ForwardBegins }
 {}
 
-/// Where each place that isn't due goes forward, so it is after a step.
+/// A step preserves that the forward mark of each place that isn't due holds.
 pub fn forward_goes_on()
     ensures { ForwardGoesOn }
 {}

@@ -1,4 +1,4 @@
--- Sequences of an alphabet against their numbers.
+-- Windows over an alphabet have numbers in it, so that keys exist.
 use Rattle.std.proofs.Common.{◌≡◌, ℕ, suc, ◌+◌, ◌<◌, ◌≤◌, List, [], ◌∷◌, ◌++◌, length, Some, refl, sym, ap, ◌∙◌, subst, arith, append-nil, append_assoc}
 use Rattle.std.specs.Prelude.{map, Contains}
 use Rattle.thumb_instr.specs.declared.instr.Instr.{Instr}
@@ -21,7 +21,7 @@ first_word : (instrs : List Instr) → In (words instrs 0) []
 unfolding words
 first_word instrs = (0, refl)
 
--- at most five instructions of the alphabet have a number
+-- a sequence of at most five instructions of the alphabet has a number
 pub over_number : (k : ℕ) (pool : List ℕ) (w : List Instr) → length w ≤ 5 → IsOver k pool w → In (sequences k pool) w
 unfolding sequences_of
 over_number k pool w h o =

@@ -1,4 +1,4 @@
--- Keys of the pairs that were seen.
+-- The set of keys stands for the list of pairs: a key is in it exactly where its pair was seen.
 use Rattle.std.proofs.Common.{◌≡◌, ℕ, ◌==◌, ◌&&◌, Bool, true, false, not, cond, List, [], ◌∷◌, ◌++◌, Some, refl, sym, ap, ◌∙◌, subst, ◌⊎◌, inl, inr, ◌↔◌, eq-eqb, eqb-true}
 use Rattle.std.specs.Prelude.{slice_get, Contains}
 use Rattle.std.specs.List.{list_any}

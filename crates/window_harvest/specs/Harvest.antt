@@ -26,7 +26,7 @@ pub record Limits : Type 0 where
   pub left : ℕ
   pub pool : List ℕ
 
--- where a window may stand: from a place on, so many instructions
+-- where a window may stand: from a place on, `count` instructions
 pub record WindowSpan : Type 0 where
   pub place : ℕ
   pub count : ℕ
@@ -48,7 +48,7 @@ pub record IsPairAt (limits : Limits) (lines : List ListingLine) (spot : WindowS
   pub few : register_count pair.seq ≤ limits.regs
   pub over : IsOver (register_count pair.seq) limits.pool pair.seq
 
--- the pairs of spots, in their order; many have none
+-- the pairs of spots, in the order of these; a spot may have none
 pub data ArePairs (limits : Limits) (lines : List ListingLine) : List WindowSpan → List Pair → Type 0 where
   none : ArePairs limits lines [] []
   passed : (spot : WindowSpan) (spots : List WindowSpan) (pairs : List Pair) → ((pair : Pair) → IsPairAt limits lines spot pair → ⊥) → ArePairs limits lines spots pairs → ArePairs limits lines (spot ∷ spots) pairs

@@ -1,4 +1,4 @@
--- Keys of pairs.
+-- Keys of pairs, which stand for them in the set of those that were seen.
 use Rattle.std.specs.Prelude.{◌≡◌, ◌≤◌, ◌==◌, ◌&&◌, ℕ, Bool, true, List, [], ◌∷◌, ◌++◌, Some, Contains, ◌⊎◌, ◌↔◌}
 use Rattle.std.specs.List.{list_any}
 use Rattle.thumb_instr.specs.declared.instr.Instr.{Instr}

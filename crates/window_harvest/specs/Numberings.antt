@@ -4,7 +4,7 @@ use Rattle.seq_enum.specs.declared.numbering.Numbering.{Numbering}
 use Rattle.seq_enum.specs.Numberings.{IsNumbering}
 use Rattle.window_harvest.specs.declared.numberings.Numberings.{Numberings}
 
--- a numbering is that over so many registers and a pool
+-- the numbering is the one over these many registers and this pool
 pub record Numbers (registers : ℕ) (pool : List ℕ) (n : Numbering) : Type 0 where
   pub is : IsNumbering n
   pub registers_are : n.registers ≡ registers

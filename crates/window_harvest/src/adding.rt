@@ -17,7 +17,7 @@ use thumb_instr::{Instr, Items, Mask, Seq};
 use window_runs::rows::WindowPlace;
 use window_runs::runs::run;
 
-/// How many registers and instructions a window has at most, and the numbers that it may have, with what numbers the sequences over them.
+/// How many registers (`regs`) and instructions (`left`) a window has at most, the numbers that it may have, and the numberings of the sequences over these.
 #[derive(Clone, Copy)]
 pub struct Limits<'a> {
     pub regs: u8,
@@ -26,7 +26,7 @@ pub struct Limits<'a> {
     pub numberings: &'a Numberings<'a>,
 }
 
-/// The pair of a window after which these items are live, and its key.
+/// The pair of a window after which these items are live, and its key. None where it has no canonical form or is beyond the limits.
 fn pair_at(limits: Limits<'_>, window: &[Instr], items: Items) -> Option<(Seq, Mask, Key)>
     requires regs { limits.regs ≤ 4 }
     requires numberings { AreNumberings limits.pool.now limits.numberings.now }
@@ -41,7 +41,7 @@ fn pair_at(limits: Limits<'_>, window: &[Instr], items: Items) -> Option<(Seq, M
     }
 }
 
-/// Puts a pair behind the others, where it isn't among them.
+/// Appends a pair, unless it is among the others.
 fn add_pair(
     seen: &mut HashSet<Key>,
     pairs: &mut Vec<(Seq, Mask)>,
@@ -75,7 +75,7 @@ fn add_window(
     }
 }
 
-/// Adds the pairs of the windows that begin at a place, by their length.
+/// Adds the pairs of the windows that begin at a place, the shortest window first.
 pub fn add_place(
     seen: &mut HashSet<Key>,
     pairs: &mut Vec<(Seq, Mask)>,

@@ -1,4 +1,4 @@
-//! The walk over a listing that gathers windows; a pair is known again by its number, so that nothing is hashed twice.
+//! The walk over a listing that gathers windows. A pair is found again by the number of its sequence, so that no instructions are hashed.
 ghost use Rattle.std.specs.Prelude.{◌≤◌, map, IfOk};
 ghost use Rattle.thumb_model.specs.Listing.{code_of};
 ghost use Rattle.liveness.specs.Live.{IsLive};
@@ -16,7 +16,7 @@ use window_runs::rows::rows;
 
 /// The distinct pairs of a canonical window and the mask of the items that are live after it, for every window of 1 to `left` instructions that names
 /// at most `regs` registers and lies in the alphabet of the registers that it names and the pool: in order of first appearance by place, then by length.
-/// The live items are the listing's. Time is linear in the listing's length.
+/// `live` has the live items of this listing. Time is linear in the listing's length.
 pub fn windows(
     alloc: Global,
     listing: &Listing,

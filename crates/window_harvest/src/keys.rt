@@ -15,7 +15,7 @@ pub struct Key {
     pub mask: u32,
 }
 
-/// The key of a pair whose window names so many registers. None exactly where these are too many, or it isn't over their alphabet.
+/// The key of a pair whose window names `count` registers. None exactly where these are too many, or the window isn't over their alphabet.
 pub fn key_of(limits: Limits<'_>, count: usize, seq: &Seq, mask: Mask) -> Option<Key>
     requires count { count ≡ register_count seq.now }
     requires some { 0 < length seq.now }

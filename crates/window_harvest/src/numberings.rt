@@ -14,7 +14,7 @@ pub struct Numberings<'a> {
 }
 
 impl<'a> Numberings<'a> {
-    /// Those of a pool.
+    /// The numberings over a pool.
     pub fn new(pool: &'a Pool) -> Self
         ensures { AreNumberings pool.now result }
     {
@@ -26,7 +26,7 @@ impl<'a> Numberings<'a> {
         }
     }
 
-    /// The numbering over so many registers.
+    /// The numbering over `registers` registers.
     pub fn over(&self, registers: u8) -> &Numbering<'a>
         requires some { 0 < registers }
         requires few { registers ≤ 4 }

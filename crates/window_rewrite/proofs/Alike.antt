@@ -1,4 +1,4 @@
--- Where a rule fits, so does one that is alike, and it does so with any scratch register: the lines and their layout see only how many instructions come.
+-- Where a rule fits, so does one that is alike, with any scratch register: the lines and their layout depend only on how many instructions come.
 use Rattle.std.proofs.Common.{◌≡◌, ℕ, ◌+◌, ◌-◌, suc, max, ◌<◌, ◌≤◌, ◌&&◌, ◌==◌, Bool, true, false, List, [], ◌∷◌, ◌++◌, length, take, drop, map, Option, Some, refl, sym, ap, ◌∙◌, subst, ◌⊎◌, inl, inr, arith}
 use Rattle.std.specs.Prelude.{slice_get, if◌then◌else◌}
 use Rattle.std.specs.List.{list_all}
@@ -110,7 +110,7 @@ new_as write (i ∷ is) (j ∷ js) ls e v w =
       new_as write is js ls (omega (arith, e)) a.1 b.1,
     )
 
--- lines with new instructions of one number
+-- lines in which as many new instructions come
 replaced_as : (write : Instr → List ℕ) (p count : ℕ) (is js : List Instr) (ls : List ListingLine) → length is ≡ length js → list_all is_in_window is ≡ true → list_all is_in_window js ≡ true
     → AreLaidAs (replaced_lines write p count is ls) (replaced_lines write p count js ls)
 replaced_as write p count is js [] e v w = tt
@@ -167,13 +167,13 @@ left_under base place count k f g right lines over left =
     left_as base lines (replaced_lines own_line place count (map (renamed f) right) lines) (replaced_lines own_line place count (map (renamed g) right) lines)
     (replaced_as own_line place count (map (renamed f) right) (map (renamed g) right) lines (length-map right (renamed f) ∙ sym (length-map right (renamed g))) (all_in_window k f right over) (all_in_window k g right over)) left
 
--- and a place that is settled
+-- and labels stay code alike
 pub settled_under : (code : Code) (p count : ℕ) (f g : List Low) (right : List Instr) → IsSettled code.places code.labels p count (map (renamed f) right) → IsSettled code.places code.labels p count (map (renamed g) right)
 settled_under code p count f g right s = settled_as code p count (map (renamed f) right) (map (renamed g) right) (length-map right (renamed f) ∙ sym (length-map right (renamed g))) s
 
 -- ---- the choice ----
 
--- an entry that is kept meets the same there
+-- an entry that is kept satisfies `Meets asked` at the same place
 pub record IsLedTo (asked : Bool) (s : Setting) (kept : List Bool) (o : Replacement) (lines : List ListingLine) : Type 0 where
   pub leader : ℕ
   pub no_later : leader ≤ o.entry

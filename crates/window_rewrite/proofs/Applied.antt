@@ -75,11 +75,11 @@ rule_there costs base rules o rule at = (alone_is rules o.entry o.instance rule 
 pub fits_lighter : (costs : Option (List ℕ)) (base : ℕ) (table : List (List Rule)) (o : Replacement) (lines : List ListingLine) → (a : FitsIn (setting_by costs base table) o lines) → weight_under costs a.rule.right < weight_under costs a.rule.left
 fits_lighter costs base table o lines a = same_lowers costs a.rule.left a.rule.right a.lowers
 
--- so its left side is some instructions
+-- so its left side isn't empty
 pub fits_some : (costs : Option (List ℕ)) (base : ℕ) (table : List (List Rule)) (o : Replacement) (lines : List ListingLine) → (a : FitsIn (setting_by costs base table) o lines) → 0 < length a.rule.left
 fits_some costs base table o lines a = lighter_some costs a.rule.left a.rule.right (fits_lighter costs base table o lines a)
 
--- ---- forth ----
+-- ---- a rule that fits applies ----
 
 -- a rule that fits a window applies there, where labels stay code
 pub fitted : (lines : List ListingLine) (place : ℕ) (rule : Rule) (registers : List Low) (window : List Instr) (live : ℕ) → IsSoundRule rule → 0 < length rule.left → StandsThere lines place window live → FitsWhole rule registers window live
@@ -107,7 +107,7 @@ fitted lines place rule registers window live sound some there fits settled =
           (subst (λ c. is_op_place (slice_get (left_places place (length window) is (places_of lines)) (moved place (length window - c) l.place)) ≡ true) m (stay k l e h));
     }
 
--- what is least by the items that are live is so by the ways
+-- a scratch register that is the least by the set of live items is the least by `LiveAfter`
 least_there : (lines : List ListingLine) (place : ℕ) (rule : Rule) (registers : List Low) (window : List Instr) (live : ℕ) → length window ≡ length rule.left → StandsThere lines place window live → IsScratchLeast rule registers live
     → IsLeastScratch rule registers (code_of lines) place
 least_there lines place rule registers window live n there least scratch at x l = elim (least scratch at x l) [
@@ -168,7 +168,7 @@ applied costs base table lines r rule window live new used sound lighter there f
       long = n ∙ sym (ap left_length_of used);
     }
 
--- what applies meets this, whether it is asked for the lines that it leaves or not
+-- what applies satisfies `Meets asked`, whether the lines that it leaves are asked for or not
 pub meets : (asked : Bool) (s : Setting) (o : Replacement) (lines : List ListingLine) → AppliesIn s o lines → Meets asked s o lines
 meets asked s o lines a = (
   record { rule = a.rule; is_rule = a.is_rule; lowers = a.lowers; applies = a.applies; joined = a.joined },
@@ -178,11 +178,11 @@ meets asked s o lines a = (
   },
 )
 
--- what meets more meets less
+-- what satisfies `Meets` with more asked satisfies it with less asked
 pub meets_less : (less more : Bool) (s : Setting) (o : Replacement) (lines : List ListingLine) → (less ≡ true → more ≡ true) → Meets more s o lines → Meets less s o lines
 meets_less less more s o lines h m = (m.0, λ e. m.1 (h e))
 
--- ---- back ----
+-- ---- a rule that applies fits ----
 
 same_rule : (a b : Rule) (o : Option Rule) → o ≡ Some a → o ≡ Some b → a ≡ b
 same_rule a b o e f = let g : (let x : Option Rule = Some a in x) ≡ Some b = sym e ∙ f in cc
@@ -252,7 +252,7 @@ back costs base table lines r rule window live at sound n there a =
           (stay_settled (places_of lines) (labels_from 0 lines) place (length rule.left) is (applied_gap rule registers (code_of lines) place sound some applies) (applied_stay rule registers (code_of lines) place applies));
     }
 
--- and where it meets what is asked of the lines that it leaves, that is so of those in which the window gives way
+-- and where what is asked of the lines that it leaves is so, it is so of the lines in which the window gives way
 pub record IsLeft (base : ℕ) (lines left : List ListingLine) : Type 0 where
   pub few : length left ≤ max (length lines) most_lines
   pub layable : Layable base left

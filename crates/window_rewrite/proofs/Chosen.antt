@@ -142,7 +142,7 @@ stands_in costs base longest table lines place window o fit there a at long =
       lightens = back_lightens costs base table lines o a.rule window a.is_rule (fit o.entry o.instance a.rule a.is_rule).sound n here a;
     }
 
--- the search through the rules that may stand in a window: those below k don't meet this
+-- the invariant of the search through the rules that may stand in a window: those below k don't satisfy `Meets asked`
 pub record IsSearch (asked : Bool) (costs : Option (List ℕ)) (base : ℕ) (rules : List Rule) (kept : List Bool) (lines : List ListingLine) (place : ℕ) (window : List Instr) (at : Option ℕ) (start steps : ℕ) : Type 0 where
   pub longest : ℕ
   pub fit : AreFit longest (alone rules)
@@ -156,7 +156,7 @@ pub search_begins : (asked : Bool) (costs : Option (List ℕ)) (base longest : �
     → Awaits costs rules kept window 0 at → IsSearch asked costs base rules kept lines place window at start start
 search_begins asked costs base longest rules kept lines place window at start fit led awaits = record { longest = longest; fit = fit; led = led; k = 0; awaits = awaits; none = λ o a e l h. absurd (omega arith); cost = omega arith }
 
--- none meets it below the next rule: else one that is kept would
+-- no rule below the next one satisfies it: else one that is kept would
 none_before : (asked : Bool) (costs : Option (List ℕ)) (base : ℕ) (rules : List Rule) (kept : List Bool) (lines : List ListingLine) (place : ℕ) (window : List Instr) (n : ℕ) (at : Option ℕ) (start steps : ℕ) → IsWindow lines place window
     → IsSearch asked costs base rules kept lines place window at start steps → at ≡ Some n
     → (o : Replacement) → Meets asked (setting_by costs base (alone rules)) o lines → o.place ≡ place → left_length (setting_by costs base (alone rules)) o ≡ length window → o.entry < n → ⊥
@@ -290,7 +290,7 @@ none_formed asked costs base longest table lines place window fit there none o a
 
 -- ---- the best entry of a place ----
 
--- where a rule fits stands a window as long as its left side, which is no longer than the longest
+-- where a rule fits, a window stands that is as long as its left side, and this is no longer than the longest
 pub record IsApplicable (costs : Option (List ℕ)) (lines : List ListingLine) (base longest : ℕ) (table : List (List Rule)) (o : Replacement) : Type 0 where
   pub window : List Instr
   pub is_window : IsWindow lines o.place window

@@ -57,7 +57,7 @@ stay_set ms p w = record { as_many = set_length ms p true; stay = λ q. still_ma
 pub stay_both : (a b c : List Bool) → StayMarked a b → StayMarked b c → StayMarked a c
 stay_both a b c s t = record { as_many = t.as_many ∙ s.as_many; stay = λ p h. t.stay p (s.stay p h) }
 
--- what isn't marked then wasn't before
+-- where marks were only added, what isn't marked wasn't before
 pub was_unmarked : (a b : List Bool) (p : ℕ) → StayMarked a b → marked b p ≡ false → marked a p ≡ false
 was_unmarked a b p s h = elim (cases_Bool (marked a p)) [
   | inl t ↦ absurd (let u = s.stay p t in let bad : true ≡ false = sym u ∙ h in cc)
@@ -105,7 +105,7 @@ stay_now ms ns p w e = subst (λ (xs : List Bool). StayMarked ms xs) (sym e) (st
 pub marked_now : (ms ns : List Bool) (p : ℕ) → p < length ms → ns ≡ set ms p true → marked ns p ≡ true
 marked_now ms ns p w e = ap (λ (xs : List Bool). marked xs p) e ∙ marked_set ms p true w
 
--- the next one is no more than so many places away
+-- the least marked place moves on, and stays within the n places
 pub least_on : (ms ns : List Bool) (p n : ℕ) → IsLeast ms p → ns ≡ set ms p false → length ms ≡ n → (before_least ms < before_least ns) × (before_least ns ≤ n)
 least_on ms ns p n l e m =
     let a = taken_least ms p l in

@@ -58,7 +58,7 @@ still_none s longest gone padded lines g ps is short w p kept far lost none o m 
     let b = applied_at s.write gone padded lines g ps is w rule o.registers r o.place i.sound some (at ∙ now) there still a.applies a.joined in
     none (placed r o) (record { rule = rule; is_rule = a.is_rule; lowers = a.lowers; applies = b.applies; joined = b.joined }, λ e. absurd (true≢false (sym e))) refl
 
--- the same of lines, marks and a padded code that are known to be so
+-- the same of lines, marks and a padded code that are equal to these
 pub none_still : (s : Setting) (longest : ℕ) (gone after : List Bool) (padded new_padded : Code) (lines new : List ListingLine) (g count : ℕ) (ps : List ℕ) (is : List Instr) → AreShort s longest → GaveWay s.write gone padded lines g ps is → count ≡ length ps
     → after ≡ marks_after ps is gone → new_padded ≡ exchanged ps is padded → new ≡ replaced_lines s.write g (length ps) is lines
     → (p : ℕ) → is_gone after p ≡ false → IsFar gone longest g count p → NoneLost after padded new_padded longest p → NoneAt false s lines (rank gone p) → NoneAt false s new (rank after p)
@@ -71,7 +71,7 @@ none_still s longest gone after padded new_padded lines new g count ps is short 
 
 -- ---- where entries apply ----
 
--- the place of an entry that applies
+-- the place of an entry that applies is one of the lines
 pub applies_within : (s : Setting) (o : Replacement) (lines : List ListingLine) → AppliesIn s o lines → o.place < length (places_of lines)
 applies_within s o lines a =
     let some = some_left s o lines a in
@@ -79,6 +79,6 @@ applies_within s o lines a =
     let w = window_within a.applies.window (length a.rule.left) (places_of lines) o.place n (omega arith) a.applies.stands in
     omega arith
 
--- is the rank of a kept one
+-- and is the rank of a kept place
 pub applies_at : (s : Setting) (o : Replacement) (gone : List Bool) (padded : Code) (lines : List ListingLine) → IsPadded gone padded (code_of lines) → AppliesIn s o lines → (p : ℕ) × (p < length padded.places) × (is_gone gone p ≡ false) × (rank gone p ≡ o.place)
 applies_at s o gone padded lines is a = rank_taken gone padded (code_of lines) is o.place (applies_within s o lines a)

@@ -47,7 +47,7 @@ short_rules r ready o rule at lowers =
     let f = ready.fit o.entry o.instance rule at in
     record { sound = f.sound; short = f.short; some = lowers_some (setting_of r).cost rule.left rule.right lowers }
 
--- where none fits, none fits that the layout allows
+-- where no entry fits, none fits that leaves lines that are allowed
 pub none_less : (asked : Bool) (s : Setting) (lines : List ListingLine) (p : ℕ) → NoneAt false s lines p → NoneAt asked s lines p
 none_less asked s lines p none o m at = none o (m.0, λ e. absurd (true≢false (sym e))) at
 
@@ -99,7 +99,7 @@ none_left r scene d k tried none o a =
 
 -- ---- what was tried ----
 
--- a place that was looked at was tried, as far as the layout was asked
+-- a place that was looked at counts as tried
 pub tried_here : (s : Setting) (old new : Scene) (was d : Due) (place : ℕ) → AreTriedBut s old was place → AreMarks new d → length new.listing.stands ≡ length old.listing.stands → marks new.listing ≡ marks old.listing → lines_of new ≡ lines_of old → d.due ≡ was.due
     → ((p : ℕ) → (p ≡ place → ⊥) → marked d.refused p ≡ marked was.refused p) → NoneAt (marked d.refused place) s (lines_of old) (rank (marks old.listing) place) → AreTried s new d
 tried_here s old new was d place tried are many same lines due refused none = record {
@@ -240,7 +240,7 @@ choice_within r scene t c ready site is here =
 
 -- ---- the same listing ----
 
--- what was tried in a scene was so in one of the same listing
+-- what was tried in a scene was tried in another one with the same listing
 pub tried_same : (s : Setting) (old new : Scene) (d : Due) (p q : ℕ) → new.listing ≡ old.listing → q ≡ p → AreTriedBut s old d p → AreTriedBut s new d q
 tried_same s old new d p q e f t =
     subst (λ k. AreTriedBut s new d k) (sym f)
@@ -282,7 +282,7 @@ tried_but s scene was d place t due refused lost = record {
       (t.tried p h k (untaken was.due place p (ap (λ (ms : List Bool). marked ms p) (sym due) ∙ u) n));
 }
 
--- and so was it itself, where it is gone
+-- the taken place needn't be tried where it is gone
 pub tried_gone : (s : Setting) (scene : Scene) (d : Due) (place : ℕ) → is_gone (marks scene.listing) place ≡ true → AreTriedBut s scene d place → AreTried s scene d
 tried_gone s scene d place gone t = record {
   are = t.are;
@@ -295,7 +295,7 @@ none_due_before was now place l e q h = ap (λ (ms : List Bool). marked ms q) e 
 
 -- ---- a look at a place ----
 
--- a place that was looked at was tried, whether something was refused there
+-- a place that was looked at counts as tried, also where something was refused there
 pub tried_refused : (s : Setting) (old new : Scene) (was : Due) (place : ℕ) (r : List Bool) → AreTriedBut s old was place → new.listing ≡ old.listing → place < length old.listing.stands → r ≡ set was.refused place true
     → NoneAt true s (lines_of old) (rank (marks old.listing) place) → AreTried s new (record { due = was.due; refused = r; lost = was.lost })
 tried_refused s old new was place r t e w is none =

@@ -61,7 +61,7 @@ moved_label p gone labels k l e = slice_get-map (move_label p gone) labels k ∙
 
 -- ---- two codes that a rule sees alike ----
 
--- a label of the one code is one of the other, and stands at, before or behind the window alike
+-- a label of the one code is one of the other too, and stands there alike at, before or behind the window
 pub record IsLabelThere (labels : List Label) (q n p : ℕ) (l : Label) : Type 0 where
   pub number : ℕ
   pub label : Label

@@ -26,7 +26,7 @@ use Rattle.window_rewrite.proofs.Raised.{families_cost, family_cost, forms_many,
 abbrev pub chains_in : Rules → List ℕ
 chains_in r = chains_of (family_forms r)
 
--- the families below k don't meet this at a place, and the one behind them is awaited whose left side has this side's number
+-- the invariant of the search: families below k don't satisfy `Meets asked` at the place, and `at` is the next one in the chain of this side
 pub record IsFamilySearch (asked : Bool) (r : Rules) (lines : List ListingLine) (place count : ℕ) (side : List Instr) (at : Option ℕ) (start steps : ℕ) : Type 0 where
   pub k : ℕ
   pub awaits : AwaitsFamily r side k at
@@ -41,7 +41,7 @@ family_search_begins asked r lines place count side at start a = record {
   cost = omega arith;
 }
 
--- there are as many numbers, and as many left sides, as families
+-- there are as many hashes as families
 many_forms : (r : Rules) → length (family_forms r) ≡ length r.families.now
 many_forms r = forms_many (map rule_of r.entries.now) (map family_of r.families.now) ∙ length-map r.families.now family_of
 
@@ -55,7 +55,7 @@ many_sides r = length-map (map family_of r.families.now) (λ f. raised_rule (ent
 is_kept : (r : Rules) (n : ℕ) → AreReady r → n < length r.families.now → is_marked r.index.now.families.kept.items n ≡ true
 is_kept r n ready h = ap (λ (kept : List Bool). is_marked kept n) ready.index.all ∙ all_marked (length (map family_of r.families.now)) n (omega (arith, h, length-map r.families.now family_of))
 
--- there is a next one, or none, of each family
+-- the list of next ones has an element for each family
 pub nexts_within : (r : Rules) (n : ℕ) → AreReady r → n < length r.families.now → n < length r.index.now.families.nexts.items
 nexts_within r n ready h = omega (arith, h, ready.index.family_chains.as_many, many_forms r)
 
@@ -100,7 +100,7 @@ module _ (r : Rules) (side : List Instr) (ready : AreReady r) where
           omega (arith, inside, from, within (n + 1) m f, many_sides r)
 
   module _ (lines : List ListingLine) (place : ℕ) (window : List Instr) (form : Form) (there : IsWindow lines place window) (formed : IsForm window form) (same : side ≡ form.side) where
-    -- where no family between has the number, none of these meets this
+    -- where no family from k to n is in the chain, none of these satisfies `Meets asked`
     none_until : (asked : Bool) (k n : ℕ) → n ≤ length r.families.now → NoneOfFamilies asked r lines place (length window) k → ((j : ℕ) → k ≤ j → j < n → slice_get (chains_in r) j ≡ Some hidden → ⊥) → NoneOfFamilies asked r lines place (length window) n
     none_until asked k n most none gap o m here long from below = elim (cases_lt o.entry (length r.entries.now + k)) [
       | inl l ↦ none o m here long from l
@@ -124,7 +124,7 @@ module _ (r : Rules) (side : List Instr) (ready : AreReady r) where
         → IsLowestFamily r lines place (length window) c
     family_found asked n at start steps c s e choice = found_family asked r lines place (length window) n c (none_before asked s.k n at s.awaits e s.none) choice
 
-    -- where none is awaited any more, none meets this
+    -- where there is no next one, no family satisfies `Meets asked`
     pub family_none : (asked : Bool) (at : Option ℕ) (start steps : ℕ) → IsFamilySearch asked r lines place (length window) side at start steps → at ≡ None → NoneOfFamilies asked r lines place (length window) (length r.families.now)
     family_none asked at start steps s e =
         none_until asked s.k (length r.families.now) (omega arith) s.none (λ j h l g. nothing (chains_in r) kept hidden s.k (sym s.awaits ∙ e) j h g (is_kept r j ready l))

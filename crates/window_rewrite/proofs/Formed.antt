@@ -140,7 +140,7 @@ masked_is_one items order x h =
         let same : x ≡ n = eqb-true x n both.1 in
         inr (ap (has items) same ∙ both.0, omega arith)
 
--- and such are masked
+-- and a register that has this name is masked
 masked_register : (items : ℕ) (order : List ℕ) (n : ℕ) → n < 4 → register_has items (slice_get order n) ≡ true → masked items order n ≡ true
 masked_register items order zero h e = rw e refl
 masked_register items order (suc zero) h e = rw e (and_from _ _ (or_left _ _ (or_left _ _ (or_left _ _ (or_left _ _ (or_left _ _ (or_left _ _ (or_right _ _ refl))))))) refl)
@@ -163,7 +163,7 @@ masked_flag items order x h l e = elim (cases_lt x 16) [
     at : {n : ℕ} → x ≡ n → (has items n ≡ true → masked items order n ≡ true) → masked items order x ≡ true
     at {n} is all = subst (λ (y : ℕ). masked items order y ≡ true) (sym is) (all (ap (has items) (sym is) ∙ e))
 
--- what an item of the mask becomes under the map tells which it is
+-- an item of the mask is determined by what it becomes under the map
 own_item : (rule : Rule) (registers : List Low) (x y : ℕ) → IsSoundRule rule → IsOneToOneBelow (register_count rule.left) (item_under registers) → length registers ≡ register_count rule.left
     → (x < register_count rule.left) ⊎ (15 ≤ x) → item_under registers x ≡ y → ComesOf (item_under registers) rule.mask y → one_of x rule.mask ≡ true
 own_item rule registers x y s far all (inl low) e c = elim (s.mask c.from c.among) [
@@ -221,7 +221,7 @@ fits_mask rule registers window live x s f h =
           | inr o ↦ absurd (omega (arith, o.0, high))
         ]
 
--- ---- what is told of a window ----
+-- ---- the form of a window ----
 
 -- the registers of its canonical form
 own_registers : (window : List Instr) (f : Form) (formed : IsForm window f) → formed.canonical.registers ≡ f.registers.items
@@ -300,7 +300,7 @@ module _ (rule : Rule) (window : List Instr) (f : Form) (s : IsSoundRule rule) (
     becomes masks n x there is = true_allowed rule.mask f.registers.items x
         (inl (subst (λ y. one_of y (map (item_under f.registers.items) rule.mask) ≡ true) is (one_of_map (item_under f.registers.items) n rule.mask (masks n (form.masks n ∙ there)))))
 
-    -- and where its mask has all of it, what is live may be
+    -- and where the rule's mask has all of the form's mask, what is live may be live
     pub form_allowed : ((x : ℕ) → has f.mask.items.bits x ≡ true → one_of x rule.mask ≡ true) → (x : ℕ) → has f.live.bits x ≡ true → is_allowed rule.mask f.registers.items x ≡ true
     form_allowed masks x live = elim (cases_Bool (one_of x (map (λ r. r.number) f.registers.items))) [
       | inl t ↦ (
@@ -326,11 +326,11 @@ low_bit zero n h k f = omega arith
 low_bit (suc zero) n h k f = let one : n ≡ 1 = eqb-true n 1 (f refl) in omega (arith, one)
 low_bit (suc (suc m)) n h k f = absurd (omega arith)
 
--- a set is what it shares with one that has all of it
+-- a set is its intersection with one that contains it
 pub shares_all : (a b : ℕ) → ((x : ℕ) → has a x ≡ true → has b x ≡ true) → bit_and a b ≡ a
 shares_all a b h = same_from_bits (bit_and a b) a (λ i. bit_at_and a b i ∙ low_bit (bit_at a i) (bit_at b i) (bit_at-lt a i) (bit_at-lt b i) (h i))
 
--- and where it is that, the other has all of it
+-- and one whose intersection with it is the set contains the set
 pub has_shared : (a b x : ℕ) → bit_and a b ≡ a → has a x ≡ true → has b x ≡ true
 has_shared a b x h one =
     let below = bit_at-lt b x in

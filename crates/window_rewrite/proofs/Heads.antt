@@ -1,4 +1,4 @@
--- What a left side shares with each window in which it stands.
+-- The hash that a left side shares with each window in which it stands, and what marks of such hashes exclude.
 use Rattle.std.proofs.Common.{◌≡◌, ℕ, zero, suc, ◌+◌, ◌-◌, ◌*◌, ◌<◌, ◌≤◌, ◌%◌, ◌==◌, Bool, true, false, List, [], ◌∷◌, length, take, map, Option, Some, None, ◌⊎◌, refl, sym, ap, ◌∙◌, subst, arith, inl, inr}
 use Rattle.std.specs.Prelude.{nat_lt, slice_get, slice_set, if◌then◌else◌}
 use Rattle.std.specs.Option.{option_map}
@@ -39,7 +39,7 @@ head_same r i j e = ap head_number e ∙ by i
 hash_next : (hash : ℕ) (i j : Instr) → head_number j ≡ head_number i → next_hash hash j ≡ next_hash hash i
 hash_next hash i j e = ap (λ h. (hash * 1283 + h) % 65536) e
 
--- instructions under a map have the same number
+-- instructions under a map have the same hash
 pub hash_renamed : (r : List Low) (hash : ℕ) (is js : List Instr) → js ≡ map (renamed r) is → hash_from hash js ≡ hash_from hash is
 hash_renamed r hash [] [] e = refl
 hash_renamed r hash [] (j ∷ js) e = absurd (cc)
@@ -60,7 +60,7 @@ front_front (suc m) zero is h = absurd (omega arith)
 front_front (suc m) (suc n) [] h = refl
 front_front (suc m) (suc n) (i ∷ is) h = ap (λ js. i ∷ js) (front_front m n is (omega arith))
 
--- the number of a front with one instruction more
+-- the hash of a prefix with one instruction more
 front_next : (hash at : ℕ) (is : List Instr) (i : Instr) → slice_get is at ≡ Some i → hash_from hash (take (suc at) is) ≡ next_hash (hash_from hash (take at is)) i
 front_next hash at [] i e = absurd (cc)
 front_next hash zero (x ∷ xs) i e = let one : x ≡ i = cc in ap (next_hash hash) one
@@ -86,7 +86,7 @@ marked_still (b ∷ bs) zero (suc q) h = h
 marked_still (b ∷ bs) (suc k) zero h = h
 marked_still (b ∷ bs) (suc k) (suc q) h = marked_still bs k q h
 
--- with one front of a side more
+-- with one prefix of a side more
 pub mark_more : (old new : List Bool) (side : List Instr) (at hash : ℕ) → ((q : ℕ) → is_marked old q ≡ true → is_marked new q ≡ true) → is_marked new hash ≡ true → hash ≡ hash_of (take (at + 1) side) → AreMarked old side at → AreMarked new side (at + 1)
 mark_more old new side at hash kept here is a = λ b less. elim (cases_lt b at) [
   | inl l ↦ kept (hash_of (take (suc b) side)) (a b l)
@@ -108,7 +108,7 @@ still_noted old new side stay n = record {
 pub stay_there : (marks : Marks) → StayNoted marks marks
 stay_there marks = record { wholes = λ q h. h; fronts = λ q h. h }
 
--- no rules are marked
+-- at first, of no number of the table, all rules are marked
 pub none_noted : (costs : Option (List ℕ)) (side : Rule → List Instr) (table : List (List Rule)) (marks : Marks) → AreMany marks → AreNoted costs side table 0 marks
 none_noted costs side table marks many = record { many = many; noted = λ k i rule l at s. absurd (omega (arith, l)) }
 
@@ -176,11 +176,11 @@ front_as_long zero is = refl
 front_as_long (suc n) [] = refl
 front_as_long (suc n) (i ∷ is) = ap (λ js. i ∷ js) (front_as_long n is)
 
--- and has the window's number
+-- and has the window's hash
 pub side_hash : (hidden : Bool) (side : List Instr) (registers : List Low) (window : List Instr) → map (seen hidden) window ≡ map (renamed registers) side → hash_of side ≡ hash_of (map (seen hidden) window)
 side_hash hidden side registers window e = sym (hash_renamed registers 0 side (map (seen hidden) window) e)
 
--- where a front of a run isn't marked, no marked side that stands first in the run is as long
+-- where a prefix of a run isn't marked, each marked side that stands first in the run is shorter
 pub unreached : (marks : Marks) (hidden : Bool) (run : List Instr) (at hash : ℕ) → hash ≡ hash_of (take (at + 1) (map (seen hidden) run)) → is_marked marks.fronts.items hash ≡ false → NoneMarked marks hidden run at
 unreached marks hidden run at hash hash_is missing n side registers longer noted e =
     let marked : is_marked marks.fronts.items (hash_of (take (suc at) side)) ≡ true = noted.fronts at longer in
@@ -193,7 +193,7 @@ unreached marks hidden run at hash hash_is missing n side registers longer noted
     let bad : true ≡ false = sym marked ∙ ap (is_marked marks.fronts.items) (sym same) ∙ missing in
     absurd (cc)
 
--- where the instructions of a front don't have the number of a marked side, no marked side that stands there has as many
+-- where the hash of a prefix isn't that of a marked side, no marked side that stands first in the run is as long as the prefix
 unmarked_none : (marks : Marks) (hidden : Bool) (run : List Instr) (at hash : ℕ) → hash ≡ hash_of (take (at + 1) (map (seen hidden) run)) → is_marked marks.wholes.items hash ≡ false
     → (n : ℕ) (side : List Instr) (registers : List Low) → length side ≡ at + 1 → IsNoted marks side → map (seen hidden) (take n run) ≡ map (renamed registers) side → ⊥
 unmarked_none marks hidden run at hash hash_is missing n side registers long noted e =
@@ -227,7 +227,7 @@ between_within marks at hash reached next e h = by (is_marked marks.wholes.items
     by true e = omega (arith, e)
     by false e = omega (arith, e, h)
 
--- where the next front isn't marked, no longer one stands there
+-- where the next prefix isn't marked, no longer side stands there
 pub between_all : (marks : Marks) (hidden : Bool) (run : List Instr) (at hash reached : ℕ) → hash ≡ hash_of (take (at + 1) (map (seen hidden) run)) → is_marked marks.fronts.items hash ≡ false → NoneBetween marks hidden run reached at
     → NoneMarked marks hidden run reached
 between_all marks hidden run at hash reached hash_is missing none n side registers longer noted s = elim (cases_lt at (length side)) [
@@ -235,7 +235,7 @@ between_all marks hidden run at hash reached hash_is missing none n side registe
   | inr l ↦ none n side registers longer l noted s
 ]
 
--- nor is a longer one than the run
+-- no side that stands first in the run is longer than the run
 pub between_end : (marks : Marks) (hidden : Bool) (run : List Instr) (reached at : ℕ) → length run ≤ at → NoneBetween marks hidden run reached at → NoneMarked marks hidden run reached
 between_end marks hidden run reached at end none n side registers longer noted s =
     none n side registers longer (let long = side_long hidden side registers (take n run) s in omega (arith, long, front_long n run, end)) noted s
@@ -258,7 +258,7 @@ none_without costs table rows e most n k i rule registers some is_rule s =
     let long = side_long false rule.left registers (take n (run true most rows)) s.stands.matches in
     absurd (omega (arith, long, front_long n (run true most rows), ap (λ (js : List Instr). length js) (not_begun rows most e), some))
 
--- nor where its first instruction begins none
+-- nor where no marked side begins with its first instruction
 pub none_begin : (marks : Marks) (hidden : Bool) (first : Instr) (rows : List WindowPlace) → is_marked marks.fronts.items (next_hash 0 (seen hidden first)) ≡ false → Some first ≡ instr_at true rows → (most : ℕ) → NoneMarked marks hidden (run true most rows) 0
 none_begin marks hidden first rows missing e most n side registers some noted s = elim (begun rows most first e) [
   | inl l ↦ (
@@ -273,7 +273,7 @@ none_begin marks hidden first rows missing e most n side registers some noted s 
 
 -- ---- rules of a table ----
 
--- a rule that stands in a window does so blind
+-- a rule that stands in a window does so too with 0 for all 8-bit numbers
 blind_stands : (costs : Option (List ℕ)) (rule : Rule) (registers : List Low) (window : List Instr) → Lightens costs rule registers window → map (seen true) window ≡ map (renamed registers) (map blind rule.left)
 blind_stands costs rule registers window s = both window ∙ ap (map blind) s.stands.matches ∙ under rule.left
   where
@@ -335,7 +335,7 @@ module _ (costs : Option (List ℕ)) (es : List tables.Rule) (fs : List tables.F
       (λ there. entries n rule.left registers longer (entry_noted k rule there (lighter_is costs rule registers (take n run) s)) s.stands.matches)
       (λ j there. absurd (let w = behind j i rule there in omega (arith, w, none)))
 
-  -- no family's instance stands in a window whose number isn't marked
+  -- no family's instance stands in a window whose hash isn't marked
   pub none_raised : (window : List Instr) (hash : ℕ) → hash ≡ hash_of (map (seen true) window) → is_marked index.holes.wholes.items hash ≡ false → NoneStands costs (families_in es fs) window
   none_raised window hash is missing k i rule registers at s =
       let noted = hole_noted k i rule at (lighter_is costs rule registers window s) in

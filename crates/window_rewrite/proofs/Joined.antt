@@ -1,4 +1,4 @@
--- A table's entries alone and with the families behind them: an entry's use is the same by both.
+-- An entry is used in the same way by a table of the entries alone and by the whole table, in which the families follow.
 use Rattle.std.proofs.Common.{◌≡◌, ℕ, ◌+◌, ◌-◌, ◌<◌, ◌≤◌, max, Bool, true, drop, List, [], ◌∷◌, ◌++◌, length, map, Option, Some, sym, ap, ◌∙◌, subst, arith, inl, inr, length-append}
 use Rattle.std.specs.Prelude.{slice_get}
 use Rattle.std.proofs.lemmas.Bool.{cases_lt}
@@ -111,7 +111,7 @@ module _ (r : Rules) where
         lowest_instance = λ o b e n f. let first = alone_rule.1 in omega (arith, first);
       }
 
-  -- where no entry meets this, the lowest family is
+  -- where no entry satisfies `Meets asked`, the lowest family is the lowest of all
   pub lowest_behind : (asked : Bool) (lines : List ListingLine) (place count : ℕ) (c : Choice) → NoneOf asked (entries_setting r) lines place count → IsLowestFamily r lines place count c → IsLowest (setting_of r) lines place count c
   lowest_behind asked lines place count c none l = record {
     is = l.is;
@@ -152,7 +152,7 @@ of_length_both c (x ∷ xs) ys = let t = of_length_both c xs ys in omega (arith,
 
 -- ---- the chains of entries ----
 
--- there is a next one, or none, of each entry
+-- the list of next ones has an element for each entry
 pub entry_nexts_within : (r : Rules) (n : ℕ) → AreReady r → n < length r.entries.now → n < length r.index.now.entries.nexts.items
 entry_nexts_within r n ready h = omega (arith, h, ready.index.entry_chains.as_many, length-map (map rewriting_rule (map rule_of r.entries.now)) (λ s. form_of s.left), length-map (map rule_of r.entries.now) rewriting_rule, length-map r.entries.now rule_of)
 

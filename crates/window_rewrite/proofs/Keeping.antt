@@ -1,4 +1,4 @@
--- Which rules are kept, looked at one by one.
+-- The loop that finds which rules are kept: its invariant at first, and with one rule more that is kept or shadowed.
 use Rattle.std.proofs.Common.{◌≡◌, ℕ, zero, suc, ◌+◌, ◌<◌, Bool, true, List, [], ◌∷◌, length, false, replicate, Option, Some, None, refl, sym, ap, ◌∙◌, subst, arith, inl, inr, true≢false}
 use Rattle.std.specs.Prelude.{slice_get, slice_set}
 use Rattle.std.proofs.lemmas.Bool.{cases_eq, cases_lt}
@@ -15,7 +15,7 @@ abbrev pub up_to : Option ℕ → ℕ
 up_to None = 0
 up_to (Some n) = n + 1
 
--- a list of nothing marks nothing
+-- a list of `false` marks nothing
 pub none_marked : (n q : ℕ) → is_marked (replicate n false) q ≡ false
 none_marked zero q = refl
 none_marked (suc n) zero = refl

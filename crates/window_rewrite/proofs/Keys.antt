@@ -1,4 +1,4 @@
--- Rules by the numbers of their left sides.
+-- The chains of rules by hash: how they are built, and that a walk along a chain meets each kept rule with its hash, in ascending order.
 use Rattle.std.proofs.Common.{◌≡◌, ℕ, zero, suc, ◌+◌, ◌-◌, ◌<◌, ◌≤◌, ◌==◌, ◌&&◌, Bool, true, false, List, [], ◌∷◌, length, drop, replicate, Option, Some, None, refl, sym, ap, ◌∙◌, subst, arith, inl, inr, if◌then◌else◌, eq-eqb, eqb-true}
 use Rattle.std.specs.Prelude.{slice_get, slice_set}
 use Rattle.std.specs.Option.{option_map}
@@ -17,7 +17,7 @@ use Rattle.window_rewrite.specs.Choices.{Awaits}
 use Rattle.liveness.proofs.Jumps.{same_target as number_head}
 pub use Rattle.common_lemmas.proofs.Lists.{get_set}
 
--- ---- the rules with some number ----
+-- ---- the rules with one hash ----
 
 drop_there : (forms : List ℕ) (k own : ℕ) → slice_get forms k ≡ Some own → drop k forms ≡ own ∷ drop (k + 1) forms
 drop_there [] k own e = absurd (cc)
@@ -58,11 +58,11 @@ record IsAhead (forms : List ℕ) (kept : List Bool) (form : ℕ) (m n : ℕ) : 
   is_kept : is_marked kept n ≡ true
   none : (j : ℕ) → j < n - m → slice_get forms j ≡ Some form → is_marked kept (m + j) ≡ true → ⊥
 
--- a rule that is kept and has the number is the first
+-- a rule that is kept and has the hash passes the test for the first
 has_own : (b : Bool) (form own : ℕ) → b ≡ true → own ≡ form → (b && own == form) ≡ true
 has_own b form own f s = ap (λ c. c && own == form) f ∙ eq-eqb own form s
 
--- a rule that isn't is none that is
+-- a rule that fails it isn't both kept and of the hash
 here_none : (b : Bool) (form own other : ℕ) → (b && own == form) ≡ false → own ≡ other → b ≡ true → other ≡ form → ⊥
 here_none b form own other h is g s =
     let bad : true ≡ false = sym (has_own b form own g (is ∙ s)) ∙ h in
@@ -151,7 +151,7 @@ set_other (x ∷ xs) (suc p) (suc q) y h = set_other xs p q y (λ e. h (ap suc e
 pub some_head : (a b : Option ℕ) → (let x : Option (Option ℕ) = Some a in x) ≡ Some b → a ≡ b
 some_head a b e = cc
 
--- a list of nothing
+-- a list of `None` has nothing else
 pub none_of : (n q : ℕ) (o : Option ℕ) → slice_get (replicate n None) q ≡ Some o → o ≡ None
 none_of zero q o e = absurd (cc)
 none_of (suc n) zero o e = cc
@@ -161,7 +161,7 @@ pub none_alone : (Q : Option ℕ → Type 0) → ((x : ℕ) → Q (Some x) → �
 none_alone Q h None q = refl
 none_alone Q h (Some x) q = absurd (h x q)
 
--- the first rules from n on, once the n-th rule was put in
+-- the first rules of the chains from n on, once the n-th rule was put in
 firsts_more : (forms : List ℕ) (kept : List Bool) (n own : ℕ) (old new : List (Option ℕ)) → slice_get forms n ≡ Some own → is_marked kept n ≡ true → own < length old
     → new ≡ slice_set old own (Some n) → AreFirsts forms kept old (n + 1) → AreFirsts forms kept new n
 firsts_more forms kept n own old new at here room e was form first g =
@@ -200,7 +200,7 @@ nexts_more forms kept nexts more n own o within at e is h k form next l f here g
 pub chain_at : (forms : List ℕ) (n form : ℕ) → slice_get forms n ≡ Some form → slice_get (chains_of forms) n ≡ Some (chain_of forms form)
 chain_at forms n form at = slice_get-map (chain_of forms) forms n ∙ ap (option_map (chain_of forms)) at
 
--- there are as many
+-- there is a chain for each rule
 pub as_many_chains : (forms : List ℕ) → length (chains_of forms) ≡ length forms
 as_many_chains forms = length-map forms (chain_of forms)
 
@@ -231,7 +231,7 @@ same_chains forms n own chains at f x = record {
   ];
 }
 
--- with one more that is
+-- with one more in front that is kept
 pub more_chains : (forms : List ℕ) (n own : ℕ) (old new : Chains) (o : Option ℕ) → slice_get (chains_of forms) n ≡ Some own → is_marked old.kept.items n ≡ true → AreChains forms (n + 1) old
     → slice_get old.firsts.items own ≡ Some o → new.kept.items ≡ old.kept.items → new.firsts.items ≡ slice_set old.firsts.items own (Some n) → new.nexts.items ≡ slice_set old.nexts.items n o
     → AreChains forms n new
@@ -252,7 +252,7 @@ more_chains forms n own old new o at here x was kept firsts nexts =
 pub left_chain : (rules : List Rule) (n : ℕ) (rule : Rule) → slice_get rules n ≡ Some rule → slice_get (chains_of (left_forms rules)) n ≡ Some (chain_of (left_forms rules) (form_of rule.left))
 left_chain rules n rule at = chain_at (left_forms rules) n (form_of rule.left) (slice_get-map (λ (r : Rule). form_of r.left) rules n ∙ ap (option_map (λ (r : Rule). form_of r.left)) at)
 
--- the next rule, and that none before it stands that is kept
+-- the next rule, and that no kept rule before it stands in the window
 pub record IsNext (costs : Option (List ℕ)) (rules : List Rule) (kept : List Bool) (window : List Instr) (k n : ℕ) : Type 0 where
   pub from : k ≤ n
   pub rule : Rule

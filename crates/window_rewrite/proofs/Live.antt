@@ -1,4 +1,4 @@
--- Which items may be live.
+-- Which items may be live after a window where a rule is used on it.
 use Rattle.std.proofs.Common.{◌≡◌, ℕ, ◌<◌, ◌&&◌, ◌||◌, true, false, List, map, ap, ◌⊎◌, inl, inr, ltb-true, lt-ltb}
 use Rattle.std.specs.Prelude.{not, nat_lt}
 use Rattle.std.proofs.lemmas.Bool.{and_parts, and_from, or_cases, or_right, not-true}

@@ -51,7 +51,7 @@ byte_there n (instr.TwoNumber o d j) other x h e = subst (λ k. IsByteOf k x) (s
     hole false f = absurd (cc)
 byte_there n i other x h e = absurd (cc)
 
--- the first instruction's part, and the rest's
+-- the same of the first instruction of a side
 pub byte_first : (n : ℕ) (i other : Instr) (is others : List Instr) (x : Byte) → is_hole n i ≡ true → instance n (i ∷ is) x ≡ other ∷ others → IsByteOf other x
 byte_first n i other is others x h e = byte_there n i other x h (let first : filled x (slot n i) ≡ other = cc in first)
 
@@ -144,14 +144,14 @@ family_read r n f e ready at read =
       held = subst (λ (x : tables.Rule). list_any (is_hole f.number) x.left ≡ true) same i.held;
     }
 
--- the number of its left side
+-- the hash of its left side
 form_read : (r : Rules) (n : ℕ) (f : Family) (i : IsRaised (map rule_of r.entries.now) (family_of f)) → slice_get r.families.now n ≡ Some f
     → slice_get (raised_forms (map rule_of r.entries.now) (map family_of r.families.now)) n ≡ Some (form_of (map blind i.entry.left))
 form_read r n f i at =
     slice_get-map (λ (g : tables.Family). raised_form (entry_at (map rule_of r.entries.now) g.entry)) (map family_of r.families.now) n
     ∙ ap (option_map (λ (g : tables.Family). raised_form (entry_at (map rule_of r.entries.now) g.entry))) (slice_get-map family_of r.families.now n ∙ ap (option_map family_of) at) ∙ ap (λ o. Some (raised_form o)) i.is_entry
 
--- there are as many
+-- there are as many hashes as families
 pub forms_many : (es : List tables.Rule) (fs : List tables.Family) → length (raised_forms es fs) ≡ length fs
 forms_many es fs = length-map fs (λ f. raised_form (entry_at es f.entry))
 
@@ -180,7 +180,7 @@ module _ (r : Rules) (n : ℕ) (f : tables.Family) (e : tables.Rule) (fam : IsFa
   as_long : (k i : ℕ) (rule : Rule) → IsOfFamily f e i rule → length rule.left ≡ length e.left
   as_long k i rule u = ap (λ (s : Rule). length s.left) (sym u.is) ∙ length_raised f.number e.left u.value
 
-  -- where the left side isn't as long as the window, no instance is
+  -- where the left side isn't as long as the window, no instance satisfies `Meets asked`
   pub none_long : (asked : Bool) (lines : List ListingLine) (place count : ℕ) → (length e.left ≡ count → ⊥) → NoneOfFamily asked r lines place count n
   none_long asked lines place count other o m here long is =
       let u = own o.entry o.instance m.0.rule is m.0.is_rule in
@@ -218,7 +218,7 @@ module _ (r : Rules) (n : ℕ) (f : tables.Family) (e : tables.Rule) (fam : IsFa
       let h = here_is lines place window form o ready there formed m.0 here long is in
       none h.family.value h.among h.same
 
-  -- nor where the number of the left side isn't the window's
+  -- nor where the hash of the left side isn't the window's
   pub none_hidden : (asked : Bool) (lines : List ListingLine) (place : ℕ) (window : List Instr) (form : Form) → AreReady r → IsWindow lines place window → IsForm window form → (form_of (map blind e.left) ≡ form_of (map blind form.side) → ⊥)
       → NoneOfFamily asked r lines place (length window) n
   none_hidden asked lines place window form ready there formed other o m here long is =
@@ -273,7 +273,7 @@ module _ (r : Rules) (n : ℕ) (f : tables.Family) (e : tables.Rule) (fam : IsFa
               omega arith;
         }
 
-    -- and where it doesn't meet this, no instance does
+    -- and where it doesn't satisfy `Meets asked`, no instance does
     pub none_tried : (asked : Bool) (lines : List ListingLine) (place : ℕ) (window : List Instr) (form : Form) → AreReady r → IsWindow lines place window → IsForm window form → side ≡ form.side → NoneBy asked r.costs.now r.base (entry_rule i.rule) lines place
         → NoneOfFamily asked r lines place (length window) n
     none_tried asked lines place window form ready there formed same none o m here long is =
@@ -282,7 +282,7 @@ module _ (r : Rules) (n : ℕ) (f : tables.Family) (e : tables.Rule) (fam : IsFa
         let rule : h.rule ≡ with_open (entry_rule i.rule) numbers = sym h.family.is ∙ ap (λ (x : Byte). rewriting_rule (raised f.number e x)) value ∙ instance_rule f e only.value i only.is in
         none (table_in r) numbers o (h.used ∙ ap Some rule) here m
 
--- where the number of a family's left side isn't the window's, none of its instances meets this
+-- where the hash of a family's left side isn't the window's, none of its instances satisfies `Meets asked`
 pub none_hidden_at : (asked : Bool) (r : Rules) (n own hidden : ℕ) (lines : List ListingLine) (place : ℕ) (window : List Instr) (form : Form) → n < length r.families.now → AreReady r → IsWindow lines place window → IsForm window form
     → slice_get (raised_forms (map rule_of r.entries.now) (map family_of r.families.now)) n ≡ Some own → hidden ≡ form_of (map blind form.side) → (own ≡ hidden → ⊥) → NoneOfFamily asked r lines place (length window) n
 none_hidden_at asked r n own hidden lines place window form within ready there formed is same other =
@@ -293,7 +293,7 @@ none_hidden_at asked r n own hidden lines place window form within ready there f
 
 -- ---- one family after the other ----
 
--- where none of the earlier families meets this, a family's choice is the lowest
+-- where no earlier family satisfies `Meets asked`, a family's choice is the lowest
 pub found_family : (asked : Bool) (r : Rules) (lines : List ListingLine) (place count n : ℕ) (c : Choice) → NoneOfFamilies asked r lines place count n → IsFamilyChoice r lines place count n c → IsLowestFamily r lines place count c
 found_family asked r lines place count n c none f =
     let entry = f.entry in

@@ -1,4 +1,4 @@
--- One replacement more.
+-- The loop of replacements, round by round: what completes them, what they cost, and that it ends.
 use Rattle.std.proofs.Common.{◌≡◌, ℕ, ◌+◌, ◌-◌, ◌*◌, ◌<◌, ◌≤◌, List, [], ◌∷◌, ◌++◌, map, refl, sym, ap, ◌∙◌, subst, arith, append_assoc, append-nil, mul-le-mul_right}
 use Rattle.std.proofs.lemmas.List.{map-append}
 use Rattle.thumb_model.specs.Listing.{ListingLine, places_of}
@@ -32,7 +32,7 @@ round_goes start before after n each entries p next b a h =
     let m : (p + 1) * entries ≤ next * entries = mul-le-mul_right entries (let l : p + 1 ≤ next = omega arith in l) in
     omega arith
 
--- and a whole round no more than one of each at each place
+-- and a whole round costs no more than a match of each entry at each place
 pub round_ends : (start before after n each entries p count : ℕ) → before ≤ start + n * each + p * entries → after ≤ before + entries → p < count → each ≡ count * entries → after ≤ start + (n + 1) * each
 round_ends start before after n each entries p count b a h e =
     let m : (p + 1) * entries ≤ count * entries = mul-le-mul_right entries (let l : p + 1 ≤ count = omega arith in l) in
@@ -50,12 +50,12 @@ cost_ends start after n places entries passed count a e f =
 abbrev pub paid : Setting → List ListingLine → ℕ
 paid s lines = weight s.cost (instructions (places_of lines))
 
--- where they cost less there is less, whatever is due
+-- where the instructions cost less, less is left to do, whatever is due
 pub less_paid : (now was count here next : ℕ) → now < was → now * (count + 1) + (count - next) < was * (count + 1) + here
 less_paid now was count here next h =
     let m : (now + 1) * (count + 1) ≤ was * (count + 1) = mul-le-mul_right (count + 1) (let l : now + 1 ≤ was = omega arith in l) in
     omega arith
 
--- and with as many there is where a place was taken
+-- and at the same cost less is left to do where a place was taken
 pub less_left : (all count here next : ℕ) → here < next → next ≤ count → all + (count - next) < all + (count - here)
 less_left all count here next h l = omega arith

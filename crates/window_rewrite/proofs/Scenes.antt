@@ -97,7 +97,7 @@ first_over r g lines now b e layable same steady layout =
       layout = layout;
     })
 
--- what is said of a layout stays so
+-- an implication carries over to what an option may hold
 said_still : {X : Type 0} (o : Option X) (P Q : X → Type 0) → ((x : X) → P x → Q x) → IfSome o P → IfSome o Q
 said_still None P Q f h = tt
 said_still (Some x) P Q f h = f x h
@@ -152,7 +152,7 @@ none_read code k p x live h r =
     let past : set_at k.before p ≡ 0 = ap word_of (slice_get_past k.before p h) in
     true≢false (sym ((live.live p x).1 r) ∙ ap (λ bits. has bits x) past ∙ has_zero x)
 
--- where its places are seen as a slice, the last of the first so many is one of the code's
+-- where its places are given as a slice, the last of the first `count` is a place of the code
 pub last_within : (gone : List Bool) (number count : ℕ) (items seen : List ℕ) → AreRanked gone number items → seen ≡ items → 0 < count → count ≤ length items → get_or seen (count - 1) 0 < length gone
 last_within gone number count items seen a e some few =
     let same = ap (λ (ps : List ℕ). get_or ps (count - 1) 0) e in
@@ -255,7 +255,7 @@ allowed_here r g lines c place window new over near is at moves e f =
       no_longer = keeps.no_longer;
     }
 
--- and leaves lines of which as much is known, where the layout has their layout
+-- and as much is known of the lines that it leaves, if the layout is now theirs
 pub still_over : (r : Rules) (g h : KnownLayout) (lines now : List ListingLine) (c : Choice) (place : ℕ) (window new : List Instr) → IsChoice (setting_of r) lines c → (choice_of c).place ≡ place → window ≡ c.window → new ≡ c.new
     → now ≡ replaced_lines own_line place (length window) new lines → is_steady h ≡ is_steady g → HasLayout r.base h (replaced_lines own_line place (length window) new lines) → AreOver r g lines → AreOver r h now
 still_over r g h lines now c place window new is at e f left same layout over =

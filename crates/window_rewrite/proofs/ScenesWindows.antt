@@ -115,7 +115,7 @@ unlabelled_within gone padded code s r p ps window new a n k = λ j l e.
       | inr h ↦ inr (omega arith)
     ]
 
--- and the sets of live items know how
+-- so the window gives way as the kept sets of live items require it
 pub gives_way : (gone : List Bool) (padded code : Code) → IsPadded gone padded code → length gone ≡ length padded.places → (r : ℕ) (ps : List ℕ) (window new : List Instr) → AreRanked gone r ps → length ps ≡ length window → MayGiveWay code r window new
     → GivesWay padded (exchanged ps new padded) ps window new
 gives_way gone padded code s m r [] window new a n k = let some = k.some in absurd (omega arith)

@@ -17,7 +17,7 @@ use Rattle.kept_layout.proofs.Reaching.{reaches_cut}
 use Rattle.window_rewrite.specs.declared.known_layout.KnownLayout.{KnownLayout}
 use Rattle.window_rewrite.specs.Layouts.{is_steady, HasLayout, StandsNear}
 
--- a block takes no bytes and no places fewer
+-- a block that loses 0 bytes and 0 places is the same
 none_less : (s : Footprint) → (let t : Footprint = record { head = s.head; bytes = s.bytes - 0; places = s.places - 0 } in t) ≡ s
 none_less s =
     let bytes : s.bytes - 0 ≡ s.bytes = omega arith in

@@ -21,7 +21,7 @@ use Rattle.window_rewrite.specs.Rules.{is_lighter}
 
 -- ---- one instruction ----
 
--- what instructions have whose mnemonic is the same
+-- instructions with the same mnemonic have the same cost
 same_cost : (costs : Option (List ℕ)) (i j : Instr) → mnemonic (parts_of i).kind ≡ mnemonic (parts_of j).kind → cost_under costs i ≡ cost_under costs j
 same_cost None i j e = refl
 same_cost (Some costs) i j e = ap (λ n. get_or costs n 1) e
@@ -69,7 +69,7 @@ weight_raised costs n side x = sym (weight_is costs (instance n side x)) ∙ by 
         let rest = by is in
         omega arith
 
--- what weighs more than another sequence is some instructions
+-- a sequence that weighs more than another isn't empty
 pub lighter_some : (costs : Option (List ℕ)) (left right : List Instr) → weight_under costs right < weight_under costs left → 0 < length left
 lighter_some costs left right h =
     let l = weight_is costs left in

@@ -89,7 +89,7 @@ front_outside n registers x h = elim (cases_Bool (one_of x (map (λ r. r.number)
   | inr f ↦ f
 ]
 
--- they serve the left side as all do
+-- the first registers of a map rename the left side as all of them do
 pub front_matches : (rule : Rule) (n : ℕ) (registers : List Low) → IsSoundRule rule → register_count rule.left ≤ n → map (renamed registers) rule.left ≡ map (renamed (take n registers)) rule.left
 front_matches rule n registers s h =
     let k = register_count rule.left in
@@ -109,7 +109,7 @@ front_mask k n registers (y ∷ ys) h few m =
     ap (λ z. z ∷ map (item_under (take n registers)) ys) (front_item k n registers y h few (m y (ap (λ b. b || one_of y ys) (eq-eqb y y refl))))
     ∙ ap (λ zs. item_under registers y ∷ zs) (front_mask k n registers ys h few (λ x l. m x (or_right (x == y) (one_of x ys) l)))
 
--- what may be live may be so with fewer registers too
+-- what may be live under a map may be so under its first registers too
 pub front_allowed : (rule : Rule) (n : ℕ) (registers : List Low) (x : ℕ) → IsSoundRule rule → register_count rule.left ≤ n → length registers ≤ 4 → Allowed rule.mask registers x → Allowed rule.mask (take n registers) x
 front_allowed rule n registers x s h few (inl m) = inl (ap (one_of x) (front_mask (register_count rule.left) n registers rule.mask h few s.mask) ∙ m)
 front_allowed rule n registers x s h few (inr o) = inr (o.0, front_outside n registers x o.1)
@@ -141,7 +141,7 @@ alike_registers a b s t l =
 pub left_few : (rule : Rule) (registers : List Low) → length registers ≡ rule_registers rule → length (left_registers rule registers) ≡ register_count rule.left
 left_few rule registers e = take_all (register_count rule.left) registers (omega arith)
 
--- with all registers may be live what may with those of the left side, but for the scratch register
+-- what may be live under the left side's registers may be so under all registers, but for the scratch register
 pub whole_allowed : (rule : Rule) (registers : List Low) (live x : ℕ) → IsSoundRule rule → AreWhole rule registers live → has live x ≡ true → Allowed rule.mask (left_registers rule registers) x → Allowed rule.mask registers x
 whole_allowed rule registers live x s w there (inl m) =
     let few = s.few in

@@ -11,7 +11,7 @@ first_op [] n places q l h e = absurd (omega arith)
 first_op (i ∷ is) n places q l h e =
     ap is_op_place (sym (get_drop q places 0 q (omega arith)) ∙ sym (get_take n (drop q places) 0 h) ∙ ap (λ (ps : List Place). slice_get ps 0) e)
 
--- and it ends among the places
+-- and the window ends among the places
 pub window_within : (window : List Instr) (n : ℕ) (places : List Place) (q : ℕ) → length window ≡ n → 0 < n → take n (drop q places) ≡ map plain window → q + n ≤ length places
 window_within window n places q l h e =
     let k = length_map plain window in

@@ -36,14 +36,14 @@ families_sides r = raised_rules (map rule_of r.entries.now) (map family_of r.fam
 abbrev pub sides_of : Rules → List Rule
 sides_of r = rules_in r.entries.now ++ families_sides r
 
--- its index is that of its rules
+-- its rules are those of an accepted table, and its index is theirs
 pub record AreReady (r : Rules) : Type 0 where
   pub few : r.longest ≤ 5
   pub fit : AreFit r.longest (table_in r)
   pub raised : AreRaised (map rule_of r.entries.now) (map family_of r.families.now)
   pub index : IsIndex r.costs.now (map rule_of r.entries.now) (map family_of r.families.now) r.index.now
 
--- each left side that may give way in the window is in this chain
+-- each rule that stands in the window and whose right side weighs less is in this chain
 abbrev pub AreInChain : Option (List ℕ) → List Rule → List Instr → ℕ → Type 0
 AreInChain costs rules window chain = (k : ℕ) (rule : Rule) (registers : List Low) → slice_get rules k ≡ Some rule → Lightens costs rule registers window → chain_of (left_forms rules) (form_of rule.left) ≡ chain
 
@@ -55,7 +55,7 @@ pub record Awaits (costs : Option (List ℕ)) (rules : List Rule) (kept : List B
 
 -- ---- with and without a look at the lines that are left ----
 
--- this entry of the table fits there, under this map: it applies with some free scratch register, if it needs one, and whatever the lines come to that it leaves
+-- the rule fits there under this map: it applies, but its scratch register needn't be the least, and the lines that it leaves may be too many or not layable
 pub record FitsIn (s : Setting) (o : Replacement) (lines : List ListingLine) : Type 0 where
   pub rule : Rule
   pub is_rule : used_rule s o ≡ Some rule
@@ -93,11 +93,11 @@ pub record IsChoiceBy (costs : Option (List ℕ)) (base : ℕ) (rule : Rule) (li
   pub entry_is : (choice_of c).entry ≡ entry
   pub instance_is : (choice_of c).instance ≡ instance
 
--- no rule with these sides and this mask meets this at the place
+-- no replacement at the place by a rule with these sides and this mask satisfies `Meets asked`
 abbrev pub NoneBy : Bool → Option (List ℕ) → ℕ → Rule → List ListingLine → ℕ → Type 0
 NoneBy asked costs base rule lines place = (table : List (List Rule)) (numbers : List ℕ) (o : Replacement) → used_rule (setting_by costs base table) o ≡ Some (with_open rule numbers) → o.place ≡ place → Meets asked (setting_by costs base table) o lines → ⊥
 
--- of the choices at a place by left sides of so many instructions it has the lowest number
+-- of the choices at a place by left sides of `count` instructions it has the lowest number
 pub record IsLowest (s : Setting) (lines : List ListingLine) (place count : ℕ) (c : Choice) : Type 0 where
   pub is : IsChoice s lines c
   pub at : (choice_of c).place ≡ place
@@ -105,7 +105,7 @@ pub record IsLowest (s : Setting) (lines : List ListingLine) (place count : ℕ)
   pub lowest : (o : Replacement) → AppliesIn s o lines → o.place ≡ place → left_length s o ≡ count → (choice_of c).entry ≤ o.entry
   pub lowest_instance : (o : Replacement) → AppliesIn s o lines → o.place ≡ place → left_length s o ≡ count → o.entry ≡ (choice_of c).entry → (choice_of c).instance ≤ o.instance
 
--- none meets this at a place by a left side of so many instructions
+-- no replacement at the place with a left side of `count` instructions satisfies `Meets asked`
 abbrev pub NoneOf : Bool → Setting → List ListingLine → ℕ → ℕ → Type 0
 NoneOf asked s lines place count = (o : Replacement) → Meets asked s o lines → o.place ≡ place → left_length s o ≡ count → ⊥
 
@@ -117,7 +117,7 @@ pub record IsBest (s : Setting) (lines : List ListingLine) (place : ℕ) (c : Ch
   pub lowest : (o : Replacement) → AppliesIn s o lines → o.place ≡ place → left_length s o ≡ left_length s (choice_of c) → (choice_of c).entry ≤ o.entry
   pub lowest_instance : (o : Replacement) → AppliesIn s o lines → o.place ≡ place → left_length s o ≡ left_length s (choice_of c) → o.entry ≡ (choice_of c).entry → (choice_of c).instance ≤ o.instance
 
--- none does at a place
+-- no replacement at the place satisfies `Meets asked`
 abbrev pub NoneAt : Bool → Setting → List ListingLine → ℕ → Type 0
 NoneAt asked s lines place = (o : Replacement) → Meets asked s o lines → o.place ≡ place → ⊥
 
@@ -126,7 +126,7 @@ pub record IsFirstChoice (s : Setting) (lines : List ListingLine) (c : Choice) :
   pub first : IsFirst s (choice_of c) lines
   pub is : IsChoice s lines c
 
--- none does before the place
+-- no replacement before the place satisfies `Meets asked`
 abbrev pub NoneBefore : Bool → Setting → List ListingLine → ℕ → Type 0
 NoneBefore asked s lines place = (o : Replacement) → Meets asked s o lines → o.place < place → ⊥
 

@@ -25,7 +25,7 @@ before_least [] = 0
 before_least (true ∷ ms) = 0
 before_least (false ∷ ms) = suc (before_least ms)
 
--- p is kept, and a window of at most so many kept places that begins there reaches the kept place q
+-- p is kept, and a window of at most `longest` kept places that begins there reaches the kept place q
 pub record Reaches (gone : List Bool) (longest p q : ℕ) : Type 0 where
   pub kept : is_gone gone p ≡ false
   pub up_to : rank gone p ≤ rank gone q
@@ -33,23 +33,23 @@ pub record Reaches (gone : List Bool) (longest p q : ℕ) : Type 0 where
 
 -- ---- places that were tried ----
 
--- as many marks as places, and between replacements none of a place that lost an item
+-- there is a mark for each place, and, as between replacements, no place is marked as having lost an item
 pub record AreMarks (scene : Scene) (d : Due) : Type 0 where
   pub due_many : length d.due ≡ length scene.listing.stands
   pub refused_many : length d.refused ≡ length scene.listing.stands
   pub lost_many : length d.lost ≡ length scene.listing.stands
   pub none_lost : (p : ℕ) → marked d.lost p ≡ false
 
--- no entry fits at the place, or only such as leave lines that aren't allowed, where it is one of the refused
+-- no entry fits at the place; if the place is one of the refused, entries may fit, but leave lines that aren't allowed
 abbrev pub IsTried : Setting → Scene → Due → ℕ → Type 0
 IsTried s scene d p = NoneAt (marked d.refused p) s (lines_of scene) (rank (marks scene.listing) p)
 
--- so it is at each kept place that isn't due
+-- each kept place that isn't due was tried
 pub record AreTried (s : Setting) (scene : Scene) (d : Due) : Type 0 where
   pub are : AreMarks scene d
   pub tried : (p : ℕ) → p < length scene.listing.stands → is_gone (marks scene.listing) p ≡ false → marked d.due p ≡ false → IsTried s scene d p
 
--- and at none but one, which was taken
+-- the same but for one place, which was taken from the due ones
 pub record AreTriedBut (s : Setting) (scene : Scene) (d : Due) (taken : ℕ) : Type 0 where
   pub are : AreMarks scene d
   pub tried : (p : ℕ) → p < length scene.listing.stands → is_gone (marks scene.listing) p ≡ false → marked d.due p ≡ false → (p ≡ taken → ⊥) → IsTried s scene d p

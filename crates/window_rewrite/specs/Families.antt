@@ -28,14 +28,14 @@ pub record IsInstance (f : Family) (e : Rule) (x : Byte) (i : Instance) : Type 0
   pub mask : i.rule.mask.items.bits ≡ e.mask
   pub number : f.low + i.number ≡ x.number
 
--- a value of the range, and no other, makes this of the left side
+-- it is the instance with a value of the range, the only one with which the left side may be `side`
 pub record IsOnlyInstance (f : Family) (e : Rule) (side : List Instr) (i : Instance) : Type 0 where
   pub value : Byte
   pub among : IsValue (symbol_of f) value
   pub is : IsInstance f e value i
   pub only : (x : Byte) → instance f.number e.left x ≡ side → x ≡ value
 
--- the numbers of its families
+-- the hashes of its families' left sides with 0 for 8-bit numbers
 abbrev pub family_forms : Rules → List ℕ
 family_forms r = raised_forms (map rule_of r.entries.now) (map family_of r.families.now)
 
@@ -53,16 +53,16 @@ pub record IsFamilyChoice (r : Rules) (lines : List ListingLine) (place count n 
   pub entry : (choice_of c).entry ≡ length r.entries.now + n
   pub only : (o : Replacement) → AppliesIn (setting_of r) o lines → o.place ≡ place → left_length (setting_of r) o ≡ count → o.entry ≡ length r.entries.now + n → o.instance ≡ (choice_of c).instance
 
--- no instance of the family meets this at a place by a left side of so many instructions
+-- no replacement at the place by an instance of the family, with a left side of `count` instructions, satisfies `Meets asked`
 abbrev pub NoneOfFamily : Bool → Rules → List ListingLine → ℕ → ℕ → ℕ → Type 0
 NoneOfFamily asked r lines place count n = (o : Replacement) → Meets asked (setting_of r) o lines → o.place ≡ place → left_length (setting_of r) o ≡ count → o.entry ≡ length r.entries.now + n → ⊥
 
--- nor does any of the first n families
+-- and none by an instance of the first n families
 abbrev pub NoneOfFamilies : Bool → Rules → List ListingLine → ℕ → ℕ → ℕ → Type 0
 NoneOfFamilies asked r lines place count n =
     (o : Replacement) → Meets asked (setting_of r) o lines → o.place ≡ place → left_length (setting_of r) o ≡ count → length r.entries.now ≤ o.entry → o.entry < length r.entries.now + n → ⊥
 
--- of the choices at a place by families with left sides of so many instructions it has the lowest
+-- of the choices at a place by families with left sides of `count` instructions it has the lowest number
 pub record IsLowestFamily (r : Rules) (lines : List ListingLine) (place count : ℕ) (c : Choice) : Type 0 where
   pub is : IsChoice (setting_of r) lines c
   pub at : (choice_of c).place ≡ place

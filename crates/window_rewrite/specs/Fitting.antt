@@ -36,15 +36,15 @@ pub record Lightens (costs : Option (List ℕ)) (rule : Rule) (registers : List 
 abbrev pub NoneStands : Option (List ℕ) → List (List Rule) → List Instr → Type 0
 NoneStands costs table window = (k i : ℕ) (rule : Rule) (registers : List Low) → rule_at table k i ≡ Some rule → Lightens costs rule registers window → ⊥
 
--- and none with a left side of more than so many instructions stands first in the run
+-- and none with a left side of more than `count` instructions stands first in the run
 abbrev pub NoneReaches : Option (List ℕ) → List (List Rule) → List Instr → ℕ → Type 0
 NoneReaches costs table run count = (n k i : ℕ) (rule : Rule) (registers : List Low) → count < length rule.left → rule_at table k i ≡ Some rule → Lightens costs rule registers (take n run) → ⊥
 
--- of the sides that are marked none stands first in the run, its instructions as they are or blind, that has more than so many instructions
+-- no marked side of more than `low` instructions stands first in the run, which is taken as it is or with 0 for 8-bit numbers
 abbrev pub NoneMarked : Marks → Bool → List Instr → ℕ → Type 0
 NoneMarked marks hidden run low = (n : ℕ) (side : List Instr) (registers : List Low) → low < length side → IsNoted marks side → map (seen hidden) (take n run) ≡ map (renamed registers) side → ⊥
 
--- nor with at most so many others
+-- no marked side of more than `low` instructions, but at most `high`, does
 abbrev pub NoneBetween : Marks → Bool → List Instr → ℕ → ℕ → Type 0
 NoneBetween marks hidden run low high = (n : ℕ) (side : List Instr) (registers : List Low) → low < length side → length side ≤ high → IsNoted marks side → map (seen hidden) (take n run) ≡ map (renamed registers) side → ⊥
 
@@ -52,7 +52,7 @@ NoneBetween marks hidden run low high = (n : ℕ) (side : List Instr) (registers
 abbrev pub is_allowed : List ℕ → List Low → ℕ → Bool
 is_allowed mask registers x = one_of x (map (item_under registers) mask) || (nat_lt x 15 && not (one_of x (map (λ r. r.number) registers)))
 
--- as far as the window and the items that are live after it tell, the rule may be used, but for a scratch register
+-- by the window and the items that are live after it the rule may be used, if a scratch register isn't looked at
 pub record Fits (rule : Rule) (registers : List Low) (window : List Instr) (live : ℕ) : Type 0 where
   pub stands : Stands rule registers window
   pub allowed : (x : ℕ) → has live x ≡ true → is_allowed rule.mask registers x ≡ true
@@ -77,7 +77,7 @@ pub record FitsWhole (rule : Rule) (registers : List Low) (window : List Instr) 
   pub fits : Fits rule (left_registers rule registers) window live
   pub whole : AreWhole rule registers live
 
--- of a rule whose left side has these registers they are all: where it needs one, the scratch register is the least that is free
+-- all registers of a rule whose left side has the registers `own`: these, and, if it needs one, the least scratch register that is free
 pub record IsWholeOf (rule : Rule) (own : List Low) (live : ℕ) (registers : List Low) : Type 0 where
   pub front : left_registers rule registers ≡ own
   pub whole : AreWhole rule registers live
@@ -86,7 +86,7 @@ pub record IsWholeOf (rule : Rule) (own : List Low) (live : ℕ) (registers : Li
 
 -- ---- the form of a window ----
 
--- what is told of a window: its canonical form with its own registers, and the number of that; where a rule fits, its mask has what the form's mask has
+-- the form of a window: the window's canonical form with its registers, its live items by its own names and by the form's, and the hash of the form
 pub record IsForm (window : List Instr) (f : Form) : Type 0 where
   pub renamable : IsRenamable window
   pub canonical : IsCanonical window f.live.bits f.side (map Some f.registers.items) f.mask.items.bits

@@ -1,14 +1,14 @@
--- Numbers that tell left sides apart by their registers too, but for chance.
+-- Hashes of left sides that depend on registers too, by which rules are looked up: different left sides seldom have the same.
 use Rattle.std.specs.Prelude.{ℕ, ◌+◌, ◌*◌, ◌%◌, List, [], ◌∷◌, unwrap_or}
 use Rattle.thumb_instr.specs.declared.instr.Instr.{Instr}
 use Rattle.thumb_instr.specs.Parts.{parts_of}
 use Rattle.seq_enum.specs.Places.{rank}
 
--- of an instruction of windows: one for each mnemonic and its registers and number, but for chance
+-- a number of an instruction of windows, by its mnemonic, registers and number: different instructions seldom have the same
 abbrev pub instr_number : Instr → ℕ
 instr_number i = 37 * ((parts_of i).first + 5 * (parts_of i).second + 25 * (parts_of i).third) + unwrap_or (rank (parts_of i).kind) 0
 
--- of instructions, where another stands behind those that have the number
+-- the hash of instructions and one more after them, from the hash of the former
 abbrev pub next_form : ℕ → Instr → ℕ
 next_form form i = (form * 1283 + instr_number i) % 65536
 

@@ -1,4 +1,4 @@
--- Numbers that instructions share with all that differ from them in registers alone.
+-- Hashes of instruction sequences that ignore registers.
 use Rattle.std.specs.Prelude.{ℕ, ◌+◌, ◌*◌, ◌%◌, Bool, true, false, List, [], ◌∷◌, unwrap_or}
 use Rattle.std.proofs.Common.{leb-true, ltb-true, refl}
 use Rattle.thumb_instr.specs.declared.instr.Instr.{Instr}
@@ -30,11 +30,11 @@ number_in (instr.ThreeNumber s d n i) = i.number
 number_in (instr.TwoNumber o d i) = i.number
 number_in i = 0
 
--- of an instruction of windows: one for each mnemonic and each number that stands in it
+-- the number of one instruction of windows: different for each mnemonic and each number that stands in it
 abbrev pub head_number : Instr → ℕ
 head_number i = 37 * number_in i + unwrap_or (rank (parts_of i).kind) 0
 
--- of instructions, where another stands behind those that have the number
+-- the hash of instructions and one more after them, from the hash of the former
 abbrev pub next_hash : ℕ → Instr → ℕ
 next_hash hash i = (hash * 1283 + head_number i) % 65536
 

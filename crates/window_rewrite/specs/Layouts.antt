@@ -22,15 +22,15 @@ is_steady g = not (is_some g.kept)
 abbrev pub HasLayout : ℕ → KnownLayout → List ListingLine → Type 0
 HasLayout base g lines = IfSome g.kept (λ k. (k.base ≡ base) × Lays k lines)
 
--- it stands where the place is
+-- the layout that is kept, if one is, is positioned at the place
 abbrev pub StandsNear : KnownLayout → ℕ → Type 0
 StandsNear g place = IfSome g.kept (λ k. IsNear k place)
 
--- so the layout moves, if one is kept, where a window at which it stands gives way to fewer instructions; where it gives way to as many, nothing moves
+-- m is how the layout that is kept, if one is, moves where a window at its position gives way to fewer instructions; where as many come, nothing moves
 abbrev pub Moves : KnownLayout → List Instr → List Instr → Move → Type 0
 Moves g window new m = length new < length window → IfSome g.kept (λ k. IsMoved k (2 * (length window - length new)) m.at.items m.by)
 
--- a window at which the layout stands may give way to no more instructions, which leave lines that can be laid out, where a layout is kept, which then moves so
+-- a window at the layout's position may give way to as many instructions or fewer: if a layout is kept, the lines left can be laid out, and it moves by m
 pub record Allows (g : KnownLayout) (window new : List Instr) (m : Move) : Type 0 where
   pub lines : List ListingLine
   pub place : ℕ
@@ -49,6 +49,6 @@ pub record AreOver (r : Rules) (g : KnownLayout) (lines : List ListingLine) : Ty
   pub steady : is_steady g ≡ true → IsSteady r.base lines
   pub layout : HasLayout r.base g lines
 
--- where it is said so, the lines and those that come of them by replacements can be laid out from the base
+-- if b, the lines, and those that replacements make of them, can be laid out from the base
 abbrev pub IsSteadyIf : ℕ → List ListingLine → Bool → Type 0
 IsSteadyIf base lines b = b ≡ true → (base % 4 ≡ 0) × IsSteady base lines

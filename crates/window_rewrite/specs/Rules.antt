@@ -59,7 +59,7 @@ abbrev pub raised_rule : Option tables.Rule → Rule
 raised_rule None = record { left = []; right = []; mask = []; open_numbers = [] }
 raised_rule (Some e) = rewriting_rule e
 
--- the number of the entry's left side with 0 for 8-bit numbers, and that of each family
+-- the hash of the entry's left side with 0 for 8-bit numbers, and that of each family
 abbrev pub raised_form : Option tables.Rule → ℕ
 raised_form None = 0
 raised_form (Some e) = form_of (map blind e.left)
@@ -93,7 +93,7 @@ is_true (Some b) = b
 abbrev pub is_marked : List Bool → ℕ → Bool
 is_marked marks k = is_true (slice_get marks k)
 
--- the fronts of a side of up to so many instructions are marked
+-- the hashes of a side's prefixes of up to `count` instructions are marked
 abbrev pub AreMarked : List Bool → List Instr → ℕ → Type 0
 AreMarked marks side count = (at : ℕ) → at < count → is_marked marks (hash_of (take (suc at) side)) ≡ true
 
@@ -102,7 +102,7 @@ pub record IsNoted (marks : Marks) (side : List Instr) : Type 0 where
   pub whole : is_marked marks.wholes.items (hash_of side) ≡ true
   pub fronts : AreMarked marks.fronts.items side (length side)
 
--- there is a mark for each number
+-- there is a mark for each hash
 pub record AreMany (marks : Marks) : Type 0 where
   pub wholes : length marks.wholes.items ≡ 65536
   pub fronts : length marks.fronts.items ≡ 65536
@@ -119,7 +119,7 @@ left_side r = r.left
 abbrev pub blind_side : Rule → List Instr
 blind_side r = map blind r.left
 
--- such sides of the rules of the first n numbers of a table are marked whose right sides weigh less
+-- of the first n numbers of a table these sides of all rules whose right sides weigh less are marked
 pub record AreNoted (costs : Option (List ℕ)) (side : Rule → List Instr) (table : List (List Rule)) (n : ℕ) (marks : Marks) : Type 0 where
   pub many : AreMany marks
   pub noted : (k i : ℕ) (rule : Rule) → k < n → rule_at table k i ≡ Some rule → is_lighter costs rule ≡ true → IsNoted marks (side rule)
@@ -133,7 +133,7 @@ pub record AreAlike (a b : Rule) : Type 0 where
   pub as_long : length a.right ≡ length b.right
   pub no_more : needs_scratch a ≡ true → needs_scratch b ≡ true
 
--- a rule that is kept is alike, its right side weighs less, and it comes no later
+-- the k-th rule is kept or shadowed: a kept rule that comes no later is alike, and its right side weighs less
 pub record IsLed (costs : Option (List ℕ)) (rules : List Rule) (kept : List Bool) (k : ℕ) (rule : Rule) : Type 0 where
   pub leader : ℕ
   pub no_later : leader ≤ k
@@ -147,7 +147,7 @@ pub record IsLed (costs : Option (List ℕ)) (rules : List Rule) (kept : List Bo
 abbrev pub AreLed : Option (List ℕ) → List Rule → List Bool → ℕ → Type 0
 AreLed costs rules kept n = (k : ℕ) (rule : Rule) → k < n → slice_get rules k ≡ Some rule → is_lighter costs rule ≡ true → IsLed costs rules kept k rule
 
--- which of the first n rules are kept: right sides of such weigh less; from the last of them ways lead back through others
+-- which of the first n rules are kept: only such whose right sides weigh less; chains lead from the last of them back to earlier ones
 pub record AreKept (costs : Option (List ℕ)) (rules : List Rule) (n : ℕ) (k : KeptEntries) : Type 0 where
   pub many : length k.kept.items ≡ length rules
   pub many_lasts : length k.lasts.items ≡ length rules
@@ -157,17 +157,17 @@ pub record AreKept (costs : Option (List ℕ)) (rules : List Rule) (n : ℕ) (k 
   pub lighter : (j : ℕ) (rule : Rule) → slice_get rules j ≡ Some rule → is_marked k.kept.items j ≡ true → is_lighter costs rule ≡ true
   pub led : AreLed costs rules k.kept.items n
 
--- ---- rules by numbers ----
+-- ---- rules by hashes ----
 
--- the numbers of left sides
+-- the hashes of left sides
 abbrev pub left_forms : List Rule → List ℕ
 left_forms rules = map (λ r. form_of r.left) rules
 
--- how many chains there are of so many rules
+-- how many chains there are for so many rules
 abbrev pub chain_count : ℕ → ℕ
 chain_count rules = 4 * rules + 1
 
--- the chain in which a rule is that has this number, where the rules have these, and the chains of them all
+-- the chain of a rule with the hash `form`, where the rules have the hashes `forms`; and the chains of all these rules
 abbrev pub chain_of : List ℕ → ℕ → ℕ
 chain_of forms form = form % chain_count (length forms)
 
@@ -186,7 +186,7 @@ AreFirsts chains kept firsts n = (chain : ℕ) (first : Option ℕ) → slice_ge
 abbrev pub AreNexts : List ℕ → List Bool → List (Option ℕ) → ℕ → Type 0
 AreNexts chains kept nexts n = (k chain : ℕ) (next : Option ℕ) → n ≤ k → slice_get chains k ≡ Some chain → is_marked kept k ≡ true → slice_get nexts k ≡ Some next → next ≡ first_with kept chain (k + 1) (drop (k + 1) chains)
 
--- the chains of the rules from the n-th on, which have these numbers
+-- the chains of the rules from the n-th on, where the rules have these hashes
 pub record AreChains (forms : List ℕ) (n : ℕ) (chains : Chains) : Type 0 where
   pub many_kept : length chains.kept.items ≡ length forms
   pub many_firsts : length chains.firsts.items ≡ chain_count (length forms)

@@ -39,13 +39,13 @@ pub record IsOver (r : Rules) (s : Scene) : Type 0 where
   pub kept : IsKept s
   pub over : AreOver r s.layout (lines_of s)
 
--- the run of instructions from a kept place on that may stand in a window, with at most so many
+-- the run of at most `most` instructions from a kept place on that may stand in a window
 pub record IsRun (most : ℕ) (s : Scene) (place : ℕ) (r : Run) : Type 0 where
   pub instrs : r.instrs ≡ run true most (drop (rank (marks s.listing) place) (rows_from false (lines_of s)))
   pub places : AreRanked (marks s.listing) (rank (marks s.listing) place) r.places.items
   pub as_many : length r.places.items ≡ length r.instrs
 
--- a kept place of it, as a window begins there, with its run
+-- a site of the scene: a kept place with its number now, its run, and whether labels stay code where all of the run goes
 pub record IsSite (most : ℕ) (s : Scene) (t : Site) : Type 0 where
   pub within : t.place < length s.listing.stands
   pub kept : is_gone (marks s.listing) t.place ≡ false
@@ -55,7 +55,7 @@ pub record IsSite (most : ℕ) (s : Scene) (t : Site) : Type 0 where
   pub as_many : length t.run.places.items ≡ length t.run.instrs
   pub vanishes : (t.may_vanish ≡ true) ↔ IsSettled (places_of (lines_of s)) (labels_from 0 (lines_of s)) t.number (length t.run.instrs) []
 
--- its layout, where one is kept, stands at the site
+-- its layout, where one is kept, is positioned at the site
 abbrev pub IsNear : Scene → Site → Type 0
 IsNear s t = StandsNear s.layout t.number
 
@@ -74,7 +74,7 @@ pub record IsLook (l : Look) : Type 0 where
   pub site : IsSite l.rules.now.longest l.scene.now l.site.now
   pub near : IsNear l.scene.now l.site.now
 
--- the window stands at the site, is no longer than its run, and what is told of it is true
+-- the window stands at the site, is no longer than its run, and has this form
 pub record IsSight (t : Sight) : Type 0 where
   pub look : IsLook t.look.now
   pub stands : StandsThere (lines_seen t.look.now) (number_seen t.look.now) t.window.now t.form.now.live.bits

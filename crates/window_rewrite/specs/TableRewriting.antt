@@ -32,13 +32,13 @@ registers_of (Some r ∷ os) = r ∷ registers_of os
 abbrev pub replacement_of : Made → Replacement
 replacement_of m = record { place = m.place; entry = m.entry - 1; instance = m.instance; registers = registers_of m.map }
 
--- the map of so many registers that gives these in place of r0, r1, .. , and none in place of those behind
+-- the map of n registers that gives these in place of r0, r1, .. , and none in place of the rest
 abbrev pub map_of : ℕ → List Low → List (Option Low)
 map_of zero rs = []
 map_of (suc n) [] = None ∷ map_of n []
 map_of (suc n) (r ∷ rs) = Some r ∷ map_of n rs
 
--- a replacement that was made says its entry or family as counted from 1, and its registers in place of r0, r1, .. and of no others of the eight
+-- a replacement that was made has its entry or family counted from 1, and its registers in place of r0, r1, .. , without a gap among the eight
 pub record IsWhole (m : Made) : Type 0 where
   pub counted : 1 ≤ m.entry
   pub in_place : m.map ≡ map_of 8 (registers_of m.map)
@@ -48,11 +48,11 @@ abbrev pub IsRefusal : ℕ → List ListingLine → RewriteError → Type 0
 IsRefusal base lines (error.Line number k) = first_fault base lines ≡ Some (number, fault_of k)
 IsRefusal base lines error.Memory = Unit {0}
 
--- how many places are visited at most for the live items of so many places
+-- how many visits of places there are at most in the search for the live items of a listing with `places` places
 abbrev pub visits : ℕ → ℕ
 visits places = (19 * places + 1) * places
 
--- how many matches are tried for one replacement, in a listing of so many places by a table of so many entries and families
+-- how many matches are tried at most for one replacement; `numbers` is how many entries and families there are
 abbrev pub round_cost : ℕ → ℕ → ℕ
 round_cost places numbers = places * numbers
 

@@ -1,23 +1,23 @@
-//! The rules of a table by numbers: its entries by those of their left sides, its families by those of left sides with 0 for 8-bit numbers. There are four times as
-//! many chains as rules, and a rule's is its number's remainder.
+//! The rules of a table by hashes: entries by those of their left sides, families by those of left sides with 0 for 8-bit numbers. For n rules there are
+//! 4 n + 1 chains, and a rule is in the chain of its hash modulo 4 n + 1.
 ghost use Rattle.std.specs.Prelude.{◌≡◌, ◌+◌, ◌<◌, ◌%◌, length, slice_get, true, Some, IfOk};
 ghost use Rattle.window_rewrite.specs.Rules.{is_marked, AreChains};
 
 use listing_parser::Memory;
 use std::alloc::Global;
 
-/// The rules that are kept, by numbers of theirs. Seldom are two in one chain.
+/// The rules that are kept, by their hashes. Two of them are seldom in one chain.
 #[derive(Drop)]
 pub(crate) struct Chains {
     /// Whether a rule is kept.
     kept: Vec<bool>,
-    /// Of each chain the first rule that is kept, and of each of these the next one.
+    /// For each chain its first rule, and for each rule that is kept the next one in its chain.
     firsts: Vec<Option<usize>>,
     nexts: Vec<Option<usize>>,
 }
 
 impl Chains {
-    /// The chains of rules that have these numbers.
+    /// The chains of the kept rules, where `forms` has the hash of each rule.
     pub(crate) fn of(alloc: Global, kept: Vec<bool>, forms: &[usize]) -> Result<Chains, Memory>
         requires { length kept.items ≡ length forms.now }
         ensures chains { IfOk result (λ chains. AreChains forms.now 0 chains) }
@@ -38,7 +38,7 @@ impl Chains {
         Ok(chains)
     }
 
-    /// Puts a rule, which is kept, before those that are behind it.
+    /// Puts a kept rule at the head of its chain. The kept rules after it in the table are in their chains already.
     fn add(&mut self, forms: &[usize], number: usize)
         requires number { number < length forms.now }
         requires kept { is_marked self.old.kept.items number ≡ true }
@@ -52,7 +52,7 @@ impl Chains {
         self.firsts[chain] = Some(number);
     }
 
-    /// The first rule that is kept in the chain of this number.
+    /// The first rule that is kept in the chain of this hash.
     pub(crate) fn first(&self, form: usize) -> Option<usize>
         requires { 0 < length self.now.firsts.items }
         ensures { slice_get self.now.firsts.items (form % length self.now.firsts.items) ≡ Some result }

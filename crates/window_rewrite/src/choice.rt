@@ -1,10 +1,10 @@
-//! What a search for a replacement finds: the choice with all that is needed to make it, since the search has looked it up already.
+//! What a search for a replacement finds: a choice carries all that is needed to make the replacement, so that nothing is looked up again.
 use kept_layout::Move;
 use listing_parser::Listing;
 use rule_table::Map;
 use thumb_instr::Seq;
 
-/// An entry or a family was used: its right side stands in place of its left side.
+/// A replacement that was made: the right side of an entry, or of an instance of a family, stands in place of the left side.
 #[derive(Drop)]
 pub struct Replacement {
     /// The place of the first instruction that was replaced, counted from 0 in the listing as it then was.

@@ -1,4 +1,4 @@
-//! The places of a listing at which an entry or a family may apply: those that are due are looked at, the least first, until none is.
+//! The work list of rewriting: places at which an entry or a family may apply are due, and the least that is due is looked at next, until none is.
 ghost use Rattle.std.specs.Prelude.{◌≡◌, ◌+◌, ◌*◌, ◌<◌, ◌≤◌, ℕ, suc, true, false, All, length, map, replicate, slice_get, is_some, Some, IfOk, OnOk, IfSome, IfNone};
 ghost use Rattle.std.specs.Int.{from_bool};
 ghost use Rattle.kept_places.specs.Marks.{is_gone, marked};
@@ -27,14 +27,14 @@ use step_ledger::{Ledger, Steps};
 pub(crate) struct Due {
     /// Those at which some entry may fit, for all that is known.
     pub(crate) due: PlaceSet,
-    /// Those at which each entry that fits was refused: the lines that it leaves, by which nothing changed since, are too many or can't be laid out.
+    /// Those at which, since the last replacement, each entry that fits was refused: it would leave too many lines, or lines that can't be laid out.
     pub(crate) refused: PlaceSet,
     /// Those before which an item was live that isn't any more. Between replacements there is none.
     pub(crate) lost: PlaceSet,
 }
 
 impl Due {
-    /// All of so many places.
+    /// All of `count` places are due.
     pub(crate) fn all(alloc: Global, count: u32) -> Result<Due, Memory>
         ensures due { IfOk result (λ d. d.due ≡ replicate count true) }
         ensures refused { IfOk result (λ d. d.refused ≡ replicate count false) }
@@ -47,7 +47,7 @@ impl Due {
         })
     }
 
-    /// Lets places be due.
+    /// Marks places as due.
     fn add(&mut self, places: &[u32])
         requires within { (k p : ℕ) → slice_get places.now k ≡ Some p → p < length self.old.due }
         ensures due { StayMarked self.old.due self.new.due }
@@ -60,7 +60,7 @@ impl Due {
         }
     }
 
-    /// Lets a kept place be due, and the kept ones before it whose windows of at most so many instructions reach it.
+    /// Marks a kept place as due, and the kept ones before it from which a window of at most `longest` instructions reaches it.
     fn add_up_to(&mut self, scene: &Scene, place: u32, longest: u8)
         requires within { place < length scene.now.listing.stands }
         requires kept { is_gone (marks scene.now.listing) place ≡ false }
@@ -83,7 +83,7 @@ impl Due {
         }
     }
 
-    /// Lets the places be due whose windows end right before one that lost an item.
+    /// Marks as due the places whose windows may end right before a place that lost an item, and empties `lost`.
     fn add_lost(&mut self, scene: &Scene, longest: u8)
         requires many { length self.old.due ≡ length scene.now.listing.stands }
         requires lost_many { length self.old.lost ≡ length scene.now.listing.stands }
@@ -100,7 +100,7 @@ impl Due {
         }
     }
 
-    /// Lets the places be due at which what fits was refused.
+    /// Marks as due the places at which what fits was refused, and empties `refused`.
     fn add_refused(&mut self)
         requires many { length self.old.refused ≡ length self.old.due }
         ensures due { StayMarked self.old.due self.new.due }
@@ -114,8 +114,8 @@ impl Due {
         }
     }
 
-    /// Makes a replacement that was chosen at a site, and lets the places be due at which others may be possible now: those whose windows reach into the site's
-    /// window, those whose windows end where items are live no more, and those at which an entry was refused.
+    /// Makes a replacement that was chosen at a site, and marks as due the places at which others may be possible now: those whose windows reach into the
+    /// site's window, those whose windows end where items aren't live any more, and those at which an entry was refused.
     fn make(
         &mut self,
         rules: &Rules<'_>,
@@ -144,8 +144,8 @@ impl Due {
         Ok(())
     }
 
-    /// Looks at the site of a place that was taken, before which none is due, and makes the best replacement there, if there is one. `reached` is how many
-    /// instructions the longest left side may have that stands there.
+    /// Looks at the site of a place that was taken from the due ones, none of which is before it, and makes the best replacement there, if there is one. No
+    /// left side of more than `reached` instructions stands there.
     fn try_site<L: Ledger>(
         &mut self,
         alloc: Global,
@@ -191,7 +191,7 @@ impl Due {
         }
     }
 
-    /// Looks at a kept place that was taken, before which none is due, and makes the best replacement there, if there is one.
+    /// Looks at a kept place that was taken from the due ones, none of which is before it, and makes the best replacement there, if there is one.
     fn try_at<L: Ledger>(
         &mut self,
         alloc: Global,

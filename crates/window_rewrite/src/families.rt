@@ -35,7 +35,7 @@ fn byte_of(instr: &Instr) -> Option<Byte>
     }
 }
 
-/// The value with which an entry's left side may be another side: what this has in the first place of the number.
+/// The value of a family's number with which an entry's left side may be `side`: what `side` has at the first hole of the left side.
 fn value_at(number: u32, left: &[Instr], side: &[Instr]) -> Option<Byte>
     ensures { (x : Byte) → list_any (is_hole number) left.now ≡ true → instance number left.now x ≡ side.now → result ≡ Some x }
 {
@@ -59,7 +59,7 @@ fn value_at(number: u32, left: &[Instr], side: &[Instr]) -> Option<Byte>
 struct Instance {
     /// Its sides and its mask.
     rule: Entry,
-    /// How far the number's value is above the least.
+    /// How far the number's value is above the least of the range.
     number: u8,
 }
 
@@ -81,7 +81,7 @@ fn instance_with(alloc: Global, family: &Family, entry: &Entry, value: Byte) -> 
     }
 }
 
-/// The instance whose left side may be this one.
+/// The one instance whose left side may be this one, if its value is in the range.
 fn instance_at(alloc: Global, family: &Family, entry: &Entry, side: &[Instr]) -> Option<Instance>
     requires bytes { family.now.high ≤ 255 }
     requires held { list_any (is_hole family.now.number) entry.now.left ≡ true }
@@ -106,8 +106,8 @@ fn entry_raised<'a>(entries: &'a [Entry], family: &Family) -> &'a Entry
     &entries[family.entry as usize - 1]
 }
 
-/// What the family of a number makes of a window, where its entry's left side is as long. `refused` comes to be true where an instance fits and what it leaves is
-/// refused.
+/// The choice by the family of a number at a window, if an instance of it applies there. `refused` becomes true where an instance fits and the lines that it
+/// would leave are refused.
 fn try_family<L: Ledger>(
     alloc: Global,
     sight: &Sight<'_>,
@@ -143,14 +143,14 @@ fn try_family<L: Ledger>(
     }
 }
 
-/// The number of a window's canonical form, of which this is told, with 0 for 8-bit numbers.
+/// The hash of a window's canonical form with 0 for 8-bit numbers.
 fn hidden_of(form: &Form) -> usize
     ensures { result ≡ form_of (map blind form.now.side) }
 {
     form_of(blind_all(form.side.as_slice()).as_slice())
 }
 
-/// The first family whose left side may stand in a window, of which this is told: the numbers that its holes have aside.
+/// The first family in the chain of a window's canonical form: its left side may stand in the window, 8-bit numbers aside.
 fn first_number(rules: &Rules<'_>, form: &Form) -> Option<usize>
     requires { AreReady rules.now }
     ensures { AwaitsFamily rules.now form.now.side 0 result }

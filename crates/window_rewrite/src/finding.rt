@@ -31,7 +31,7 @@ use std::alloc::Global;
 use step_ledger::{Ledger, Steps};
 use thumb_instr::{Instr, Items, Low, Seq};
 
-/// A table as the finder goes by it.
+/// A table with its index, as the search for replacements uses it.
 #[derive(Drop)]
 pub(crate) struct Rules<'a> {
     pub(crate) entries: &'a [Entry],
@@ -45,7 +45,7 @@ pub(crate) struct Rules<'a> {
     pub(crate) base: u32,
 }
 
-/// A look by a table at a place of a listing that is rewritten.
+/// A search by a table at one place of a listing that is rewritten.
 #[derive(Drop)]
 pub(crate) struct Look<'a> {
     pub(crate) rules: &'a Rules<'a>,
@@ -53,7 +53,7 @@ pub(crate) struct Look<'a> {
     pub(crate) site: &'a Site,
 }
 
-/// A window at the place of a look, and what is told of it.
+/// A window at the place of a look, with its form.
 #[derive(Drop)]
 pub(crate) struct Sight<'a> {
     pub(crate) look: &'a Look<'a>,
@@ -64,8 +64,8 @@ pub(crate) struct Sight<'a> {
 /// How many lines a listing has at most.
 const MOST_LINES: usize = 262_144;
 
-/// Whether the lines that are left are not too many where a window at the place gives way to no more instructions. They are more than before where as many come,
-/// and labels stand on the line of the window's first instruction: these keep a line of their own.
+/// Whether the lines that are left are not too many where a window at the place gives way to as many instructions or fewer. There is one line more than before
+/// where as many come and labels stand on the line of the window's first instruction, since these get a line of their own.
 fn has_room(look: &Look<'_>, window: &[Instr], new: &[Instr]) -> bool
     requires look { IsLook look.now }
     requires window { IsWindow (lines_seen look.now) (number_seen look.now) window.now }
@@ -79,7 +79,7 @@ fn has_room(look: &Look<'_>, window: &[Instr], new: &[Instr]) -> bool
     after <= listing.line_count().max(MOST_LINES)
 }
 
-/// A layout that stays as it is.
+/// The move of a layout that stays as it is.
 fn unmoved(alloc: Global) -> Move {
     Move {
         at: Vec::new(alloc),
@@ -87,8 +87,8 @@ fn unmoved(alloc: Global) -> Move {
     }
 }
 
-/// How the layout moves where a window at the place gives way to no more instructions: none where the lines that are left are too many or can't be laid out.
-/// Nothing moves where as many come, nor where no layout is kept.
+/// How the layout moves where a window at the place gives way to as many instructions or fewer. None where the lines that are left are too many or can't be
+/// laid out. Nothing moves where as many come, nor where no layout is kept.
 fn moved_layout(
     alloc: Global,
     look: &Look<'_>,
@@ -154,8 +154,8 @@ fn choice_at(
     }
 }
 
-/// What a rule makes of a window that is as long as its left side. It is an entry, or an instance of a family with the sides and the mask of this one. `refused`
-/// comes to be true where the rule fits and the lines that it leaves are too many or can't be laid out.
+/// The choice by a rule at a window as long as its left side, if the rule applies there. The rule is an entry, or an instance of a family, given as an entry
+/// with its sides and mask. `refused` becomes true where it fits, but would leave too many lines, or lines that can't be laid out.
 pub(crate) fn try_rule<L: Ledger>(
     alloc: Global,
     sight: &Sight<'_>,
@@ -203,7 +203,7 @@ pub(crate) fn try_rule<L: Ledger>(
     Ok(Some(choice_at(sight, entry, instance, &registers, new, moved)))
 }
 
-/// What the entry of a number makes of a window, where its left side is as long. `refused` comes to be true where the entry fits and what it leaves is refused.
+/// The choice by the entry of a number at a window, if it applies there. `refused` becomes true where it fits and the lines that it would leave are refused.
 fn try_entry<L: Ledger>(
     alloc: Global,
     sight: &Sight<'_>,
@@ -228,7 +228,7 @@ fn try_entry<L: Ledger>(
     try_rule(alloc, sight, entry, number as u64 + 1, 0, refused, steps)
 }
 
-/// The first entry that is kept and whose left side may stand in a window, of which this is told.
+/// The first entry that is kept and whose left side may stand in the window of this form. `_window` is for the contract alone.
 fn first_number(rules: &Rules<'_>, _window: &[Instr], form: &Form) -> Option<usize>
     requires ready { AreReady rules.now }
     requires form { IsForm _window.now form.now }
@@ -319,8 +319,8 @@ fn lowest<L: Ledger>(
     }
 }
 
-/// The best entry or family at the place: of those that apply there the lowest with the longest left side. `reached` is how many instructions the longest left
-/// side may have that stands there. `refused` comes to be true where one fits and what it leaves is refused.
+/// The choice by the best entry or family at the place: of those that apply there the lowest with the longest left side. No left side of more than `reached`
+/// instructions stands there. `refused` becomes true where one fits and the lines that it would leave are refused.
 pub(crate) fn best<L: Ledger>(
     alloc: Global,
     look: &Look<'_>,

@@ -1,5 +1,5 @@
-//! Whether an entry fits a window, as far as the window and the live items tell. A window's canonical form has its registers: an entry stands in it just where its
-//! left side is that form, and then with these.
+//! Whether an entry fits a window, by the window and the live items alone. An entry stands in a window exactly where its left side is the window's canonical
+//! form, and then under the map of registers that comes with that form.
 ghost use Rattle.std.specs.Prelude.{◌≤◌, List, length, MatchOption};
 ghost use Rattle.thumb_instr.specs.Window.{Low as LowRegister};
 ghost use Rattle.rule_model.specs.Rules.{IsSoundRule};
@@ -14,8 +14,8 @@ use arrayvec::ArrayVec;
 use rule_table::Entry;
 use thumb_instr::Low;
 
-/// The registers in place of an entry's own with which it fits the window that is seen: behind those of the left side the least scratch register that is free, if
-/// the entry needs one. None where it fits with none.
+/// The registers with which an entry fits the window of a sight, in place of the entry's own: those of its left side, then the least scratch register that is
+/// free, if the entry needs one. None where no registers make it fit.
 pub(crate) fn fitting(sight: &Sight<'_>, entry: &Entry) -> Option<ArrayVec<Low, 8>>
     requires form { IsForm sight.now.window.now sight.now.form.now }
     requires sound { IsSoundRule (entry_rule entry.now) }

@@ -1,4 +1,4 @@
-//! What of a window tells which entries may fit it: its canonical form and a number of that, and the items that are live after it, by the names of that form.
+//! What is needed of a window to find the entries that may fit it: its canonical form with a hash, and the items live after it, also by that form's names.
 ghost use Rattle.std.specs.Prelude.{◌≡◌, ◌<◌, ◌↔◌, ℕ, List, map, true, IfOk, IfSome, IfNone};
 ghost use Rattle.std.specs.List.{list_all};
 ghost use Rattle.thumb_instr.specs.Items.{has};
@@ -21,21 +21,21 @@ use std::alloc::Global;
 use table_audit::entry_at;
 use thumb_instr::{Instr, Items, Low, Mask, Seq, parts};
 
-/// What of a window tells which entries may fit it.
+/// What is needed of a window to find the entries that may fit it.
 #[derive(Drop)]
 pub(crate) struct Form {
-    /// The left side of each rule that stands in the window, and its number.
+    /// The canonical form of the window, which is the left side of each rule that stands there, and its hash.
     pub(crate) side: Seq,
     pub(crate) number: usize,
     /// The window's registers in place of the side's.
     pub(crate) registers: ArrayVec<Low, 8>,
     /// The items that are live after it.
     pub(crate) live: Items,
-    /// Those of them that the mask of an entry has just where it fits, by its own names for registers.
+    /// Those of them that an entry's mask must have for it to fit: flags, and the window's registers by the names of the canonical form.
     pub(crate) mask: Mask,
 }
 
-/// The number of an instruction with its registers.
+/// A number of one instruction, which depends on its registers too.
 fn instr_number(instr: &Instr) -> usize
     ensures value { result ≡ instr_number instr.now }
     ensures small { result < 4928494698496 }
@@ -45,7 +45,7 @@ fn instr_number(instr: &Instr) -> usize
     37 * operands + rank(parts.kind).unwrap_or(0)
 }
 
-/// The number of instructions where another stands behind those that have this one.
+/// The hash of instructions and one more after them, from the hash of the former.
 fn next_form(form: usize, instr: &Instr) -> usize
     requires { form < 65536 }
     ensures value { result ≡ next_form form instr.now }
@@ -54,7 +54,7 @@ fn next_form(form: usize, instr: &Instr) -> usize
     (form * 1283 + instr_number(instr)) % HASHES
 }
 
-/// The number of instructions with their registers.
+/// The hash of instructions, which depends on their registers too.
 pub(crate) fn form_of(instrs: &[Instr]) -> usize
     ensures value { result ≡ form_of instrs.now }
     ensures small { result < 65536 }
@@ -66,7 +66,7 @@ pub(crate) fn form_of(instrs: &[Instr]) -> usize
     form
 }
 
-/// The numbers of the left sides of entries.
+/// The hashes of the left sides of entries.
 pub(crate) fn left_forms(alloc: Global, entries: &[Entry]) -> Result<Vec<usize>, Memory>
     ensures { IfOk result (λ forms. forms.items ≡ left_forms (rules_in entries.now)) }
 {
@@ -77,7 +77,7 @@ pub(crate) fn left_forms(alloc: Global, entries: &[Entry]) -> Result<Vec<usize>,
     Ok(forms)
 }
 
-/// The number of the left side of the entry that a family raises, with 0 for 8-bit numbers.
+/// The hash of the left side of the entry that a family raises, with 0 for 8-bit numbers.
 fn raised_form(entries: &[Entry], family: &Family) -> usize
     ensures { result ≡ raised_form (entry_at (map rule_of entries.now) family.now.entry) }
 {
@@ -87,7 +87,7 @@ fn raised_form(entries: &[Entry], family: &Family) -> usize
     }
 }
 
-/// Those of families.
+/// These hashes of families.
 pub(crate) fn raised_forms(
     alloc: Global,
     entries: &[Entry],
@@ -103,7 +103,7 @@ pub(crate) fn raised_forms(
 }
 
 impl Form {
-    /// The form of a window after which these items are live: none where no left side stands in it.
+    /// The form of a window after which these items are live: None only where no left side can stand in it.
     pub(crate) fn of(window: &[Instr], live: Items) -> Option<Form>
         requires { list_all is_in_window window.now ≡ true }
         ensures none { IfNone result ((rule : Rule) (registers : List LowRegister) → IsSoundRule rule → IsCanonicalSide rule.left → Stands rule registers window.now → ⊥) }
@@ -125,7 +125,7 @@ impl Form {
         }
     }
 
-    /// Whether the mask of an entry has all that it must have.
+    /// Whether the mask of an entry has all items that it must have for the entry to fit.
     pub(crate) fn may_fit(&self, mask: Mask) -> bool
         ensures { (result ≡ true) ↔ ((x : ℕ) → has self.now.mask.items.bits x ≡ true → has mask.items.bits x ≡ true) }
     {

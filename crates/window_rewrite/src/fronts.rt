@@ -1,5 +1,5 @@
-//! What the marks tell of a run: how long the left sides may be that stand first in it. Those of entries are marked as they are, but for registers, and those of
-//! families with 0 for 8-bit numbers too. Where a table has no families these aren't asked for.
+//! A bound, by the marks, on the length of the left sides that a run of instructions may begin with. Left sides of entries are marked with registers ignored,
+//! those of families also with 0 for 8-bit numbers. Where a table has no families their marks aren't asked.
 ghost use Rattle.std.specs.Prelude.{◌≡◌, ◌≤◌, ◌<◌, ℕ, List, length, map, true, false, Some, if◌then◌else◌};
 ghost use Rattle.window_runs.specs.declared.rows.WindowPlace.{WindowPlace};
 ghost use Rattle.window_runs.specs.Runs.{instr_at, run};
@@ -13,7 +13,7 @@ use crate::hashes::{hash_of, next_hash, seen};
 use crate::marks::Marks;
 use thumb_instr::Instr;
 
-/// Whether a side that is marked may begin with an instruction.
+/// Whether a side that is marked may begin with this instruction.
 fn may_begin_in(marks: &Marks, hidden: bool, first: Instr) -> bool
     requires { AreMany marks.now }
     ensures { result ≡ false → (rows : List WindowPlace) → Some first ≡ instr_at true rows → (most : ℕ) → NoneMarked marks.now hidden (run true most rows) 0 }
@@ -21,7 +21,7 @@ fn may_begin_in(marks: &Marks, hidden: bool, first: Instr) -> bool
     marks.has_front(next_hash(0, &seen(hidden, first)))
 }
 
-/// Whether some left side may begin with an instruction that a run begins with, but for registers. Where there is none or none may, no rule whose right side
+/// Whether some left side may begin with the first instruction of a run, registers aside; false of an empty run. Where it is false, no rule whose right side
 /// weighs less stands first in the run.
 pub(crate) fn may_begin(rules: &Rules<'_>, first: Option<Instr>) -> bool
     requires ready { AreReady rules.now }
@@ -41,7 +41,7 @@ pub(crate) fn may_begin(rules: &Rules<'_>, first: Option<Instr>) -> bool
     }
 }
 
-/// The count of instructions that have a number, if they may be a marked side, but for registers; or else that of others.
+/// `count` if a marked side may have this hash, else `other`.
 fn longest_of(marks: &Marks, hash: usize, count: usize, other: usize) -> usize
     requires many { AreMany marks.now }
     requires small { hash < 65536 }
@@ -50,7 +50,7 @@ fn longest_of(marks: &Marks, hash: usize, count: usize, other: usize) -> usize
     if marks.has_whole(hash) { count } else { other }
 }
 
-/// How many instructions the longest marked side may have that stands first in a run, but for registers; 0 where there is none.
+/// How many instructions a marked side that a run begins with may have at most, registers aside; 0 where there is none.
 fn reach_in(marks: &Marks, hidden: bool, run: &[Instr]) -> usize
     requires { AreMany marks.now }
     ensures within { result ≤ length run.now }
@@ -68,8 +68,8 @@ fn reach_in(marks: &Marks, hidden: bool, run: &[Instr]) -> usize
     reached
 }
 
-/// How many instructions the longest left side may have that stands first in a run, but for registers; 0 where there is none. No rule whose right side
-/// weighs less has a longer left side that stands first in the run.
+/// How many instructions a left side that a run begins with may have at most, registers aside; 0 where there is none. No rule whose right side weighs less has
+/// a longer left side that stands first in the run.
 pub(crate) fn reach(rules: &Rules<'_>, run: &[Instr]) -> usize
     requires ready { AreReady rules.now }
     ensures within { result ≤ length run.now }
@@ -83,7 +83,7 @@ pub(crate) fn reach(rules: &Rules<'_>, run: &[Instr]) -> usize
     own.max(raised)
 }
 
-/// Whether an instance of a family may stand in a window, but for registers and 8-bit numbers.
+/// Whether an instance of a family may stand in a window, registers and 8-bit numbers aside.
 fn may_raise(rules: &Rules<'_>, window: &[Instr]) -> bool
     requires ready { AreReady rules.now }
     ensures { result ≡ false → NoneStands rules.now.costs.now (families_in (map rule_of rules.now.entries.now) (map family_of rules.now.families.now)) window.now }
@@ -94,7 +94,7 @@ fn may_raise(rules: &Rules<'_>, window: &[Instr]) -> bool
     rules.index.holes.has_whole(hash_of(true, window))
 }
 
-/// Whether a rule may stand in a window, but for registers and, of families, 8-bit numbers.
+/// Whether a rule may stand in a window, registers and, of families, 8-bit numbers aside.
 pub(crate) fn may_stand(rules: &Rules<'_>, window: &[Instr]) -> bool
     requires ready { AreReady rules.now }
     ensures { result ≡ false → NoneStands rules.now.costs.now (table_in rules.now) window.now }

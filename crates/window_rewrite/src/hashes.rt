@@ -1,11 +1,11 @@
-//! Numbers that instructions share with all that differ from them in registers alone.
+//! Hashes of instruction sequences that ignore registers: the index rejects most windows by them, before anything is renamed.
 ghost use Rattle.std.specs.Prelude.{◌≡◌, ◌<◌, ◌≤◌, length, map};
 ghost use Rattle.window_rewrite.specs.Hashes.{blind, head_number, next_hash, number_in, seen, hash_of};
 
 use seq_enum::rank;
 use thumb_instr::{Byte, Instr, Seq, normal, parts};
 
-/// How many numbers of sequences there are.
+/// How many values a hash of a sequence can have.
 pub(crate) const HASHES: usize = 65_536;
 
 /// The number that stands in an instruction of windows beside its registers, or 0.
@@ -22,7 +22,7 @@ fn number_in(instr: &Instr) -> usize
     }
 }
 
-/// The number of an instruction of windows alone: one for each mnemonic and each number that stands in it.
+/// The number of one instruction of windows: different for each mnemonic and each number that stands in it.
 fn head_number(instr: &Instr) -> usize
     ensures value { result ≡ head_number instr.now }
     ensures small { result < 9472 }
@@ -30,7 +30,7 @@ fn head_number(instr: &Instr) -> usize
     37 * number_in(instr) + rank(parts(instr).kind).unwrap_or(0)
 }
 
-/// The number of instructions where another stands behind those that have this one.
+/// The hash of instructions and one more after them, from the hash of the former.
 pub(crate) fn next_hash(hash: usize, instr: &Instr) -> usize
     requires { hash < 65536 }
     ensures value { result ≡ next_hash hash instr.now }
@@ -69,7 +69,7 @@ pub(crate) fn blind_all(instrs: &[Instr]) -> Seq
     seq
 }
 
-/// An instruction in its normal form, with its 8-bit number or with 0 for it.
+/// An instruction in its normal form; if `hidden`, with 0 for its 8-bit number.
 pub(crate) fn seen(hidden: bool, instr: Instr) -> Instr
     ensures { result ≡ seen hidden instr }
 {
@@ -80,7 +80,7 @@ pub(crate) fn seen(hidden: bool, instr: Instr) -> Instr
     }
 }
 
-/// The number of a window's instructions, each in its normal form, with its 8-bit number or with 0 for it.
+/// The hash of a window's instructions, each in its normal form; if `hidden`, with 0 for its 8-bit number.
 pub(crate) fn hash_of(hidden: bool, window: &[Instr]) -> usize
     ensures value { result ≡ hash_of (map (seen hidden) window.now) }
     ensures small { result < 65536 }

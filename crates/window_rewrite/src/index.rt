@@ -12,19 +12,19 @@ use rule_table::{Entry, Family};
 use seq_enum::Costs;
 use std::alloc::Global;
 
-/// The rules whose right sides weigh less: marks that reject most windows, and for the others the rules by their left sides.
+/// Marks of the rules whose right sides weigh less, which reject most windows, and for the others chains of rules by their left sides.
 #[derive(Drop)]
 pub(crate) struct RuleIndex {
     pub(crate) marks: Marks,
     /// Marks of the families, by left sides with 0 for 8-bit numbers.
     pub(crate) holes: Marks,
-    /// The entries that are kept, by the numbers of their left sides.
+    /// The entries that are kept, by the hashes of their left sides.
     pub(crate) entries: Chains,
-    /// All families, by the numbers of their left sides with 0 for 8-bit numbers.
+    /// All families, by the hashes of their left sides with 0 for 8-bit numbers.
     pub(crate) families: Chains,
 }
 
-/// The entries that are kept by the numbers of their left sides.
+/// The entries that are kept, in chains by the hashes of their left sides.
 fn entry_chains(alloc: Global, costs: &Option<Costs>, entries: &[Entry]) -> Result<Chains, Memory>
     ensures chains { IfOk result (AreChains (left_forms (rules_in entries.now)) 0) }
     ensures led { IfOk result (λ chains. AreLed costs.now (rules_in entries.now) chains.kept.items (length (rules_in entries.now))) }
@@ -34,7 +34,7 @@ fn entry_chains(alloc: Global, costs: &Option<Costs>, entries: &[Entry]) -> Resu
     Chains::of(alloc, kept, &forms)
 }
 
-/// All families by the numbers of their left sides with 0 for 8-bit numbers.
+/// All families, in chains by the hashes of their left sides with 0 for 8-bit numbers.
 fn family_chains(alloc: Global, entries: &[Entry], families: &[Family]) -> Result<Chains, Memory>
     ensures chains { IfOk result (AreChains (raised_forms (map rule_of entries.now) (map family_of families.now)) 0) }
     ensures all { IfOk result (λ chains. chains.kept.items ≡ replicate (length families.now) true) }

@@ -1,14 +1,14 @@
-//! What is known of the layouts of the lines that are rewritten.
+//! The layout of the lines that are rewritten. None is kept of a steady listing, since each listing that replacements make of it can be laid out.
 
 use kept_layout::{KeptLayout, Move};
 use listing_parser::{Listing, Memory};
 use std::alloc::Global;
 use thumb_instr::Instr;
 
-/// What is known of the layouts of the lines that are rewritten.
+/// What is known of the layout of the lines that are rewritten.
 #[derive(Drop)]
 pub(crate) struct KnownLayout {
-    /// The layout of the lines, where it has to be asked for each replacement: none, where each listing that comes of them by replacements can be laid out.
+    /// The layout of the lines, where it has to be asked for each replacement; None where they are steady.
     pub(crate) kept: Option<KeptLayout>,
 }
 
@@ -22,7 +22,7 @@ impl KnownLayout {
     ghost use Rattle.window_rewrite.specs.Layouts.{is_steady, Allows, HasLayout, StandsNear};
     ghost use Rattle.thumb_model.specs.Replaced.{IsWindow};
 
-    /// The layout of a listing that can be laid out from the base, where that is not `steady`. It stands at the first place.
+    /// The layout of a listing that can be laid out from the base, kept unless `steady`. It is positioned at the first place.
     pub(crate) fn of(
         alloc: Global,
         listing: &Listing,
@@ -41,7 +41,7 @@ impl KnownLayout {
         Ok(KnownLayout { kept: Some(kept) })
     }
 
-    /// Moves to a place.
+    /// Positions the layout at a place, given by its number now.
     pub(crate) fn go_to(&mut self, place: usize)
         requires { IfSome self.old.kept IsLaid }
         ensures steady { is_steady self.new ≡ is_steady self.old }
@@ -53,8 +53,8 @@ impl KnownLayout {
         }
     }
 
-    /// Lets a window at which it stands give way to no more instructions, by which the layout moves so, and which leaves lines that can be laid out. Nothing moves
-    /// where as many come.
+    /// Replaces the window at which the layout is positioned by as many instructions or fewer. The layout moves by `moved`, and the lines that are left can be
+    /// laid out. Nothing moves where as many come.
     pub(crate) fn give_way(
         &mut self,
         window: &[Instr],

@@ -1,4 +1,4 @@
-//! Marks of numbers that left sides share with all that differ from them in registers alone.
+//! Marks of the hashes of the left sides that are looked for, registers ignored: none of these stands in a window whose hash isn't marked.
 ghost use Rattle.std.specs.Prelude.{◌≡◌, ◌+◌, ◌<◌, ℕ, length, map, slice_get, Some, true, IfOk};
 ghost use Rattle.rule_model.specs.Rules.{Rule, alone};
 ghost use Rattle.rule_table.specs.Views.{family_of, rule_of};
@@ -16,16 +16,16 @@ use std::alloc::Global;
 use table_audit::entry_at;
 use thumb_instr::Instr;
 
-/// Which numbers the left sides have of the rules whose right sides weigh less.
+/// Which hashes the left sides have of the rules whose right sides weigh less.
 #[derive(Drop)]
 pub(crate) struct Marks {
-    /// Whether a left side may have a number.
+    /// For each hash, whether a left side may have it.
     wholes: Vec<bool>,
-    /// Whether one may begin with instructions that have it.
+    /// For each hash, whether a left side may begin with instructions that have it.
     fronts: Vec<bool>,
 }
 
-/// Marks a number.
+/// Marks a hash.
 fn mark(marks: &mut Vec<bool>, hash: usize)
     requires many { length marks.old.items ≡ 65536 }
     requires small { hash < 65536 }
@@ -36,7 +36,7 @@ fn mark(marks: &mut Vec<bool>, hash: usize)
     marks[hash] = true;
 }
 
-/// Marks the fronts of a left side. The number of its instructions.
+/// Marks the hashes of a left side's prefixes, and returns the hash of the whole side.
 pub(crate) fn mark_fronts(marks: &mut Vec<bool>, left: &[Instr]) -> usize
     requires { length marks.old.items ≡ 65536 }
     ensures many { length marks.new.items ≡ 65536 }
@@ -135,7 +135,7 @@ impl Marks {
         }
     }
 
-    /// Whether some left side may have this number.
+    /// Whether some left side may have this hash.
     pub(crate) fn has_whole(&self, hash: usize) -> bool
         requires many { AreMany self.now }
         requires small { hash < 65536 }
@@ -144,7 +144,7 @@ impl Marks {
         self.wholes[hash]
     }
 
-    /// Whether some left side may begin with instructions of this number.
+    /// Whether some left side may begin with instructions of this hash.
     pub(crate) fn has_front(&self, hash: usize) -> bool
         requires many { AreMany self.now }
         requires small { hash < 65536 }

@@ -1,4 +1,4 @@
-//! Registers in a map: those of a window's canonical form come in one, and what stands in the list of replacements is one of eight.
+//! Lists of registers and register maps, each made of the other: a canonical form comes with a map, and a replacement is reported with a map of eight.
 ghost use Rattle.std.specs.Prelude.{◌≡◌, ◌+◌, ◌<◌, ◌≤◌, [], ◌∷◌, ◌++◌, length};
 ghost use Rattle.window_rewrite.specs.TableRewriting.{map_of, registers_of};
 
@@ -6,7 +6,7 @@ use arrayvec::ArrayVec;
 use rule_table::Map;
 use thumb_instr::Low;
 
-/// Puts what a map gives behind the registers, if it is one.
+/// Appends what a map gives, if that is a register.
 fn add_given(registers: &mut ArrayVec<Low, 8>, given: Option<Low>)
     requires { length registers.old.items < 8 }
     ensures registers { registers.new.items ≡ registers.old.items ++ registers_of (given ∷ []) }
@@ -29,7 +29,7 @@ pub(crate) fn registers_of(map: &Map) -> ArrayVec<Low, 8>
     registers
 }
 
-/// The map of eight that has these registers in place of r0, r1 and so on, and none in place of those behind.
+/// The map of eight that has these registers in place of r0, r1 and so on, and none in place of the rest.
 pub(crate) fn map_to(registers: &[Low]) -> Map
     requires { length registers.now ≤ 8 }
     ensures { result ≡ map_of 8 registers.now }

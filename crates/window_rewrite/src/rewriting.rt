@@ -47,9 +47,9 @@ fn judge(alloc: Global, listing: &Listing, base: u32) -> Result<bool, RewriteErr
     Ok(false)
 }
 
-/// Rewrites a listing by an accepted table, for an image that begins at the base: at the least place where some entry or family applies, the one with the longest
-/// left side, then an entry before a family, then the lowest, until none applies. What is left runs as the given listing does. One that cannot be laid out from the base is refused at its first
-/// such line.
+/// Rewrites a listing by an accepted table, for an image that begins at the base: at the least place where some entry or family applies, the one with the
+/// longest left side, then an entry before a family, then the lowest, until none applies. What is left runs as the given listing does. A listing that cannot be
+/// laid out from the base is refused at its first such line.
 ///
 /// A step is a match tried, or a visit of a place for its live items: at least one for each replacement, and one for each place.
 pub fn rewrite<L: Ledger>(

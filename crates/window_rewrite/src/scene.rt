@@ -28,7 +28,7 @@ use std::alloc::Global;
 use step_ledger::{Ledger, Steps};
 use thumb_instr::{Instr, Items};
 
-/// A listing that is rewritten. Its places keep their numbers; one that is left over is gone.
+/// A listing that is rewritten. Its places keep their numbers; one that a shorter right side leaves over is gone.
 #[derive(Drop)]
 pub(crate) struct Scene {
     pub(crate) listing: EditedListing,
@@ -37,7 +37,7 @@ pub(crate) struct Scene {
     pub(crate) layout: KnownLayout,
 }
 
-/// A kept place, as a window begins there.
+/// A kept place at which windows may begin.
 #[derive(Drop)]
 pub(crate) struct Site {
     /// Its number in the listing as it was given.
@@ -46,11 +46,11 @@ pub(crate) struct Site {
     pub(crate) number: u32,
     /// The instructions from there on that may stand in a window, and their places.
     pub(crate) run: Run,
-    /// Whether each code label stays code where all of these go and none comes.
+    /// Whether each code label stays code where all of these go and no instruction comes.
     pub(crate) may_vanish: bool,
 }
 
-/// Whether each code label stays code where so many instructions from a kept place on go and none comes: no label stands there, or an instruction behind.
+/// Whether each code label stays code where `count` instructions from a kept place on go and none comes: no label stands there, or an instruction follows them.
 fn may_vanish(listing: &mut EditedListing, place: u32, count: u32) -> bool
     requires within { place < length listing.old.stands }
     requires kept { is_gone (marks listing.old) place ≡ false }
@@ -105,7 +105,7 @@ impl Scene {
         self.listing.run(place, usize::from(rules.longest))
     }
 
-    /// What a window sees that begins at a kept place, from which this run goes on. The layout, where one is kept, stands there then.
+    /// The site at a kept place from which this run goes on. The layout, where one is kept, is positioned there then.
     pub(crate) fn site(&mut self, rules: &Rules<'_>, place: u32, run: Run) -> Site
         requires over { IsOver rules.now self.old }
         requires within { place < length self.old.listing.stands }
@@ -131,7 +131,7 @@ impl Scene {
         }
     }
 
-    /// The items that are live after the first instructions of a site's run, so many of them.
+    /// The items that are live after the first `count` instructions of a site's run.
     pub(crate) fn live_after(&self, rules: &Rules<'_>, site: &Site, count: usize) -> Items
         requires kept { IsKept self.now }
         requires site { IsSite rules.now.longest self.now site.now }
@@ -148,7 +148,7 @@ impl Scene {
         }
     }
 
-    /// Whether each code label stays code where the first instructions of a site's run, so many of them, give way to others.
+    /// Whether each code label stays code where the first `count` instructions of a site's run give way to others.
     pub(crate) fn is_settled(
         &self,
         rules: &Rules<'_>,

@@ -12,7 +12,7 @@ use rule_table::{Entry, free_scratch};
 use table_audit::register_count;
 use thumb_instr::{Items, Low};
 
-/// Whether an entry's right side names a register that its left side, which names so many, doesn't.
+/// Whether an entry's right side names a register more than its left side, which names `named` registers.
 pub(crate) fn needs_scratch(entry: &Entry, named: u64) -> bool
     requires { named ≡ register_count entry.now.left }
     ensures { result ≡ needs_scratch (entry_rule entry.now) }
@@ -20,8 +20,8 @@ pub(crate) fn needs_scratch(entry: &Entry, named: u64) -> bool
     named < register_count(entry.right.as_slice())
 }
 
-/// All registers of an entry whose left side has these, where these items are live after the window: behind them the least scratch register that is free, if the
-/// entry needs one. None where none is.
+/// All registers of an entry whose left side has the registers `own`: these, then, if the entry needs one, the least scratch register that is free where the
+/// items `live` are live after the window. None where it needs one and none is free.
 pub(crate) fn with_scratch(entry: &Entry, own: &[Low], live: Items) -> Option<ArrayVec<Low, 8>>
     requires sound { IsSoundRule (entry_rule entry.now) }
     requires own { length own.now ≡ register_count entry.now.left }

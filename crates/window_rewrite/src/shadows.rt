@@ -1,6 +1,6 @@
-//! Which entries of a table are looked for: those whose right side weighs less than their left side. One that has the left side and the mask of an earlier one of
-//! these and a right side as long is never the first that applies, unless the earlier one alone needs a scratch register: where it fits, so does the earlier one,
-//! and the lines and their layout see only how many instructions go. It is shadowed.
+//! Which entries of a table are looked for: those whose right side weighs less than their left side. One that has the left side and the mask of an earlier one
+//! of these and a right side as long is never the first that applies, unless the earlier one alone needs a scratch register: where it fits, so does the earlier
+//! one, and the lines and their layout see only how many instructions go. It is shadowed.
 ghost use Rattle.std.specs.Prelude.{◌≡◌, ◌+◌, ◌*◌, ◌/◌, ◌%◌, ◌<◌, length, slice_get, Some, true, IfOk};
 ghost use Rattle.std.specs.List.{list_all};
 ghost use Rattle.thumb_instr.specs.Window.{is_in_window};
@@ -24,7 +24,7 @@ pub(crate) fn is_lighter(costs: &Option<Costs>, entry: &Entry) -> bool
     weight(costs, &entry.right) < weight(costs, &entry.left)
 }
 
-/// Whether an instruction that may stand in a window is another.
+/// Whether two instructions are the same; false where the first may not stand in a window.
 fn is_same(instr: &Instr, other: &Instr) -> bool
     ensures same { result ≡ true → instr.now ≡ other.now }
     ensures all { is_in_window instr.now ≡ true → instr.now ≡ other.now → result ≡ true }
@@ -43,7 +43,7 @@ fn is_same(instr: &Instr, other: &Instr) -> bool
     own.third == others.third
 }
 
-/// Whether a side whose instructions may stand in windows is another.
+/// Whether two sides are the same; false where an instruction of the first may not stand in a window.
 pub(crate) fn are_same(side: &[Instr], other: &[Instr]) -> bool
     ensures same { result ≡ true → side.now ≡ other.now }
     ensures all { list_all is_in_window side.now ≡ true → side.now ≡ other.now → result ≡ true }
@@ -78,7 +78,7 @@ fn are_alike(entry: &Entry, other: &Entry) -> bool
     needs_scratch(other, named)
 }
 
-/// Whether an entry is alike to a later one, by their numbers.
+/// Whether an earlier entry is alike to a later one; both are given by their index from 0.
 fn leads(entries: &[Entry], earlier: usize, number: usize) -> bool
     requires earlier { earlier < length entries.now }
     requires within { number < length entries.now }
@@ -87,7 +87,7 @@ fn leads(entries: &[Entry], earlier: usize, number: usize) -> bool
     are_alike(&entries[earlier], &entries[number])
 }
 
-/// A number that entries share which are alike.
+/// A hash that is the same for entries that are alike.
 fn number_of(entry: &Entry) -> usize
     ensures { result ≡ form_of entry.now.left + 6 * (entry.now.mask.items.bits % 16 + entry.now.mask.items.bits / 2048) + length entry.now.right }
 {
@@ -96,18 +96,18 @@ fn number_of(entry: &Entry) -> usize
     form_of(entry.left.as_slice()) + 6 * mask + entry.right.len()
 }
 
-/// The first entries of a table, as far as they are looked at.
+/// Which of the entries that were looked at so far are kept.
 #[derive(Drop)]
 pub(crate) struct KeptEntries {
     /// Whether an entry is kept.
     kept: Vec<bool>,
-    /// Of the entries that are kept the last one for each remainder of their numbers by how many entries there are, and of each of these the one before it.
+    /// The kept entries in chains by their hash modulo how many entries there are: the last one of each chain, and for each kept entry the one before it.
     lasts: Vec<Option<usize>>,
     earlier: Vec<Option<usize>>,
 }
 
 impl KeptEntries {
-    /// Where the last entry stands that is kept and may be alike.
+    /// The chain of the kept entries that may be alike to this one.
     fn shared(&self, entry: &Entry) -> usize
         requires { 0 < length self.now.lasts.items }
         ensures { result < length self.now.lasts.items }
@@ -145,7 +145,7 @@ impl KeptEntries {
         self.kept[number] = true;
     }
 
-    /// Looks at one entry more.
+    /// Looks at the next entry, and keeps it if its right side weighs less and no kept one is alike.
     fn look(&mut self, costs: &Option<Costs>, entries: &[Entry], number: usize)
         requires kept { AreKept costs.now (rules_in entries.now) number self.old }
         requires within { number < length entries.now }
@@ -161,7 +161,7 @@ impl KeptEntries {
     }
 }
 
-/// Which entries are kept: of those that are alike and whose right sides weigh less the first.
+/// Which entries are kept: those whose right side weighs less and to which no earlier kept one is alike.
 pub(crate) fn kept_entries(
     alloc: Global,
     costs: &Option<Costs>,

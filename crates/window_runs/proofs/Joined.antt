@@ -1,4 +1,4 @@
--- What stands in rows against windows of lines.
+-- The runs found in the rows of lines are the windows of these lines.
 use Rattle.std.proofs.Common.{◌≡◌, ℕ, zero, suc, ◌+◌, ◌-◌, ◌<◌, ◌≤◌, ◌==◌, ◌&&◌, ◌||◌, Bool, true, false, List, [], ◌∷◌, ◌++◌, length, take, drop, map, Option, Some, None, refl, sym, ap, ◌∙◌, subst, ◌⊎◌, inl, inr, arith, length-append, append-nil, append_assoc, ne_eqb}
 use Rattle.std.specs.Prelude.{slice_get, nat_eq, if◌then◌else◌}
 use Rattle.std.specs.List.{list_all}
@@ -12,7 +12,7 @@ use Rattle.window_runs.specs.Rows.{is_unlabelled, window_instr, word_row, rows_o
 use Rattle.window_runs.specs.Runs.{instr_at, before, run}
 use Rattle.thumb_model.proofs.Lists.{take_short as take_less, length_map as map_length}
 
--- the instructions stand in the rows, joined; of the first it may not matter
+-- the instructions stand in the rows, each joined to the one before; the first need not be, if it begins the run
 abbrev pub Fits : Bool → List Instr → List WindowPlace → Type 0
 Fits first [] rows = Unit {0}
 Fits first (i ∷ is) [] = ⊥

@@ -1,4 +1,4 @@
--- The places of a listing as windows see them.
+-- The places of a listing as windows see them: a row for each, from which runs are read.
 use Rattle.std.specs.Prelude.{◌&&◌, Bool, true, false, List, [], ◌∷◌, ◌++◌, map, Option, Some, None, if◌then◌else◌}
 use Rattle.thumb_instr.specs.declared.instr.Instr.{Instr}
 use Rattle.thumb_instr.specs.Window.{is_in_window}
@@ -18,7 +18,7 @@ window_instr i (Some m) = None
 abbrev pub word_row : Value → WindowPlace
 word_row v = record { instr = None; is_joined = false }
 
--- of each place, its instruction, where it may stand in a window, and whether neither a label nor an alignment line stands between it and the place before
+-- of each place, its instruction, if that may stand in a window, and whether no label and no alignment line stands between it and an instruction right before
 abbrev pub rows_of : Bool → Statement → List WindowPlace
 rows_of joined Nothing = []
 rows_of joined (Instruction i m) = record { instr = window_instr i m; is_joined = joined } ∷ []

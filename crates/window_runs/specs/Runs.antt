@@ -12,7 +12,7 @@ abbrev pub before : Option Instr → List Instr → List Instr
 before None is = []
 before (Some i) is = i ∷ is
 
--- the instructions of rows, each joined to the one before, up to the first row that has none, and at most so many
+-- the instructions of rows, each joined to the one before, up to the first row that has none, and at most n
 abbrev pub run : Bool → ℕ → List WindowPlace → List Instr
 run begins zero rows = []
 run begins (suc n) [] = []

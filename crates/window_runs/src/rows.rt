@@ -13,11 +13,11 @@ use thumb_instr::{Instr, in_window};
 pub struct WindowPlace {
     /// The instruction that stands there, where it may stand in a window.
     pub instr: Option<Instr>,
-    /// Whether neither a label nor an alignment line stands between it and the place before.
+    /// Whether neither a label nor an alignment line stands between it and an instruction right before it. It says nothing at or behind data words.
     pub is_joined: bool,
 }
 
-/// The places of lines.
+/// The places of lines, in order.
 pub fn rows(alloc: Global, lines: &[ListingLine]) -> Result<Vec<WindowPlace>, AllocError>
     ensures { IfOk result (λ rows. rows.items ≡ rows_from false (map line_view lines.now)) }
 {
@@ -29,7 +29,7 @@ pub fn rows(alloc: Global, lines: &[ListingLine]) -> Result<Vec<WindowPlace>, Al
     Ok(rows)
 }
 
-/// Adds the places of a line. Whether what follows the line is joined to what stands before.
+/// Adds the places of a line, and returns whether what follows the line is joined to what stands before.
 fn add_line(
     rows: &mut Vec<WindowPlace>,
     line: &ListingLine,
@@ -86,7 +86,7 @@ fn stays_joined(statement: &Statement, joined: bool) -> bool
     }
 }
 
-/// An instruction that mentions nothing and may stand in a window.
+/// The instruction, if it mentions nothing and may stand in a window.
 pub fn window_instr(instr: &Instr, mention: Option<&Mention>) -> Option<Instr>
     ensures { result ≡ window_instr instr.now (option_map (λ r. mention_view r.now) mention.entry) }
 {

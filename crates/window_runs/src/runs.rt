@@ -5,7 +5,7 @@ ghost use Rattle.window_runs.specs.Runs.{instr_at, run};
 use crate::rows::WindowPlace;
 use thumb_instr::{Instr, Seq};
 
-/// The instruction of a place that a run goes on with, or begins with.
+/// The instruction at a place with which a run goes on, or begins if `begins`.
 fn instr_at(rows: &[WindowPlace], at: usize, begins: bool) -> Option<Instr>
     ensures { result ≡ instr_at begins (drop at rows.now) }
 {
@@ -22,7 +22,7 @@ fn instr_at(rows: &[WindowPlace], at: usize, begins: bool) -> Option<Instr>
 }
 
 /// The instructions that stand one behind the other from a place on and may stand in a window, with no label and no alignment line between them:
-/// as many as there are, and at most so many.
+/// as many as there are, and at most `most`.
 pub fn run(rows: &[WindowPlace], place: usize, most: usize) -> Seq
     requires place { place < 2 ^ 32 }
     requires most { most ≤ 5 }

@@ -9,7 +9,7 @@ use Rattle.flow_tidy.specs.Halves.{halves, IsBeyond}
 use Rattle.flow_tidy.proofs.Safes.{never_possible}
 use Rattle.flow_tidy.proofs.quick.is_out_of_reach.Goals as goal
 
--- by what the code counts of half-words
+-- a branch is beyond reach by the half-words of the definitions, where it is by those that the code counts
 beyond : (d : Drafted) (p q half from to : ℕ) → from ≡ halves (places_of (lines_now d)) (rank d.gone p) → to ≡ halves (places_of (lines_now d)) (rank d.gone q) → IsBeyond half from to
     → IsBeyond half (halves (places_of (lines_now d)) (rank d.gone p)) (halves (places_of (lines_now d)) (rank d.gone q))
 beyond d p q half from to e f h = subst (λ n. IsBeyond half n (halves (places_of (lines_now d)) (rank d.gone q))) e (subst (λ n. IsBeyond half from n) f h)

@@ -12,7 +12,7 @@ use Rattle.flow_tidy.proofs.Quickly.{code_goes, due_again, due_before, due_first
 use Rattle.flow_tidy.proofs.Settled.{MayVanish}
 use Rattle.flow_tidy.proofs.quick.remove.Goals as goal
 
--- of a draft whose instruction at a place went, by what is due there
+-- what is due in a draft from which the instruction at a place was removed, by equal marks
 left_so : (d e : Drafted) (p : ℕ) (old new : List Bool) → e.gone ≡ slice_set d.gone p true → new ≡ old → AreDue (code_of (lines_now e)) (left (slice_set d.gone p true) old) → AreDue (code_of (lines_now e)) (left e.gone new)
 left_so d e p old new f g a = subst (λ (gs : List Bool). AreDue (code_of (lines_now e)) (left gs new)) (sym f) (subst (λ (ms : List Bool). AreDue (code_of (lines_now e)) (left (slice_set d.gone p true) ms)) (sym g) a)
 

@@ -15,7 +15,7 @@ use Rattle.window_rewrite.specs.Layouts.{is_steady}
 use Rattle.window_rewrite.proofs.Unmoved.{unmoved_layable}
 use Rattle.window_rewrite.proofs.finding.moved_layout.Goals as goal
 
--- too many lines may not be left
+-- where too many lines would be left, the replacement isn't allowed
 pub returns-then-not-has_room-clause-allowed : goal.returns-then-not-has_room-clause-allowed
 returns-then-not-has_room-clause-allowed c = (λ some. absurd (true≢false (sym some)), λ m. absurd (true≢false (sym (c.has_room.ensures.1 m.few) ∙ c.if-not-has_room.true)))
 

@@ -12,7 +12,7 @@ use Rattle.window_rewrite.proofs.Formed.{form_allowed, form_mask, form_registers
 use Rattle.window_rewrite.proofs.Sides.{windows_over}
 use Rattle.window_rewrite.proofs.fitting.fitting.Goals as goal
 
--- what is said of both cases
+-- an implication in each of the two cases of an option
 matched : {X : Type 0} (o : Option X) (P R : Type 0) (Q S : X → Type 0) → (P → R) → ((x : X) → Q x → S x) → MatchOption o P Q → MatchOption o R S
 matched None P R Q S f g h = f h
 matched (Some x) P R Q S f g h = g x h

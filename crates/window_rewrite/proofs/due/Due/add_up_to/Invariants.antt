@@ -4,7 +4,7 @@ use Rattle.kept_places.specs.Marks.{is_gone, marked, rank}
 use Rattle.window_rewrite.specs.Due.{StayMarked}
 use Rattle.window_rewrite.proofs.due.Due.add_up_to.Given as goal
 
--- the kept places from the one that was come to are due, up to the first one
+-- the kept places from `at` up to the given place are due
 abbrev pub invariant-loop-passed : goal.invariant-loop-passed
 invariant-loop-passed l = record {
   due : StayMarked l.fn.self.due l.self.due;
