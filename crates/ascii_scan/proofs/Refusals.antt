@@ -1,4 +1,4 @@
--- A text that is refused is of no kind that refuses it, and is refused at one line.
+-- A text that is refused is no text of that kind, and the line of its refusal is unique.
 use Rattle.std.proofs.Common.{◌≡◌, ◌∙◌, ℕ, ◌≤◌, List, [], ◌∷◌, ◌++◌, length, sym, ap, subst, arith, append_assoc, append-nil}
 use Rattle.ascii_scan.specs.Lines.{lines_of}
 use Rattle.ascii_scan.specs.Refused.{Begins, Stops, IsRefused}

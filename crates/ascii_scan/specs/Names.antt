@@ -26,7 +26,7 @@ registers =
     ∷ codes "r8" ∷ codes "r9" ∷ codes "r10" ∷ codes "r11" ∷ codes "r12" ∷ codes "r13" ∷ codes "r14"
     ∷ codes "sp" ∷ codes "lr" ∷ codes "pc" ∷ codes "ip" ∷ codes "fp" ∷ codes "sl" ∷ codes "sb" ∷ []
 
--- the two are the same but for the case of letters
+-- the two are equal, ignoring the case of letters
 abbrev pub is_spelled : List ℕ → List ℕ → Bool
 is_spelled word name = bytes_eq (map to_ascii_lowercase word) (map to_ascii_lowercase name)
 

@@ -16,7 +16,7 @@ is_mark b = b == 44 || (b == 91 || (b == 93 || (b == 123 || b == 125)))
 abbrev pub is_inner : ℕ → Bool
 is_inner b = not (is_blank b) && not (is_mark b)
 
--- the byte goes before the first word, or is a word of its own where a word doesn't begin here
+-- the byte put in front of the first word, or as a word of its own where no word begins here
 abbrev pub grown : ℕ → List Token → List Token
 grown b (word w ∷ ts) = word (b ∷ w) ∷ ts
 grown b ts = word (b ∷ []) ∷ ts

@@ -1,4 +1,4 @@
-//! Names and the registers' names, told apart byte by byte, so that every reader of words takes the same words for a name.
+//! Names, and the registers' names, which are none: one definition, so that every reader of words takes the same words for names.
 ghost use Rattle.std.specs.Prelude.{◌≡◌, map};
 ghost use Rattle.std.specs.List.{list_any, prefix_len};
 ghost use Rattle.ascii_scan.specs.Tokens.{front};
@@ -17,7 +17,7 @@ fn registers() -> &'static [&'static [u8]]
     &REGISTERS
 }
 
-/// Whether the two are the same but for the case of letters.
+/// Whether the two are equal, ignoring the case of letters.
 fn is_spelled(word: &[u8], name: &[u8]) -> bool
     ensures { result ≡ is_spelled word.now name.now }
 {
@@ -69,7 +69,7 @@ fn run_length(bytes: &[u8]) -> usize
     bytes.iter().take_while(|b| is_name_byte(**b)).count()
 }
 
-/// The bytes of a name at the front, as many as there are.
+/// The longest run of name bytes at the front.
 fn front_word(bytes: &[u8]) -> &[u8]
     ensures { result.now ≡ front is_name_byte bytes.now }
 {

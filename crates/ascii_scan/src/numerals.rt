@@ -1,4 +1,4 @@
-//! Numerals of the listing's and the table's texts, and of command lines: one reader, so that a number has one spelling in each base.
+//! Numerals of instructions, directives and command lines: one reader, so that all of them take the same spellings of a number.
 ghost use Rattle.std.specs.Prelude.{◌≡◌, ◌≤◌};
 ghost use Rattle.std.specs.List.{list_all};
 ghost use Rattle.std.specs.Char.{is_digit};

@@ -7,7 +7,7 @@ ghost use Rattle.ascii_scan.specs.Seen.{seen};
 /// A word or a mark of a statement.
 #[derive(Clone, Copy)]
 pub enum Token<'a> {
-    /// Bytes that are no blank and no mark, as many as there are.
+    /// The longest run of bytes that are neither blanks nor marks.
     Word(&'a [u8]),
     /// `,`, `[`, `]`, `{` or `}`.
     Mark(u8),

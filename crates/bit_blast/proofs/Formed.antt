@@ -270,7 +270,7 @@ multiplied_gives low b xs ys s wx wy k px py are =
     } in
     within (193 * length ys + 32) 6208 b (λ d. multiplied_of d xs ys s) _ (omega arith) (word_result_gives low (193 * length ys) b (λ d. product_from d 0 xs ys zero_word) _ s.c s.v k w are.c_of are.v_of)
 
--- a word's contrary with its flags
+-- a word's complement with its flags
 inverted_gives : (low : ℕ) (b : Built) (ys : List Bit) (s : Bits) → length ys ≡ 32 → Ready low b → AllBelow b.variables ys → AreOf b.variables s
     → OutcomeGives 32 b (λ d. result_of d (inverted ys) s.c s.v) (λ m. result_numbers (complement (number_of m ys)) (values_at m s c_flag) (values_at m s v_flag))
 inverted_gives low b ys s wy k py are =

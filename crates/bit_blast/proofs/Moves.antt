@@ -1,4 +1,4 @@
--- A word's bits moved about: its number is shifted, extended or turned.
+-- Circuits without gates: moving a word's bits shifts, extends or reverses the number that it holds.
 use Rattle.std.proofs.Common.{◌≡◌, ℕ, ◌+◌, ◌-◌, ◌*◌, ◌^◌, ◌/◌, ◌%◌, ◌<◌, ◌≤◌, List, ◌++◌, Bool, true, false, eqb, leb, length, refl, sym, ap, ◌∙◌, arith, take, drop, length-append, length-take, length-drop, ⊎_elim, if◌then◌else◌}
 use Rattle.std.proofs.Math.Nat.{add-mul-div_right, mod-eq_of_lt}
 use Rattle.std.proofs.lemmas.Nat.{pow_pos, pow-add}

@@ -86,7 +86,7 @@ pub number_of-zeros : (m : ℕ → Bool) (n : ℕ) → number_of m (copies n (Co
 number_of-zeros m zero = refl
 number_of-zeros m (suc n) = omega (arith, number_of-zeros m n)
 
--- ---- numbers and contraries
+-- ---- numbers and complements
 
 pub length-number_bits : (n x : ℕ) → length (number_bits n x) ≡ n
 length-number_bits zero x = refl

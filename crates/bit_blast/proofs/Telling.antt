@@ -1,4 +1,4 @@
--- What tells two sides: the bits that are gathered, and the items that differ.
+-- Of the bits that compare two sides some is true exactly where an item of the mask differs.
 use Rattle.std.proofs.Common.{◌≡◌, ◌≢◌, ℕ, zero, suc, ◌+◌, ◌*◌, ◌<◌, ◌≤◌, List, [], ◌∷◌, ◌++◌, Bool, true, false, not, ◌&&◌, ◌||◌, cond, eqb, length, take, refl, sym, ap, ◌∙◌, arith, ⊎_elim, length-take}
 use Rattle.std.proofs.lemmas.List.{get_or-take}
 use Rattle.std.proofs.lemmas.Bool.{ne_eqb, eq-eqb, and_parts, and_from, or_cases, or_left, or_right}

@@ -46,7 +46,7 @@ start_built k = record { variables = 32 * k + 4; clauses = []; gates = [] }
 
 -- ---- what differs
 
--- what tells the registers of the mask, from number i on
+-- bits that are true where registers of the mask differ, from number i on
 abbrev pub register_differences : Built → ℕ → ℕ → List (List Bit) → List (List Bit) → Built × List Bit
 register_differences b mask i [] ys = (b, [])
 register_differences b mask i (x ∷ xs) [] = (b, [])
@@ -57,7 +57,7 @@ register_differences b mask i (x ∷ xs) (y ∷ ys) =
     (s.0, r.1 ++ s.1))
     else register_differences b mask (i + 1) xs ys
 
--- what tells a flag, where it is in the mask
+-- a bit that is true where a flag differs, if it is in the mask
 abbrev pub flag_difference : Built → Bool → Bit → Bit → Built × List Bit
 flag_difference b false x y = (b, [])
 flag_difference b true x y = let r = xor_of b x y in (r.0, r.1 ∷ [])
@@ -85,7 +85,7 @@ sides_from b s w left right mask =
 abbrev pub formula_from : Built → Bits → List Bit → List Slot → List Slot → ℕ → Cnf
 formula_from b s w left right mask = let d = sides_from b s w left right mask in formula_of (or_clause_of d.0 d.1)
 
--- of sides without holes
+-- the formula of sides without holes
 abbrev pub sides_formula : List Instr → List Instr → ℕ → ℕ → Cnf
 sides_formula left right mask k = formula_from (start_built k) (start_bits k) (filled (Constant false)) (map Plain left) (map Plain right) mask
 
@@ -113,7 +113,7 @@ at_least_from xs least (suc j) higher b =
 unfoldable pub at_least : List Bit → ℕ → Built → Built
 at_least xs least b = at_least_from xs least 8 [] b
 
--- the value is the least one at least; and at most the greatest: the contrary bits hold at least what is left to 255
+-- the value is at least `low`, and at most `high`: the complemented bits hold at least 255 - `high`
 abbrev pub range_built : ℕ → Symbol → Built
 range_built k s = at_least (inverted (symbol_bits k)) (255 - s.high) (at_least (symbol_bits k) s.low (symbol_built k))
 

@@ -1,4 +1,4 @@
--- What assignments say of states, and that models are the states that tell.
+-- The states that assignments stand for, and the claim that a formula's models are exactly the states that tell two sides apart.
 use Rattle.std.specs.Prelude.{ℕ, ◌+◌, ◌*◌, ◌==◌, nat_lt, Bool, List, [], ◌∷◌, if◌then◌else◌, ◌≡◌, ◌<◌, ◌≤◌, true, ◌++◌, ◌⊎◌, ℤ}
 use Rattle.std.specs.Int.{from_bool}
 use Rattle.cnf_gates.specs.declared.bit.Bit.{Bit}

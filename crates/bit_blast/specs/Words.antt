@@ -1,4 +1,4 @@
--- Words as lists of bits, the lowest first, and what moves their bits about without a gate.
+-- Words as lists of bits, the lowest first, and what needs no gate: constants, complements, and moving bits to other places.
 use Rattle.std.specs.Prelude.{ℕ, zero, suc, ◌-◌, ◌*◌, ◌/◌, ◌%◌, ◌==◌, false, List, [], ◌∷◌, ◌++◌, map, take, drop, replicate, slice_index_or}
 use Rattle.word_bits.specs.declared.Shift.{Shift}
 use Rattle.word_bits.specs.declared.Shift.TheVariants.{Lsl, Lsr, Asr, Ror}
@@ -31,7 +31,7 @@ filled x = copies 32 x
 unfoldable pub constant : ℕ → List Bit
 constant x = number_bits 32 x
 
--- the contrary of each bit
+-- the complement of each bit
 abbrev pub inverted : List Bit → List Bit
 inverted xs = map not_of xs
 
@@ -49,7 +49,7 @@ moved Lsr n xs = drop n xs ++ copies n (Constant false)
 moved Asr n xs = drop n xs ++ copies n (bit_of xs 31)
 moved Ror n xs = drop n xs ++ take n xs
 
--- the last bit that a move by n places, not 0, takes out
+-- the last bit that a shift by n places, not 0, moves out
 abbrev pub moved_out : Shift → ℕ → List Bit → Bit
 moved_out Lsl n xs = bit_of xs (32 - n)
 moved_out Lsr n xs = bit_of xs (n - 1)

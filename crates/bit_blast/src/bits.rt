@@ -77,7 +77,7 @@ impl Bits {
         })
     }
 
-    /// The same bits once more.
+    /// A copy of the bits.
     pub fn copied(&self, alloc: Global) -> Result<Bits, GateError>
         ensures { IfOk result (λ s. s ≡ self.now) }
     {

@@ -45,7 +45,7 @@ pub fn each(
     Ok(value)
 }
 
-/// Where `a` holds the bits of `y`, and else those of `x`.
+/// A multiplexer: the bits of `y` where `a` holds, and else those of `x`.
 pub fn choose(
     builder: &mut Builder,
     a: &Bit,
@@ -115,7 +115,7 @@ impl Model for Total {
     ghost view = { λ t. record { value = t.value; carry = t.carry; overflow = t.overflow } };
 }
 
-/// One place of a sum: its bit and the next carry.
+/// A full adder: one bit of a sum, and the next carry.
 fn place(builder: &mut Builder, x: &Bit, y: &Bit, c: &Bit) -> Result<(Bit, Bit), GateError>
     ensures { IfOk result (λ r. (builder.new, r) ≡ place_of builder.old x.now y.now c.now) }
 {

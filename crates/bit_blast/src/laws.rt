@@ -1,4 +1,4 @@
-//! Laws of formulas, as contracts of functions that do nothing.
+//! Laws of formulas, stated as contracts of functions with empty bodies.
 
 ghost use Rattle.std.specs.Prelude.{◌≡◌, ◌≤◌, ◌<◌, ℕ, Bool, true, List, length, map};
 ghost use Rattle.thumb_instr.specs.declared.instr.Instr.{Instr};

@@ -1,5 +1,5 @@
-//! Shifts by an amount that isn't known: six stages that each move by a power of two, and the rest of the amount's byte at once, as the manual's shifts
-//! by 32 and more have rules of their own.
+//! Barrel shifters, for shifts by a register: six stages that each move by a power of two, and bits 6 and 7 of the amount at once, since the manual's
+//! shifts by more than 32 move all bits out.
 ghost use Rattle.std.specs.Prelude.{◌≡◌, ◌<◌, ◌≤◌, ◌^◌, IfOk, take};
 ghost use Rattle.word_bits.specs.declared.Shift.TheVariants.{Ror};
 ghost use Rattle.bit_blast.specs.Circuits.{stage_of, stages_from, shift_by, rotations_from, rotate_by};

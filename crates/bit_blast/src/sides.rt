@@ -17,7 +17,7 @@ use std::alloc::Global;
 use thumb_instr::items::{C, N, V, Z};
 use thumb_instr::{Mask, Seq};
 
-/// Pushes what tells two words, bit by bit.
+/// Pushes for each place of two words a bit that is true where they differ there.
 fn push_word(
     builder: &mut Builder,
     found: &mut Vec<Bit>,
@@ -31,7 +31,7 @@ fn push_word(
     Ok(())
 }
 
-/// Pushes what tells a flag, where it is in the mask.
+/// Pushes, for a flag in the mask, a bit that is true where the flag differs.
 fn push_flag(
     builder: &mut Builder,
     found: &mut Vec<Bit>,
@@ -47,7 +47,7 @@ fn push_flag(
     Ok(())
 }
 
-/// What tells the registers of the mask.
+/// Bits of which some is true exactly where a register of the mask differs.
 fn register_differences(
     alloc: Global,
     builder: &mut Builder,
@@ -72,7 +72,7 @@ fn register_differences(
     Ok(found)
 }
 
-/// What tells the items of the mask.
+/// Bits of which some is true exactly where an item of the mask differs.
 fn differences(
     alloc: Global,
     builder: &mut Builder,
@@ -91,7 +91,7 @@ fn differences(
     Ok(found)
 }
 
-/// Both sides formed from the same bits, and what tells them.
+/// Both sides formed from the same bits, and the bits that show where they differ.
 fn sides_from(
     alloc: Global,
     builder: &mut Builder,
@@ -112,7 +112,7 @@ fn sides_from(
     differences(alloc, builder, mask, &l, &r)
 }
 
-/// The formula of two sides of slots, from what was built on.
+/// The formula of two sides of slots, added to what was built so far.
 fn formula_from(
     alloc: Global,
     builder: Builder,
@@ -134,7 +134,7 @@ fn formula_from(
     Ok(builder.finish())
 }
 
-/// The clauses that eight bits hold a number of `least` or more.
+/// Adds the clauses that eight bits hold a number of `least` or more.
 fn at_least(alloc: Global, builder: &mut Builder, bits: &[Bit], least: u8) -> Result<(), Memory>
     requires { length bits.now ≡ 8 }
     ensures { OnOk result (builder.new ≡ at_least bits.now least builder.old) }

@@ -46,7 +46,7 @@ impl Slot {
         }
     }
 
-    /// The register that is written, or kept.
+    /// The register that the slot's instruction writes, or keeps, as `cmp` does.
     pub fn target(&self) -> u32
         ensures { result ≡ slot_target self.now }
     {

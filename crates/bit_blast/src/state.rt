@@ -1,5 +1,5 @@
-//! Back from a model of the formula to the state that it stands for, so that the learner can list the state that told two sequences apart, and to the value
-//! of a symbol.
+//! From a model of the formula back to the state that it stands for, so that the learner can list the state that tells two sequences apart, and to the
+//! value of a symbol.
 ghost use Rattle.std.specs.Prelude.{◌≡◌, ◌<◌, ◌≤◌, ◌+◌};
 ghost use Rattle.std.specs.Int.{bit_at, from_bool};
 ghost use Rattle.cnf_gates.specs.Meaning.{assigned};

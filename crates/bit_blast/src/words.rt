@@ -1,4 +1,4 @@
-//! Words of 32 bits, lowest first, for which no gate is needed: constants, contraries, and shifts by a known amount.
+//! Words of 32 bits, lowest first, for which no gate is needed: constants, complements, and shifts by a known amount.
 ghost use Rattle.std.specs.Prelude.{◌≡◌, ◌<◌, ◌≤◌, ◌+◌, ◌++◌, length};
 ghost use Rattle.bit_blast.specs.Words.{filled, constant, inverted, fill, moved, moved_out, extended, turned};
 
@@ -29,7 +29,7 @@ pub fn constant(number: u32) -> BitVector
     bits
 }
 
-/// The contrary of each bit.
+/// The complement of each bit.
 pub fn inverted(x: &BitVector) -> BitVector
     ensures { result ≡ inverted x.now }
 {
@@ -40,7 +40,7 @@ pub fn inverted(x: &BitVector) -> BitVector
     bits
 }
 
-/// The same bits once more.
+/// A copy of the bits.
 pub fn copied(x: &BitVector) -> BitVector
     ensures { result ≡ x.now }
 {
@@ -93,7 +93,7 @@ pub fn moved(kind: Shift, n: usize, x: &BitVector) -> BitVector
     }
 }
 
-/// The last bit that a move by `n` places takes out.
+/// The last bit that a shift by `n` places moves out.
 pub fn moved_out(kind: Shift, n: usize, x: &BitVector) -> Bit
     requires some { 0 < n }
     requires within { n ≤ 32 }

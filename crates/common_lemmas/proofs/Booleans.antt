@@ -1,4 +1,4 @@
--- Truth values, by cases.
+-- Laws of `&&`, `||` and `==` that proofs of several crates need.
 use Rattle.std.proofs.Common.{Bool, arith, false, refl, sym, true, ℕ, ◌&&◌, ◌==◌, ◌||◌, ◌≡◌}
 
 pub or_false : (a : Bool) → (a || false) ≡ a

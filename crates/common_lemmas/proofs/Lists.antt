@@ -1,4 +1,4 @@
--- Items of lists, and parts of them.
+-- Lists that were changed, cut or joined: which items they have, for proofs of several crates.
 use Rattle.std.proofs.Common.{List, Some, [], ap, arith, drop, get_or, length, map, refl, slice_get, suc, sym, take, true, zero, ℕ, ◌++◌, ◌+◌, ◌-◌, ◌<◌, ◌∙◌, ◌∷◌, ◌≡◌, ◌≢◌}
 use Rattle.std.proofs.lemmas.Option.{same_Some, slice_get-get_or}
 use Rattle.std.proofs.lemmas.Slice.Eq.{bytes_eq-Decides}

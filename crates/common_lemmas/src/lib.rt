@@ -1,2 +1,2 @@
-//! No code: lemmas on truth values, numbers and lists, which crates that have no other in common share.
+//! No code: lemmas on truth values, numbers and lists, for crates that have no other crate in common.
 #![tactic(auto)]

@@ -6,7 +6,8 @@ use Rattle.thumb_model.specs.Naming.{Fits, laid, last_is_call}
 use Rattle.thumb_assembler.specs.Bytes.{IsSetBy}
 use Rattle.thumb_assembler.specs.Runs.{IsAssembled, ImageFollows}
 
--- what stands for external names is what the lines set for them, and a word. Behind a call at the end the code goes on for two bytes: there no name that is mentioned is set
+-- what stands for external names are words, and those that the lines set, where they set one. Where the last place is a call, the range of code is two
+-- bytes longer, and no name that is mentioned is set to lie there
 pub record IsOutside (base : ℕ) (set : Name → ℕ) (lines : List ListingLine) : Type 0 where
   pub set_by : IsSetBy lines set
   pub words : (n : Name) → set n < 2 ^ 32

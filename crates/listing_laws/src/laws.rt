@@ -1,10 +1,10 @@
-//! The laws. Each is the contract of a function that does nothing.
+//! The laws. Each is stated as the contract of a function with an empty body.
 
 ghost use Rattle.listing_laws.specs.Assembled.{AssembledListingsFit, AssembledImagesFollow};
 ghost use Rattle.listing_laws.specs.Fitting.{LaidNamingsFit};
 ghost use Rattle.listing_laws.specs.Limits.{TextsEndInCode};
 
-/// A listing's lines end before the Code region does, from a base in its lower half on: so none is refused there for want of that region.
+/// Laid out from a base in the lower half of the Code region, a listing's lines end within the region: so none is refused for want of room there.
 pub fn texts_end_in_the_code_region()
     ensures { TextsEndInCode }
 {}
@@ -14,12 +14,12 @@ pub fn laid_namings_fit()
     ensures { LaidNamingsFit }
 {}
 
-/// The laid naming of an assembled listing fits it, unless behind a call at its end a name is set that it mentions.
+/// The laid naming of an assembled listing fits it, unless it ends in a call and a name that it mentions is set right behind its end.
 pub fn assembled_listings_fit()
     ensures { AssembledListingsFit }
 {}
 
-/// So an assembled image's run meets its listing's, with nothing asked of a naming.
+/// So an assembled image's run meets its listing's, without a premise that a naming fits.
 pub fn assembled_images_follow()
     ensures { AssembledImagesFollow }
 {}

@@ -1,4 +1,4 @@
-//! A count of steps that contracts see, held or not held when the program runs.
+//! Counts of steps, by which contracts bound running times. The program keeps a count as a number (`Counted`) or not at all (`Free`).
 #![tactic(auto)]
 
 ghost use Rattle.std.specs.Prelude.{◌≡◌, ℕ, ◌+◌, ◌-◌, ◌^◌, ◌<◌, min};
@@ -81,7 +81,7 @@ impl<N: Name> Ledger for Free<N> {
     }
 }
 
-/// The steps of the calls that were given it.
+/// A count of the steps of those calls that it is passed to.
 #[derive(Drop)]
 pub struct Steps<L: Ledger> {
     ledger: L,
@@ -94,7 +94,7 @@ impl<L: Ledger> Model for Steps<L> {
 }
 
 impl<L: Ledger> Steps<L> {
-    /// Counts on in the ledger given.
+    /// Goes on counting in the given ledger.
     pub fn new(ledger: L) -> Steps<L>
         ensures { result ≡ L.count ledger }
     {

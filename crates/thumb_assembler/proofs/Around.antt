@@ -1,4 +1,4 @@
--- What an instruction finds around it in the listing and in the image.
+-- What an instruction's place decides for it (`Around`) is tied in the listing and in the image.
 use Rattle.std.proofs.Common.{◌≡◌, ◌∙◌, ◌⊎◌, inl, inr, ℕ, zero, suc, ◌+◌, ◌-◌, ◌*◌, ◌/◌, ◌%◌, ◌^◌, ◌<◌, ◌≤◌, ◌==◌, ◌&&◌, ◌||◌, not, Bool, true, false, List, [], ◌∷◌, ◌++◌, length, take, refl, sym, ap, subst, arith, true≢false, Option, Some, None, eqb-true}
 use Rattle.std.specs.Prelude.{slice_get, nat_lt, nat_le, if◌then◌else◌, is_some, ℤ}
 use Rattle.std.proofs.lemmas.Bool.{cases_Bool, cases_lt, and_from, and_parts, le-leb, lt-ltb, ltb-true, leb-true, or_right}
@@ -32,7 +32,7 @@ use Rattle.thumb_assembler.proofs.Cuts.{end_append, two_or_four, LabelCut, label
 use Rattle.thumb_assembler.proofs.Fetched.{fair_here, even_here, Coded, DataAt, data_from}
 use Rattle.thumb_assembler.proofs.Slides.{Arrives, label_found, label_is, arrives_within, code_address, lands_tied, place_here, return_here}
 
--- a distance leads back to where it was measured
+-- a distance leads to the address that it was measured to
 pub aim_back : (at to : ℕ) → at ≤ 2 ^ 29 → to < 2 ^ 32 → aim_from at (distance at to) ≡ to
 aim_back at to l h = elim (cases_Bool (nat_le (at + 4) to)) [
   | inl e ↦ rw e (let least = leb-true (at + 4) to e in omega arith)

@@ -1,4 +1,4 @@
--- Where names lie, and what they stand for.
+-- Where names lie, what words they stand for, and that what a fair instruction mentions lies within reach.
 use Rattle.std.proofs.Common.{◌≡◌, ◌∙◌, inl, inr, ℕ, ◌+◌, ◌-◌, ◌*◌, ◌/◌, ◌%◌, ◌^◌, ◌<◌, ◌≤◌, ◌==◌, ◌&&◌, Bool, true, false, List, [], ◌∷◌, length, refl, sym, ap, subst, arith, true≢false, Option, Some, None, is_some, eqb-true, if◌then◌else◌}
 use Rattle.std.specs.Prelude.{nat_le, nat_lt}
 use Rattle.std.proofs.lemmas.Bool.{cases_Bool, and_parts, leb-true, ltb-true}
@@ -186,7 +186,7 @@ branch_reach half at to plus i few low even z e f =
     let limit = branch_limit half at to e in
     record { fault = subst (λ (n : ℕ). aim_fault at i (Some n) 0 ≡ None) same f; even = omega arith; small = omega arith }
 
--- what a fair instruction mentions is reached, where the layout refuses nothing
+-- what a fair instruction mentions is within reach, where the layout finds no fault
 reach : (all : List ListingLine) (at to : ℕ) (i : Instr) (m : Mention) → at ≤ 2 ^ 29 → to % 2 ≡ 0 → is_fair all (Instruction i (Some m)) ≡ true → aim_fault at i (Some to) m.plus ≡ None → Reach at (to + m.plus) i
 reach all at to i m low even f e = by i f e where
   by : (j : Instr) → is_fair all (Instruction j (Some m)) ≡ true → aim_fault at j (Some to) m.plus ≡ None → Reach at (to + m.plus) j

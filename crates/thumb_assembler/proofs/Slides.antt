@@ -296,7 +296,7 @@ module _ (base : ℕ) (set : Name → ℕ) (all : List ListingLine) (bytes : Lis
     | inr h ↦ returns_point all [] refl h.0 w p h.1
   ]
 
-  -- ---- branches by a word ----
+  -- ---- indirect branches ----
 
   least_is : (p q : ℕ) (o : Option ℕ) → least_or p o ≡ Some q → (p ≡ q) ⊎ (o ≡ Some q)
   least_is p q None e = let same : Some p ≡ Some q = e in inl (cc)

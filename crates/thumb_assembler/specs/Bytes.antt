@@ -1,4 +1,4 @@
--- The bytes of an image, and the first line without any.
+-- What the image of a listing is, byte by byte, and the first line by which there is none.
 use Rattle.std.specs.Prelude.{◌≡◌, ℕ, zero, suc, ◌+◌, ◌*◌, ◌/◌, ◌%◌, ◌<◌, List, [], ◌∷◌, ◌++◌, take, Option, Some, None, ◌&&◌, ◌||◌, not, nat_le, nat_lt, Bool, true, false, is_some, if◌then◌else◌}
 use Rattle.thumb_instr.specs.declared.instr.Instr.{Instr}
 use Rattle.thumb_instr.specs.declared.instr.Instr.TheVariants as instr
@@ -56,7 +56,7 @@ words_bytes names (v ∷ vs) = word_bytes (word_of_value names v) ++ words_bytes
 abbrev pub IsInstrBytes : Instr → List ℕ → Type 0
 IsInstrBytes i bytes = (first : ℕ) × (second : ℕ) × Encodes i first second × (first < 65536) × (second < 65536) × (bytes ≡ take (instr_size i) (half_bytes first ++ half_bytes second))
 
--- what a listing that is laid at a base says of names
+-- the base, naming and lines of a listing that is laid out, which decide where names lie
 pub record Laid : Type 0 where
   pub base : ℕ
   pub names : Naming
@@ -141,7 +141,7 @@ flaws_from base all n (l ∷ ls) = or_first n (flaw_of base all l.statement) (fl
 abbrev pub first_flaw : ℕ → List ListingLine → Option (ℕ × Flaw)
 first_flaw base all = flaws_from base all 1 all
 
--- lines have no image exactly where a line has a flaw, by the first one's
+-- the error that is reported: the flaw of the first line that has one, and that line's number
 abbrev pub IsRefusal : ℕ → List ListingLine → ImageError → Type 0
 IsRefusal base all (error.NoAddress line) = first_flaw base all ≡ Some (line, flaw.NoAddress)
 IsRefusal base all (error.Inside line) = first_flaw base all ≡ Some (line, flaw.Inside)

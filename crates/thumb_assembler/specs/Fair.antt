@@ -1,4 +1,4 @@
--- What the text of a listing promises of its statements, and what is asked of a listing with its layout.
+-- What the assembler needs of statements, which each parsed listing has, and of a listing with its layout.
 use Rattle.std.specs.Prelude.{◌≡◌, ℕ, ◌%◌, ◌==◌, ◌&&◌, ◌||◌, Bool, true, List, Option, option_map}
 use Rattle.std.specs.List.{list_all}
 use Rattle.thumb_syntax.specs.Whole.{is_whole}

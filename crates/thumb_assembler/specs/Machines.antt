@@ -54,7 +54,7 @@ pub record Starts (s : Start) (first : ℕ) (m : ImageMachine) : Type 0 where
 
 -- ---- steps ----
 
--- a step goes on, stays for want of answers, or leaves the run ended so
+-- the stage that a step reports: it goes on, waits for want of answers, or ends the run
 abbrev pub IsStage : Stage → model.Continuation → Position → Type 0
 IsStage s model.On here = s ≡ stage.Going
 IsStage s (model.To p) here = s ≡ stage.Going
@@ -83,7 +83,7 @@ pub record Stepped (old : ImageMachine) (before : List Answer) (new : ImageMachi
   pub stage : IsStage s next new.at
   pub ends : EndedBy old.at new.at (events_of new.world.events.items)
 
--- a step by the definition, or nothing for want of memory
+-- a step as the definition has it, or no change for want of memory
 abbrev pub Steps : {E : Type 0} → ImageMachine → List Answer → ImageMachine → List Answer → Result Stage E → Type 0
 Steps old before new left (Ok s) = Stepped old before new left s
 Steps old before new left (Err e) = Stands (state_of old before) new left

@@ -1,4 +1,4 @@
--- What holds of each image: a run of it is determined, and meets the listing's.
+-- What holds of each image: its runs are deterministic, and each meets the run of its listing.
 use Rattle.std.specs.Prelude.{◌≡◌, ℕ, ◌<◌, List}
 use Rattle.thumb_model.specs.Naming.{Fits, laid}
 use Rattle.thumb_model.specs.States.{State}
@@ -7,11 +7,11 @@ use Rattle.thumb_model.specs.Same.{Same}
 use Rattle.thumb_assembler.specs.Bytes.{IsSetBy}
 use Rattle.thumb_assembler.specs.Runs.{Loaded, ImageSteps, byte_at, IsAssembled, ImageFollows}
 
--- its bytes are bytes
+-- all bytes that are read from it are below 256
 abbrev pub HasBytes : Loaded → Type 0
 HasBytes m = (a : ℕ) → byte_at m a < 256
 
--- a state has one way on, and so a run has one state after so many steps
+-- runs are deterministic: after a number of steps from a state there is one state
 abbrev pub RunsAreDetermined : Type 0
 RunsAreDetermined = (m : Loaded) (n : ℕ) (s t u : State) → HasBytes m → ImageSteps m n s t → ImageSteps m n s u → t ≡ u
 

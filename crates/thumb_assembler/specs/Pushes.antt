@@ -1,4 +1,4 @@
--- The bytes of statements, put behind others.
+-- What it means that the bytes of a statement were appended to those of the lines before.
 use Rattle.std.specs.Prelude.{◌≡◌, ℕ, ◌+◌, ◌*◌, true, false, List, ◌++◌, length, Result, Ok, Err, None, Some}
 use Rattle.thumb_instr.specs.declared.instr.Instr.{Instr}
 use Rattle.thumb_model.specs.Listing.{Name, Value, Statement, ListingLine}
@@ -15,14 +15,14 @@ use Rattle.thumb_assembler.specs.declared.errors.ImageError.TheVariants as error
 abbrev pub placed : ℕ → (Name → ℕ) → List ListingLine → Laid
 placed base set all = record { base = base; names = laid base set all; lines = all }
 
--- the bytes of an instruction's code came behind
+-- the bytes of an instruction's code were appended
 pub record PushedCode (i : Instr) (old new : List ℕ) : Type 0 where
   pub here : List ℕ
   pub are : IsInstrBytes i here
   pub pushed : new ≡ old ++ here
   pub long : length here ≡ instr_size i
 
--- the bytes of a statement at an address came behind
+-- the bytes of a statement at an address were appended
 pub record Pushed (l : Laid) (at : ℕ) (s : Statement) (old new : List ℕ) : Type 0 where
   pub here : List ℕ
   pub are : IsStatementBytes l at s here
@@ -34,14 +34,14 @@ pub record PushedLaid (base : ℕ) (all : List ListingLine) (at : ℕ) (s : Stat
   pub pushed : (set : Name → ℕ) → IsSetBy all set → Pushed (placed base set all) at s old new
   pub long : length new ≡ length old + size_at s at
 
--- a statement's bytes came behind, or it has a flaw
+-- a statement's bytes were appended, or it has a flaw
 abbrev pub Pushes : {T : Type 0} → ℕ → List ListingLine → ℕ → Statement → List ℕ → List ℕ → Result T Flaw → Type 0
 Pushes base all at s old new (Ok t) = PushedLaid base all at s old new
 Pushes base all at s old new (Err flaw.NoAddress) = flaw_of base all s ≡ Some flaw.NoAddress
 Pushes base all at s old new (Err flaw.Inside) = flaw_of base all s ≡ Some flaw.Inside
 Pushes base all at s old new (Err flaw.Memory) = Unit {0}
 
--- a word came behind that is the value's
+-- the word of a value was appended
 pub record PushedValue (base : ℕ) (all : List ListingLine) (v : Value) (old new : List ℕ) : Type 0 where
   pub found : value_lost base all v ≡ false
   pub pushed : (set : Name → ℕ) → IsSetBy all set → new ≡ old ++ word_bytes (word_of_value (laid base set all) v)
@@ -64,7 +64,7 @@ PushesValues base all vs old new (Err flaw.NoAddress) = values_lost base all vs 
 PushesValues base all vs old new (Err flaw.Inside) = ⊥
 PushesValues base all vs old new (Err flaw.Memory) = Unit {0}
 
--- how it is told
+-- the error that reports a flaw at a line
 abbrev pub told_at : Flaw → ℕ → ImageError
 told_at flaw.NoAddress line = error.NoAddress line
 told_at flaw.Inside line = error.Inside line

@@ -39,7 +39,7 @@ word_at m a = half_at m a + 65536 * half_at m (a + 2)
 abbrev pub is_code_address : Loaded → ℕ → Bool
 is_code_address m a = nat_le m.base a && nat_lt a m.high
 
--- a branch by a word: an odd word goes to its even part where code is, and else out; an even one leads nowhere
+-- an indirect branch: an odd word, with bit 0 cleared, goes there if code may stand there, and else out; an even word leads nowhere
 abbrev pub lands_at : Loaded → ℕ → Landing
 lands_at m word = if is_odd word then (if is_code_address m (word - 1) then Goes (word - 1) else Leaves) else Strays
 
@@ -48,7 +48,7 @@ abbrev pub aim_from : ℕ → ℤ → ℕ
 aim_from a (pos n) = (a + 4 + n) % 2 ^ 32
 aim_from a (negsuc n) = (a + 4 + (2 ^ 32 - (n + 1))) % 2 ^ 32
 
--- a direct branch goes to the word of its target, which is its address with bit 0 set
+-- a direct branch goes to its address where code may stand there, else out to the word that is the address with bit 0 set
 abbrev pub goes_to : Loaded → ℕ → Target
 goes_to m a = if is_code_address m a then Inside a else External (set_bit a)
 
@@ -88,7 +88,7 @@ pub data ImageStep (m : Loaded) (s : State) : Continuation → State → Type 0 
   acts : (a : ℕ) (i : Instr) → s.at ≡ Here a → IsFetched m a i → ImageStep m s (act_in m a i s).next (does a (following a i) (act_in m a i s) s)
   falls_out : (a : ℕ) → s.at ≡ Here a → ((i : Instr) → IsFetched m a i → ⊥) → ImageStep m s Over (falls s)
 
--- so many steps, each going on as it does
+-- n steps in a row
 pub data ImageSteps (m : Loaded) : ℕ → State → State → Type 0 where
   none : (s : State) → ImageSteps m zero s s
   more : (n : ℕ) (next : Continuation) (r s t : State) → ImageStep m r next s → ImageSteps m n s t → ImageSteps m (suc n) r t
@@ -132,7 +132,7 @@ pub record IsLost (s : State) : Type 0 where
 
 -- ---- the two runs ----
 
--- begun at the label's address, the image's run comes after some steps to what can be seen of the state
+-- begun at the label's address, the image's run comes after some steps to a state that is observably equal
 pub record Meets (image : Loaded) (start s : State) : Type 0 where
   pub steps : ℕ
   pub state : State

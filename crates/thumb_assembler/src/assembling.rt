@@ -16,8 +16,8 @@ use std::alloc::Global;
 ///
 /// Instructions and data words stand where the layout has them, lowest byte first, each branch and literal load with its distance; padding is `nop`
 /// (BF00) for each two bytes. A word of a name is a code label's address and 1, another label's address, or the address that the listing sets, with the
-/// number added. A listing has no image where a name in `b`, `bl` or `.word` has no address, or where a `.set` gives one that lies in the image; it is
-/// the first such line that is told. Time is linear in the listing's length.
+/// number added. A listing has no image where a name in `b`, `bl` or `.word` has no address, or where a `.set` gives one that lies in the image; the
+/// first such line is reported. Time is linear in the listing's length.
 pub fn assemble(alloc: Global, listing: &Listing, layout: &Layout) -> Result<Vec<u8>, ImageError>
     requires listed { IsListing (text_of_lines listing.now) listing.now }
     requires laid { AreAddresses listing.now layout.now }

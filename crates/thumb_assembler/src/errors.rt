@@ -1,14 +1,14 @@
-//! A line has no bytes for two reasons alone, as what was laid out is within reach: an address that is wanted and not set, or one inside the image.
+//! A line of a listing that was laid out has no bytes for two reasons alone: an address that it needs isn't set, or one that it sets lies in the image.
 use std::alloc::AllocError;
 use thiserror::Error;
 
 /// Why a listing has no image.
 #[derive(Clone, Copy, Debug, PartialEq, Eq, Error)]
 pub enum ImageError {
-    /// The first line that has no place in an image, by its number from 1, mentions in `b`, `bl` or `.word` a name that no label has and no line sets.
+    /// The first line that can't be assembled, by its number from 1, mentions in `b`, `bl` or `.word` a name that no label has and no line sets.
     #[error("line {0}: a name has no address")]
     NoAddress(u32),
-    /// The first line that has no place in an image, by its number from 1, sets an address from the base up to and not including the image's end.
+    /// The first line that can't be assembled, by its number from 1, sets an address from the base up to and not including the image's end.
     #[error("line {0}: the address lies in the image")]
     Inside(u32),
     /// Want of memory.
@@ -42,7 +42,7 @@ impl Flaw {
     ghost use Rattle.thumb_assembler.specs.Pushes.{told_at};
     ghost use Rattle.std.specs.Prelude.{◌≡◌};
 
-    /// What is told of it at the line of a number.
+    /// The error that reports it for a line, by its number from 1.
     pub(crate) fn at(self, line: u32) -> ImageError
         ensures { result ≡ told_at self line }
     {

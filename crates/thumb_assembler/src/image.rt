@@ -1,4 +1,4 @@
-//! An image in memory, and what an instruction finds around it there.
+//! An image in memory, from which instructions and literals are read, and what it decides for an instruction at an address.
 ghost use Rattle.std.specs.Prelude.{◌≡◌, ◌+◌, ◌*◌, ◌<◌, ◌^◌, MatchOption};
 ghost use Rattle.thumb_instr.specs.declared.instr.Instr.{Instr};
 ghost use Rattle.thumb_model.specs.Layout.{literal_base};
@@ -11,7 +11,7 @@ use thumb_instr::{Byte, Instr};
 use thumb_machine::{Around, Landing, Lands, Target};
 use thumb_table::decode;
 
-/// The bytes of an image from a base on, and where its code ends: addresses in bytes.
+/// The bytes of an image from the address `base` on, and the address `high` where its code ends.
 #[derive(Drop)]
 pub(crate) struct Image {
     pub(crate) bytes: Vec<u8>,
@@ -103,7 +103,7 @@ impl Image {
         }
     }
 
-    /// What is said where an instruction stands.
+    /// What its address decides for an instruction.
     pub(crate) fn around(&self, address: u32, instr: &Instr) -> Around
         ensures target { target_of result.target ≡ target_in (loaded_of self.now) address instr.now }
         ensures literal { result.literal ≡ literal_in (loaded_of self.now) address instr.now }
@@ -124,14 +124,14 @@ pub(crate) fn behind(address: u32, instr: &Instr) -> u32
     address.wrapping_add(instr_size(instr))
 }
 
-/// The address that a branch leads to from its own.
+/// The address that a branch at an address leads to, by its distance in bytes.
 fn aim(address: u32, bytes: i32) -> u32
     ensures { result ≡ aim_from address bytes }
 {
     ((i64::from(address) + 4 + i64::from(bytes) + (1 << 32)) % (1 << 32)) as u32
 }
 
-/// The address of a literal: so many words behind the instruction's address and 4, rounded down to a multiple of 4.
+/// The address of a literal: `distance` words behind the instruction's address plus 4, rounded down to a multiple of 4.
 fn literal_address(address: u32, distance: Byte) -> u64
     ensures { result ≡ literal_base address + 4 * distance.number }
 {

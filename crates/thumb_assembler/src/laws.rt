@@ -1,19 +1,19 @@
-//! The laws of images. Each is the contract of a function that does nothing.
+//! Laws of images. Each is stated as the contract of a function with an empty body.
 
 ghost use Rattle.thumb_assembler.specs.Promises.{ImagesFollow, ImagesFollowGiven, RunsAreDetermined};
 ghost use Rattle.thumb_assembler.specs.Sizes.{SizesAreWidths};
 
-/// Begun at a code label's address, an image's run has the events, the memory and the answers that are left of its listing's, and ends where that does.
+/// From a code label's address an image's run has the same events, memory and answers left as its listing's, and ends where that does.
 pub fn images_follow_listings()
     ensures { ImagesFollow }
 {}
 
-/// So it is with the listing that the image's was rewritten from.
+/// The same holds of the listing from which the image's listing was rewritten, where the laid naming fits that too.
 pub fn images_follow_given_listings()
     ensures { ImagesFollowGiven }
 {}
 
-/// After so many steps from a state, an image's run is in one state.
+/// An image's run is deterministic: after a number of steps from a state it is in one state.
 pub fn image_runs_are_determined()
     ensures { RunsAreDetermined }
 {}

@@ -1,4 +1,4 @@
-//! A machine that reads its instructions from an image and decodes them, so that an image's run can be held against its listing's.
+//! A machine that reads its instructions from an image and decodes them, so that an image's run can be compared with its listing's.
 ghost use Rattle.std.specs.Prelude.{◌≡◌, [], ◌∷◌, ℕ, IfOk, OnErr};
 ghost use Rattle.thumb_instr.specs.declared.instr.Instr.{Instr};
 ghost use Rattle.thumb_model.specs.States.{Fell, with_bytes};
@@ -36,7 +36,7 @@ pub struct ImageMachine {
     pub(crate) at: Position,
 }
 
-/// What a run changes, at its beginning. A memory is written by stores and by the outside alone, so the first bytes come as the answer to a call.
+/// The world at the start of a run. Only stores and answers write to a memory, so the first bytes are put there as the answer to a call.
 fn first_world(alloc: Global, image: &Image, state: State) -> Result<World, AllocError>
     ensures values { IfOk result (λ w. values_of w.registers ≡ start_values state) }
     ensures memory { IfOk result (λ w. memory_of w.memory ≡ with_bytes state.bytes (λ (a : ℕ). 0)) }
@@ -99,7 +99,7 @@ impl ImageMachine {
         })
     }
 
-    /// Takes a step. Where memory is refused, or more answers are needed than are left, nothing changes; an ended machine tells its end again.
+    /// Takes a step. Where memory is refused, or more answers are needed than are left, nothing changes; an ended machine reports its end again.
     pub fn step(&mut self, answers: &mut Answers) -> Result<Stage, AllocError>
         ensures image { self.new.image ≡ self.old.image }
         ensures kept { OnErr result (self.new.at ≡ self.old.at) }
@@ -146,7 +146,7 @@ impl ImageMachine {
         Ok(Stage::Fell)
     }
 
-    /// Goes on after an instruction at an address, behind which another stands.
+    /// Goes on after an instruction at `address`, where the next one is at `following`.
     fn arrive(&mut self, address: u32, following: u32, next: Continuation) -> Stage
         requires { self.old.at ≡ Position.Here address }
         ensures image { self.new.image ≡ self.old.image }

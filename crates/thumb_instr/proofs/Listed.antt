@@ -1,4 +1,4 @@
--- Lists of items against bits.
+-- The items that a list of registers has are those whose bits its number has.
 use Rattle.std.proofs.Common.{◌≡◌, ◌∙◌, inl, inr, ℕ, ◌+◌, ◌*◌, ◌/◌, ◌%◌, ◌<◌, ◌≤◌, ◌==◌, ◌&&◌, ◌||◌, Bool, true, false, List, [], ◌∷◌, ◌++◌, refl, sym, ap, arith, eqb-true}
 use Rattle.std.specs.Prelude.{nat_lt, filter}
 use Rattle.std.specs.Int.{bit_at}

@@ -12,7 +12,7 @@ use Rattle.thumb_instr.specs.declared.role.Role.TheVariants.{Register, Number, L
 use Rattle.thumb_instr.specs.declared.role.Operands.{Operands}
 use Rattle.thumb_instr.specs.Roles.{roles}
 
--- 0 stands for a number that the kind has none of
+-- a number that the kind doesn't have is 0
 abbrev pub of : Kind → ℕ → ℕ → ℕ → Parts
 of k a b c = record { kind = k; first = a; second = b; third = c }
 
@@ -110,14 +110,14 @@ have_roles r s t a b c = has_role r a && (has_role s b && has_role t c)
 abbrev pub are_of : Operands → ℕ → ℕ → ℕ → Bool
 are_of r a b c = have_roles r.first r.second r.third a b c
 
--- whether a kind has an instruction with these numbers: not both sp in a sum, not both low in a comparison, and of STM's list the base its lowest, if in it
+-- whether a kind has an instruction with these numbers: a sum not of sp twice, a comparison not of two low registers, STM's base, if listed, the lowest
 abbrev pub is_instr : Kind → ℕ → ℕ → ℕ → Bool
 is_instr kind.Add a b c = are_of (roles kind.Add) a b c && not (a == 13 && b == 13)
 is_instr kind.Compare a b c = are_of (roles kind.Compare) a b c && not (nat_lt a 8 && nat_lt b 8)
 is_instr kind.StoreMany a b c = are_of (roles kind.StoreMany) a b c && is_stored a b
 is_instr k a b c = are_of (roles k) a b c
 
--- the number, if there is one
+-- the number, or 0 where the role says that there is none
 abbrev pub kept : Role → ℕ → ℕ
 kept Nothing n = 0
 kept r n = n
@@ -128,6 +128,6 @@ kept_of r k a b c = of k (kept r.first a) (kept r.second b) (kept r.third c)
 abbrev pub when : Bool → Parts → Option Parts
 when b m = if b then Some m else None
 
--- the parts of the instruction of a kind with these numbers, where there is one; numbers that the kind has none of are passed over
+-- the parts of the instruction of a kind with these numbers, where there is one; numbers that the kind doesn't have are ignored
 abbrev pub made : Kind → ℕ → ℕ → ℕ → Option Parts
 made k a b c = when (is_instr k a b c) (kept_of (roles k) k a b c)

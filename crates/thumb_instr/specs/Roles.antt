@@ -18,7 +18,7 @@ use Rattle.thumb_instr.specs.declared.role.Operands.{Operands}
 use Rattle.thumb_instr.specs.declared.role.Usage.{Usage}
 use Rattle.thumb_instr.specs.declared.role.Usage.TheVariants as usage
 
--- what an operation on two low registers does with its target, the other is read
+-- what an operation on two low registers does with its target; the other register is read
 abbrev pub two_usage : Operation → Usage
 two_usage operation.Tst = usage.Read
 two_usage operation.Cmp = usage.Read

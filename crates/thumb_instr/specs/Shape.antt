@@ -1,4 +1,4 @@
--- The items that an instruction reads and writes. Where it has several ways on, those of the first: to a label or a code point of the listing.
+-- The items that an instruction reads and writes. Where control can go on in several ways, those of the first: to a label or a code point of the listing.
 use Rattle.std.specs.Prelude.{ℕ, List, [], ◌∷◌, ◌++◌, filter, if◌then◌else◌}
 use Rattle.thumb_instr.specs.declared.instr.Instr.{Instr}
 use Rattle.thumb_instr.specs.declared.instr.Instr.TheVariants.{Mov, Three, Two, Bx, Movs, ShiftLeft, ShiftRight, ThreeNumber, TwoNumber, Add, Compare, Blx, Literal, Indexed, Offset, Stack, Address, StackAddress, StackMove, Extend, Reverse, Push, Pop, StoreMany, LoadMany, Service, BranchIf, Call, ReadSpecial, WriteMask}
@@ -34,7 +34,7 @@ registers_in list = filter (has list) (0 ∷ 1 ∷ 2 ∷ 3 ∷ 4 ∷ 5 ∷ 6 ∷
 abbrev pub pushed : ℕ → List ℕ
 pushed list = registers_in list ++ (if has list 8 then lr ∷ [] else [])
 
--- an operation on its target d and the other register m: a shift by 0 keeps C, so it reads it
+-- what an operation on its target d and the other register m reads; a shift reads C too, since by 0 it keeps it
 abbrev pub two_uses : Operation → ℕ → ℕ → List ℕ
 two_uses operation.And d m = d ∷ m ∷ []
 two_uses operation.Eor d m = d ∷ m ∷ []

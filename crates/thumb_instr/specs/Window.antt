@@ -1,4 +1,4 @@
--- The registers that an instruction names, with others in their place, which instructions may stand in a window, and the one for both encodings of an effect.
+-- Which registers an instruction names, renaming them, which instructions may stand in windows, and the normal form where an effect has two encodings.
 use Rattle.std.specs.Prelude.{◌≡◌, ℕ, ◌<◌, List, [], ◌∷◌, ◌++◌, Option, Some, None, slice_get, unwrap_or, ◌==◌, ◌&&◌, nat_lt, Bool, true, false, if◌then◌else◌}
 use Rattle.std.proofs.Common.{lit≤, subst}
 use Rattle.std.proofs.Math.Nat.{lt_of_lt_of_le, lt_irrefl}

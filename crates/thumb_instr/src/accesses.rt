@@ -1,5 +1,4 @@
-//! What each instruction reads and writes, and how it goes on, one row a form: live items and the flow of control are worked out from these rows
-//! alone.
+//! What each instruction reads and writes, one row a form. The ways on from a place, and so the live items, are worked out from these rows.
 ghost use Rattle.std.specs.Prelude.{◌≡◌, ℕ, ◌<◌};
 ghost use Rattle.thumb_instr.specs.Items.{one_of, has};
 ghost use Rattle.thumb_instr.specs.Shape.{uses_of, writes_of, two_uses, two_writes, byte_uses, byte_writes, access_uses, access_writes, offset_access, word_access, condition_uses, registers_in, pushed};
@@ -9,7 +8,7 @@ use crate::items::{C, Items, LR, N, SP, Shape, V, Z};
 use crate::operation::{Access, ByteOperation, Condition, OffsetAccess, Operation, WordAccess};
 use crate::within::Low;
 
-/// What an instruction reads and writes. Where it has several ways on, this is so of the first, to a label or a code point of the listing.
+/// What an instruction reads and writes. Where control can go on in several ways, this is for the first: to a label or a code point of the listing.
 /// A shift by register reads C, since an amount of 0 keeps it.
 pub fn shape(instr: &Instr) -> Shape
     ensures uses { (x : ℕ) → has result.uses.bits x ≡ one_of x (uses_of instr.now) }

@@ -19,7 +19,7 @@ impl<const HALF: u32> Distance<HALF> {
         Distance { field }
     }
 
-    /// The distance of so many bytes, where there is one.
+    /// The distance of `bytes` bytes. None where the field can't hold it.
     pub fn new(bytes: i32) -> Option<Self>
         requires { HALF ≤ 2 ^ 28 }
         ensures valid { IsSome result ↔ IsDistance HALF bytes }

@@ -1,4 +1,4 @@
-//! The instructions of Armv6-M that the product knows, as data whose fields hold only what has an encoding.
+//! The instructions of Armv6-M that the program knows, as data whose fields hold only what has an encoding.
 use crate::distance::{Far, Farthest, Near};
 use crate::operation::{
     Access, Barrier, ByteOperation, Condition, Extension, HintOperation, Interrupts, OffsetAccess,

@@ -44,7 +44,7 @@ pub enum Kind {
     WriteMask,
 }
 
-/// An instruction as its kind and its registers and numbers, in the order of its canonical text: 0 stands for a number that its kind has none of.
+/// An instruction as its kind and its registers and numbers, in the order of its canonical text; a number that the kind doesn't have is 0.
 /// Lists of registers are their bits, offsets are in the units of the encoding, and distances are the fields of the encoding.
 #[derive(Clone, Copy, Debug, PartialEq, Eq)]
 pub struct Parts {

@@ -5,7 +5,7 @@ use crate::apart::parts;
 use crate::instr::Instr;
 use crate::rebuilding::rebuilt;
 
-/// What is put together of an instruction's parts: the instruction.
+/// An instruction's parts, put together again, give the instruction.
 pub fn rebuilding_gives_back(instr: &Instr) -> Option<Instr>
     ensures { result ≡ Some instr.now }
 {

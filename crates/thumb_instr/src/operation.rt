@@ -1,4 +1,4 @@
-//! Operations of one encoding each, told apart by a field of it, so that a form of instruction has one row and not one for each of them.
+//! Operations that share an encoding and differ in one of its fields, so that a form of instruction has one row and not one for each operation.
 /// A sum or a difference.
 #[derive(Clone, Copy, Debug, PartialEq, Eq)]
 pub enum SumOperation {

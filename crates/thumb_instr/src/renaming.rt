@@ -8,7 +8,7 @@ use crate::role::{Role, roles};
 use crate::within::{Low, NotBothSp, Reg};
 use arrayvec::ArrayVec;
 
-/// The registers so far, and that of a role, if it is one.
+/// The registers found so far, and the further one, if the role is a register's.
 fn and_named(found: ArrayVec<Low, 3>, role: Role, number: u32) -> ArrayVec<Low, 3>
     requires room { length found.items < 3 }
     requires low { AreBelow 8 (named_by role number) }
@@ -25,7 +25,7 @@ fn and_named(found: ArrayVec<Low, 3>, role: Role, number: u32) -> ArrayVec<Low, 
     }
 }
 
-/// The registers that an instruction of a window names, in the order of its canonical text, and one that it names twice twice.
+/// The registers that an instruction of a window names, in the order of its canonical text; one that it names twice is listed twice.
 pub fn registers_of(instr: &Instr) -> ArrayVec<Low, 3>
     requires { is_in_window instr.now ≡ true }
     ensures { map (λ r. r.number) result.items ≡ named instr.now }
@@ -54,7 +54,7 @@ fn low_under(map: &[Low], register: Low) -> Low
     }
 }
 
-/// A low register as a register, or the other.
+/// The low register, if there is one, else the other.
 fn wide_or(low: Option<Low>, register: Reg) -> Reg
     ensures { result ≡ wide_or low register }
 {

@@ -33,9 +33,9 @@ pub enum Role {
     Register(Usage, Class),
     /// a number from the first to below the second
     Number(u32, u32),
-    /// a list of registers as their bits: at least one, and below
+    /// a list of registers as their bits: at least one register, and below this number
     List(u32),
-    /// the field of a distance to a label, below
+    /// the field of a distance to a label, below this number
     Distance(u32),
     /// there is none
     Nothing,

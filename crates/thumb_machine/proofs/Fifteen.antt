@@ -1,4 +1,4 @@
--- The registers of a state in one list.
+-- The registers of a start state, r0 to r12, sp and lr, in the one list that the machine keeps.
 use Rattle.std.proofs.Common.{◌≡◌, ℕ, suc, ◌==◌, nat_lt, false, List, [], ◌∷◌, get_or, refl, arith, if◌then◌else◌, ne_eqb}
 use Rattle.std.specs.Prelude.{slice_index}
 use Rattle.std.proofs.lemmas.Bool.{le-ltb}

@@ -45,7 +45,7 @@ apart_behind r v q (x ∷ xs) order up behind =
     let more = one_more r v q x.0 x.1 order ups.0 behind in
     rw more.0 (apart_behind (risen r x.0 x.1) v q xs (stays_ordered r x.0 x.1 order) ups.1 more.1)
 
--- ---- each two, where each is apart from those behind it ----
+-- ---- any two are apart, where each is apart from those behind it ----
 
 apart_sym : (x y : ℕ × ℕ) → apart x y ≡ apart y x
 apart_sym x y = ap₂ (λ a b. a || not b) (eqb_sym x.1 y.1) (eqb_sym x.0 y.0)
@@ -77,6 +77,6 @@ rising_apart r (x ∷ xs) order up =
 
 -- ---- in another order ----
 
--- each two are apart, where tests of all are the same in both
+-- any two are apart, where tests of all are the same in both
 pub apart_all : (xs ys : List (ℕ × ℕ)) → ((f : ℕ × ℕ → Bool) → list_all f xs ≡ list_all f ys) → all_apart xs ≡ all_apart ys
 apart_all xs ys same = all_same (λ x. list_all (apart x) xs) (λ x. list_all (apart x) ys) xs (λ x. same (apart x)) ∙ same (λ x. list_all (apart x) ys)

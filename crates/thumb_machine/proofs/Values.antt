@@ -1,4 +1,4 @@
--- Numbers as bytes, the lowest first.
+-- Numbers as little-endian bytes, put together one byte at a time.
 use Rattle.std.proofs.Common.{◌≡◌, ℕ, suc, ◌+◌, ◌*◌, ◌/◌, ◌%◌, ◌^◌, ◌<◌, ◌≤◌, [], ◌∷◌, refl, arith}
 use Rattle.std.proofs.Math.Nat.{pow-succ'}
 use Rattle.thumb_model.specs.Effect.{assigned}

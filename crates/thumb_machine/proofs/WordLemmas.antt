@@ -243,7 +243,7 @@ known_all base lines p le =
     ap (fold (λ known x. with_name base lines known (place_name x)) []) (take_all p (places_of lines) le)
     ∙ known_names base lines [] (places_of lines) ∙ filter_none (is_other []) (λ m. refl) (nowhere base lines)
 
--- so many places were gone through
+-- the first p places were gone through: the `count` names in them that need words of their own have them
 pub record SoManyOwn (base : ℕ) (lines : List ListingLine) (p count : ℕ) (es : Entries) : Type 0 where
   pub own : AreOwn base lines (known_before base lines p) es
   pub counted : count ≡ length (known_before base lines p)

@@ -1,4 +1,4 @@
--- What it means that a step of the machine does what the model's act says.
+-- When the machine has done an act of the model: the contract that its instructions share.
 use Rattle.std.specs.Prelude.{◌≡◌, ℕ, List, [], ◌∷◌, ◌++◌, Some, Result, Ok, Err}
 use Rattle.thumb_machine.specs.declared.answers.Answer.{Answer}
 use Rattle.thumb_machine.specs.declared.world.World.{World}
@@ -49,7 +49,7 @@ EndsBy (next.Over e) es = (front : List model.Event) × (last : model.Event) × 
 
 -- ---- acts ----
 
--- items got values, the memory is another, and events came
+-- the items of `os` got their values, the memory became `bytes`, and the events `es` were added
 pub record Changed (os : List (ℕ × ℕ)) (bytes : ℕ → ℕ) (es : List model.Event) (old new : World) : Type 0 where
   pub registers : values_of new.registers ≡ assigned os (values_of old.registers)
   pub memory : memory_of new.memory ≡ bytes
@@ -78,7 +78,7 @@ abbrev pub Changes : {T E : Type 0} → List (ℕ × ℕ) → (ℕ → ℕ) → 
 Changes os bytes es old new (Ok t) = Changed os bytes es old new
 Changes os bytes es old new (Err e) = Unchanged old new
 
--- what the model's act is of the world was done, or for want of memory nothing was
+-- the model's act on this world was done, or for want of memory nothing was
 abbrev pub Acts : {E : Type 0} → (model.World → Act) → World → List Answer → World → List Answer → Result Continuation E → Type 0
 Acts act old before new left (Ok n) = Acted (act (world_of old before)) old new left n
 Acts act old before new left (Err e) = Refused old new before left

@@ -1,4 +1,4 @@
--- What a naming has to be beside a listing, condition by condition.
+-- The conditions under which a naming fits a listing, each as a test of its own.
 use Rattle.std.specs.Prelude.{ℕ, ◌==◌, ◌&&◌, ◌||◌, not, max, nat_lt, Bool, true, List, Option, Some, None, if◌then◌else◌}
 use Rattle.std.specs.List.{list_all}
 use Rattle.thumb_machine.specs.declared.distinct.Rising.{Rising}
@@ -11,11 +11,11 @@ use Rattle.thumb_model.specs.Naming.{Naming, is_in_range, is_odd}
 abbrev pub is_code_word : Naming → ℕ → Bool
 is_code_word names word = is_odd word && is_in_range names word
 
--- whether two code points have one place or two words
+-- whether two code points have the same place or different words
 abbrev pub apart : ℕ × ℕ → ℕ × ℕ → Bool
 apart x y = (x.1 == y.1) || not (x.0 == y.0)
 
--- whether each two do
+-- whether any two of them do
 abbrev pub all_apart : List (ℕ × ℕ) → Bool
 all_apart xs = list_all (λ x. list_all (apart x) xs) xs
 

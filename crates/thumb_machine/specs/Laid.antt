@@ -21,7 +21,7 @@ abbrev pub place_name : Place → Option Name
 place_name (Op i mention) = mention_name mention
 place_name (Word v) = value_name v
 
--- each name once, where it stands first
+-- each name once, at its first occurrence
 abbrev pub firsts : List Name → List Name
 firsts [] = []
 firsts (n ∷ ns) = n ∷ filter (λ m. not (bytes_eq m n)) (firsts ns)

@@ -1,7 +1,7 @@
--- Lists of registers.
+-- Lists of registers by number, as the instructions with lists have them.
 use Rattle.std.specs.Prelude.{ℕ, ◌<◌, List, [], ◌∷◌}
 
--- each is a register
+-- each is the number of a register: r0 to r12, sp or lr
 abbrev pub AreRegisters : List ℕ → Type 0
 AreRegisters [] = Unit {0}
 AreRegisters (x ∷ xs) = (x < 15) × AreRegisters xs

@@ -1,4 +1,4 @@
--- What the bytes of a machine are, by address.
+-- The machine's memory, a hash map, as the model's function from addresses to bytes.
 use Rattle.std.specs.Prelude.{ℕ, nat_eq, unwrap_or}
 use Rattle.std.specs.HashMap.{get, spare}
 use Rattle.thumb_machine.specs.declared.memory.Memory.{Memory}

@@ -1,4 +1,4 @@
--- Which naming of the model a naming is.
+-- The naming of the model that the code's naming, a table of words, stands for.
 use Rattle.std.specs.Prelude.{ℕ, Bool, slice_index, unwrap_or}
 use Rattle.std.specs.Map.{lookup}
 use Rattle.std.specs.Str.{bytes_eq}

@@ -35,7 +35,7 @@ answer_values a = λ x.
     else if x == v_flag then bit_at a.nzcv 0
     else 0
 
--- the items that an answer brings to a call and to a service
+-- the items that are taken from the answer to a call, and to a service (SVC)
 abbrev pub brought : Asked → List ℕ
 brought asked.Call = answered
 brought asked.Service = served

@@ -38,7 +38,7 @@ IsPlaceContents names code p (Some x) None = ⊥
 IsPlaceContents names code p (Some (Word v)) (Some (contents.Instruction j around)) = ⊥
 IsPlaceContents names code p (Some (Op i mention)) (Some contents.Data) = ⊥
 
--- the place that a word's code points have
+-- the place that a program notes for a word
 abbrev pub point_of : Program → ℕ → Option ℕ
 point_of program word = get nat_eq program.points word
 
@@ -72,7 +72,7 @@ pub record Stands (s : State) (m : Machine) (left : List Answer) : Type 0 where
 
 -- ---- steps ----
 
--- a step goes on, stays for want of answers, or leaves the run ended so
+-- the stage that a step reports: it goes on, waits for want of answers, or ends the run
 abbrev pub IsStage : Stage → model.Continuation → Position → Type 0
 IsStage s model.On here = s ≡ stage.Going
 IsStage s (model.To p) here = s ≡ stage.Going
@@ -98,7 +98,7 @@ pub record Stepped (names : Naming) (code : Code) (old : Machine) (before : List
   pub stage : IsStage s (next_at names code (at_of old.at) (state_of old before)) new.at
   pub ends : EndedBy old.at new.at (events_of new.world.events.items)
 
--- a step by the definition, or nothing for want of memory
+-- a step as the model defines it, or no change for want of memory
 abbrev pub Steps : {E : Type 0} → Naming → Code → Machine → List Answer → Machine → List Answer → Result Stage E → Type 0
 Steps names code old before new left (Ok s) = Stepped names code old before new left s
 Steps names code old before new left (Err e) = Stands (state_of old before) new left

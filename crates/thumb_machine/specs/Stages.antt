@@ -31,7 +31,7 @@ end_of (Fault address) = Some end.Fault
 end_of (Astray word) = Some end.Astray
 end_of Fell = Some end.Fell
 
--- the stage of a run that ended so
+-- the stage of a run that has this end
 abbrev pub stage_of : End → Stage
 stage_of end.Left = stage.Left
 stage_of end.Fault = stage.Fault

@@ -33,6 +33,6 @@ word_in es name = lookup (is_named name) es
 pub record AreFixed (base : ℕ) (lines : List ListingLine) (known : List Name) (es : Entries) : Type 0 where
   pub words : (n : Name) → word_in es n ≡ (if is_among n known then fixed_word base lines n else None)
 
--- all labels and set names have their words, and these others their own
+-- all labels and set names have their words, and the `known` names words of their own
 pub record AreOwn (base : ℕ) (lines : List ListingLine) (known : List Name) (es : Entries) : Type 0 where
   pub words : (n : Name) → word_in es n ≡ or_else (fixed_word base lines n) (own_word 0 n known)

@@ -82,7 +82,7 @@ fn cut(access: Access, value: u32) -> u32
 }
 
 impl World {
-    /// The number of up to four bytes of the memory from an address on that is no device's.
+    /// The little-endian number in up to four bytes of the memory from an address on that is no device's.
     pub(crate) fn value(&self, address: u32, size: u32) -> u32
         requires few { size ≤ 4 }
         requires low { address < 2 ^ 30 }
@@ -124,7 +124,7 @@ impl World {
         Ok(Continuation::On)
     }
 
-    /// Loads from a device, which takes an answer.
+    /// Loads from a device, which consumes an answer.
     fn load_device(
         &mut self,
         answers: &mut Answers,
@@ -144,7 +144,7 @@ impl World {
         Ok(Continuation::On)
     }
 
-    /// Loads into a register.
+    /// Loads into a register, or ends the run by a fault where the address isn't aligned.
     fn load(
         &mut self,
         answers: &mut Answers,
@@ -180,7 +180,7 @@ impl World {
         Ok(())
     }
 
-    /// Stores a value.
+    /// Stores a value, or ends the run by a fault where the address isn't aligned.
     fn store(
         &mut self,
         access: Access,

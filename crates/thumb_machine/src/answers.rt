@@ -3,7 +3,7 @@ ghost use Rattle.std.specs.Prelude.{◌≡◌, ◌<◌, [], ◌∷◌, length, d
 
 use std::marker::Model;
 
-/// Bytes by address. Of two at one address the later stands.
+/// Bytes by address. Of two at one address the later counts.
 #[derive(Debug, Drop)]
 pub struct Bytes {
     list: Vec<(u32, u8)>,
@@ -48,7 +48,7 @@ pub struct Answer {
     pub bytes: Bytes,
 }
 
-/// What the outside was asked for: a call brings r0 to r3, r12, lr and the flags, a service r0 to r3 and r12.
+/// What the outside was asked for. The answer to a call gives r0 to r3, r12, lr and the flags, the answer to a service (SVC) r0 to r3 and r12.
 #[derive(Clone, Copy)]
 pub(crate) enum Asked {
     Call,
@@ -95,7 +95,7 @@ impl Answers {
         self.left().first()
     }
 
-    /// Gives the next answer away.
+    /// Removes the next answer, which was used.
     pub(crate) fn pass(&mut self)
         requires { 0 < length self.old }
         ensures { self.new ≡ drop 1 self.old }

@@ -1,4 +1,4 @@
-//! Whether code points at different places have different words.
+//! Whether code points at different places have different words: by one pass where words rise from place to place, else pair by pair.
 ghost use Rattle.std.specs.Prelude.{◌≡◌, true, ◌==◌, ◌||◌, IsTrue};
 ghost use Rattle.std.specs.List.{list_all};
 ghost use Rattle.thumb_model.specs.Listing.{code_of};
@@ -35,7 +35,7 @@ impl PointTest for Rising {
     }
 }
 
-/// The test that a code point is at one place or has another word than each.
+/// The test that code points are at one given place or have other words than the given one.
 #[derive(Drop)]
 struct Apart {
     word: u32,
@@ -54,7 +54,7 @@ impl PointTest for Apart {
     }
 }
 
-/// The test that each code point is so beside all of a listing.
+/// The test that each code point passes `Apart` with all code points of a listing.
 #[derive(Drop)]
 struct EachApart<'a> {
     naming: &'a Naming,
@@ -90,7 +90,7 @@ impl Naming {
         self.points_pass(&mut test, listing)
     }
 
-    /// Whether a code point has one place or two words with each of a listing.
+    /// Whether each code point of a listing has the same place as this one, or another word.
     fn is_apart(&self, listing: &Listing, word: u32, place: u32) -> bool
         ensures { result ≡ list_all (apart (word, place)) (points (naming_of self.now) (code_of listing.now)) }
     {
@@ -98,7 +98,7 @@ impl Naming {
         self.points_pass(&mut test, listing)
     }
 
-    /// Whether each two code points have one place or two words, compared pair by pair.
+    /// Whether any two code points have the same place or different words, compared pair by pair.
     fn are_apart(&self, listing: &Listing) -> bool
         ensures { result ≡ all_apart (points (naming_of self.now) (code_of listing.now)) }
     {
@@ -109,7 +109,7 @@ impl Naming {
         self.points_pass(&mut test, listing)
     }
 
-    /// Whether code points at different places have different words. Where the words rise from place to place, as those of a layout do, one pass tells.
+    /// Whether code points at different places have different words. Where the words rise from place to place, as those of a layout do, one pass suffices.
     pub(crate) fn are_distinct(&self, listing: &Listing) -> bool
         ensures { result ≡ all_apart (points (naming_of self.now) (code_of listing.now)) }
     {

@@ -1,7 +1,7 @@
-//! What can be seen of a run. Two listings are the same where these are.
+//! What can be seen of a run. Listings are compared by these events, with memory and the answers that are left.
 use arrayvec::ArrayVec;
 
-/// What can be seen of a run. Sizes are in bytes, and a word is one that a branch went by.
+/// What can be seen of a run. Sizes are in bytes; `word` is the target of a branch, with bit 0 as the branch had it.
 #[derive(Debug, PartialEq, Eq, Drop)]
 pub enum Event {
     /// A load of data: its address and size.
@@ -17,7 +17,7 @@ pub enum Event {
     Left { word: u32, registers: [u32; 14] },
     /// An access at an address that isn't a multiple of its size.
     Fault { address: u32 },
-    /// A branch by a word that leads nowhere.
+    /// An indirect branch that leads nowhere: to a word that is no code point's, and is even or in the range of code.
     Astray { word: u32 },
     /// A step where no instruction is.
     Fell,

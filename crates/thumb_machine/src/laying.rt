@@ -126,7 +126,7 @@ pub(crate) fn mentioned(place: Place<'_>) -> Option<&Mention>
     }
 }
 
-/// Notes the own word of a name that has none so far, of which there are so many; answers how many there are then.
+/// Notes a word of its own for a name that has none so far, where `count` names have such words already; returns how many have them then.
 fn add_own(
     words: &mut IndexMap<Vec<u8>, u32>,
     name: &Vec<u8>,

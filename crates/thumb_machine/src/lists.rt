@@ -1,4 +1,4 @@
-//! Instructions with lists of registers, whose parts happen in order and all or not at all.
+//! Instructions with lists of registers: their accesses happen in order, and all of them or none.
 ghost use Rattle.std.specs.Prelude.{◌≡◌, ◌<◌, ◌≤◌, ◌+◌, ◌*◌, [], ◌∷◌, ◌++◌, List, filter, true, length, map, if◌then◌else◌};
 ghost use Rattle.thumb_instr.specs.Items.{has};
 ghost use Rattle.thumb_instr.specs.Shape.{registers_in, pushed};
@@ -23,7 +23,7 @@ use thumb_instr::items::{LR, SP};
 /// Up to nine registers by number, or their words.
 pub(crate) type List = ArrayVec<u32, 9>;
 
-/// Puts a register behind those that were found, where the list has its bit.
+/// Appends a register to those found, where the list has its bit.
 fn find(found: &mut List, list: u32, register: u32)
     requires room { length found.old.items < 9 }
     requires register { register < 15 }
@@ -103,7 +103,7 @@ fn next_word(address: u32) -> u32
     address.wrapping_add(4)
 }
 
-/// The address behind so many words.
+/// The address behind as many words as the list has.
 pub(crate) fn behind(list: &[u32], address: u32) -> u32
     ensures { result ≡ behind list.now address }
 {
@@ -114,7 +114,7 @@ pub(crate) fn behind(list: &[u32], address: u32) -> u32
     at
 }
 
-/// The address so many words below.
+/// The address that is as many words below as the list has.
 fn below(list: &[u32], address: u32) -> u32
     requires { length list.now ≤ 9 }
     ensures { result ≡ below list.now address }
@@ -204,7 +204,7 @@ impl World {
         words
     }
 
-    /// Stores words from an address on, and then writes the base back.
+    /// Stores words from an address on, and writes an address back to the base.
     fn store_many(
         &mut self,
         base: u32,
@@ -254,7 +254,7 @@ impl World {
         )
     }
 
-    /// The word at an address: a device's is the next answer's first.
+    /// The word at an address: at a device it is the first word of the next answer.
     fn word(&self, answers: &Answers, address: u32) -> u32
         requires { is_device address ≡ true → 0 < length answers.now }
         ensures { result ≡ word_at (memory_of self.now.memory) (answers_of answers.now) address }
@@ -268,7 +268,7 @@ impl World {
         }
     }
 
-    /// Reads the word at an address, which takes an answer where a device is there.
+    /// Reads the word at an address, which consumes an answer where a device is there.
     pub(crate) fn read(&mut self, answers: &mut Answers, address: u32) -> u32
         requires { is_device address ≡ true → 0 < length answers.old }
         ensures word { result ≡ word_at (memory_of self.old.memory) (answers_of answers.old) address }

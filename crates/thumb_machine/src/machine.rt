@@ -32,7 +32,7 @@ pub enum Position {
     Ended { end: End },
 }
 
-/// What a step came to.
+/// How a step ended.
 #[derive(Clone, Copy, Debug, PartialEq, Eq)]
 pub enum Stage {
     /// The run goes on.
@@ -45,7 +45,7 @@ pub enum Stage {
     Astray,
     /// The run ended where no instruction is.
     Fell,
-    /// The step needs more answers than are left.
+    /// The step needs more answers than are left, and nothing changed.
     Wants,
 }
 
@@ -136,7 +136,7 @@ impl Machine {
         })
     }
 
-    /// Takes a step. Where memory is refused, or more answers are needed than are left, nothing changes; an ended machine tells its end again.
+    /// Takes a step. Where memory is refused, or more answers are needed than are left, nothing changes; an ended machine reports its end again.
     pub fn step(&mut self, answers: &mut Answers) -> Result<Stage, AllocError>
         ensures program { self.new.program ≡ self.old.program }
         ensures kept { OnErr result (self.new.at ≡ self.old.at) }

@@ -1,4 +1,4 @@
-//! How a program's words are found: by the layout's naming, or by one that is given, which has to fit.
+//! How the rows of a program are made from a listing under any naming, whether it fits or not.
 ghost use Rattle.std.specs.Prelude.{◌≡◌, ◌<◌, ◌≤◌, ◌+◌, ◌/◌, ◌^◌, ℕ, vec_len, Some, slice_get, take, length, IfOk, if◌then◌else◌};
 ghost use Rattle.thumb_model.specs.Listing.{code_of, call_count, is_call, places_of};
 ghost use Rattle.thumb_model.specs.Steps.{aim_of, literal_at, literal_word, loads_literal, set_bit, target_at, word_of_mention, word_of_place, word_of_value};
@@ -96,7 +96,7 @@ impl Naming {
         }
     }
 
-    /// The data word that lies so many bytes behind a label.
+    /// The word of the data word that a mention leads to: `plus` bytes behind its label, or 0 where there is none.
     fn literal_word(&self, listing: &Listing, mention: &Mention) -> u32
         ensures { result ≡ literal_word (naming_of self.now) (code_of listing.now) (Some (mention_view mention.now)) }
     {
@@ -106,7 +106,7 @@ impl Naming {
         }
     }
 
-    /// The word at a place so many bytes further on.
+    /// The word at the place that lies `plus` bytes behind a label's.
     fn word_behind(&self, listing: &Listing, label: u32, plus: u32) -> u32
         ensures { result ≡ word_of_place (naming_of self.now) (slice_get (places_of listing.now) (label + plus / 4)) }
     {
@@ -129,7 +129,7 @@ impl Naming {
         }
     }
 
-    /// The row of a place behind so many calls.
+    /// The row of a place that has `calls` calls before it.
     fn row(&self, listing: &Listing, place: Place<'_>, calls: usize) -> PlaceContents
         ensures { (p : ℕ) → calls ≡ call_count (take p (places_of listing.now)) → IsPlaceContents (naming_of self.now) (code_of listing.now) p (Some (place_view place.entry)) (Some result) }
     {
@@ -168,7 +168,7 @@ impl Naming {
     }
 }
 
-/// The word of no place: an address past 2^32 words is none of a listing's.
+/// The word of a place number of 2^32 or more, which no listing has: 0.
 fn past(listing: &Listing) -> u32
     ensures value { result ≡ 0 }
     ensures few { length (places_of listing.now) < 2 ^ 32 }

@@ -42,7 +42,7 @@ impl Memory {
         self.bytes.get(&address).copied().unwrap_or(0)
     }
 
-    /// The number of up to four bytes from an address on, the lowest first.
+    /// The little-endian number in up to four bytes from an address on.
     pub(crate) fn value(&self, address: u32, size: u32) -> u32
         requires few { size ≤ 4 }
         requires fits { address + size < 2 ^ 32 }
@@ -55,7 +55,7 @@ impl Memory {
         u32::from(self.byte(address)) + 256 * self.value(address + 1, size - 1)
     }
 
-    /// Makes room for so many bytes, and changes none.
+    /// Makes room for `count` bytes more, and changes none.
     pub(crate) fn reserve(&mut self, count: usize) -> Result<(), AllocError>
         ensures same { memory_of self.new ≡ memory_of self.old }
         ensures room { OnOk result (count ≤ room_of self.new) }
@@ -72,7 +72,7 @@ impl Memory {
         let _ = self.bytes.insert(address, byte);
     }
 
-    /// Writes the lowest bytes of a number for which there is room, the lowest first.
+    /// Writes the `size` lowest bytes of a number, for which there is room, little-endian.
     pub(crate) fn put(&mut self, address: u32, size: u32, value: u32)
         requires room { size ≤ room_of self.old }
         requires fits { address + size < 2 ^ 32 }
@@ -86,7 +86,7 @@ impl Memory {
         self.put_byte(address, (value % 256) as u8);
     }
 
-    /// Stores the lowest bytes of a number for which there is room: a device has none.
+    /// Stores the `size` lowest bytes of a number, for which there is room; at a device's address it writes nothing.
     pub(crate) fn store(&mut self, address: u32, size: u32, value: u32)
         requires room { size ≤ room_of self.old }
         requires few { size ≤ 4 }

@@ -4,7 +4,7 @@ ghost use Rattle.thumb_machine.specs.Naming.{naming_of};
 
 use indexmap::IndexMap;
 
-/// A word for each name and for the return point of each call by its number, and the range of code from an even address to below another.
+/// A word for each name and for the return point of each call by its number, and the range of code from the address `low` to below `high`.
 #[derive(Drop)]
 pub struct Naming {
     pub(crate) words: IndexMap<Vec<u8>, u32>,

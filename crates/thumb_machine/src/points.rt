@@ -1,4 +1,4 @@
-//! A branch by a word lands at the least place that has this word, found by one look in a table that is made once.
+//! An indirect branch to a word goes to the least place that has this word, found by one look-up in a table that is made once.
 ghost use Rattle.std.specs.Prelude.{◌≡◌, ◌==◌, ◌<◌, ◌-◌, ◌^◌, ◌∷◌, [], ◌++◌, ℕ, List, map, nat_eq, IfOk, OnOk, if◌then◌else◌};
 ghost use Rattle.std.specs.HashMap.{get};
 ghost use Rattle.thumb_model.specs.Listing.{code_of, labels_at, labels_from, places_of};
@@ -78,7 +78,7 @@ fn add_labels(
     Ok(())
 }
 
-/// Notes a return point behind a call of that number.
+/// Notes the return point behind a call, which has this number.
 fn add_return(
     points: &mut HashMap<u32, u32>,
     naming: &Naming,

@@ -27,7 +27,7 @@ fn is_enough(answers: &Answers, address: u32, list: &[u32]) -> bool
 }
 
 impl World {
-    /// Writes an address back to a base, or the word again that it got from a list.
+    /// Writes an address back to the base, or, where the base is in the list, the word that was loaded into it.
     fn write_back(&mut self, base: u32, back: u32, list: &[u32])
         requires { base < 15 }
         ensures registers { values_of self.new.registers ≡ assigned ((base, written_to base (if one_of base list.now then values_of self.old.registers base else back)) ∷ []) (values_of self.old.registers) }
@@ -81,7 +81,7 @@ impl World {
         Ok(Continuation::On)
     }
 
-    /// Goes where a word lands. An event for which there is room tells where it leaves or strays.
+    /// Branches to where a word lands. Where it leaves or strays, an event is added, for which there is room.
     fn arrive(&mut self, landing: Landing, word: u32) -> Continuation
         requires { self.old.events.len < self.old.events.cap }
         ensures next { next_of result ≡ landed_next (landing_of landing) }
@@ -104,7 +104,7 @@ impl World {
         }
     }
 
-    /// Reads words into registers, and one more by which it branches. There is room for their events and one more.
+    /// Reads words into registers, and one more, to which it branches. There is room for their events and one more.
     fn fill_and_branch<P: Lands>(
         &mut self,
         answers: &mut Answers,
@@ -126,7 +126,7 @@ impl World {
         self.arrive(place.lands(word), word)
     }
 
-    /// POP with pc: loads words and one more, by which it branches.
+    /// POP with pc: loads words and one more, to which it branches.
     pub(crate) fn pop_away<P: Lands>(
         &mut self,
         answers: &mut Answers,

@@ -62,7 +62,7 @@ impl Registers {
         self.set(target, written(target, word));
     }
 
-    /// Gives all flags: N is 8, Z is 4, C is 2 and V is 1.
+    /// Sets all flags: N is 8, Z is 4, C is 2 and V is 1.
     fn set_flags(&mut self, nzcv: u8)
         ensures { values_of self.new ≡ assigned ((n_flag, bit_at nzcv 3) ∷ (z_flag, bit_at nzcv 2) ∷ (c_flag, bit_at nzcv 1) ∷ (v_flag, bit_at nzcv 0) ∷ []) (values_of self.old) }
     {
@@ -80,7 +80,7 @@ impl Registers {
         self.set(0, answer.words[0]);
     }
 
-    /// Takes what an answer brings: r0 to r3 and r12, and of a call also lr and the flags.
+    /// Takes what an answer gives: r0 to r3 and r12, and after a call also lr and the flags.
     pub(crate) fn answer(&mut self, asked: Asked, answer: &Answer)
         ensures { values_of self.new ≡ assigned (all_at (brought asked) (answer_values answer.now)) (values_of self.old) }
     {
@@ -94,7 +94,7 @@ impl Registers {
         }
     }
 
-    /// ConditionHolds
+    /// Whether a condition holds: the manual's ConditionHolds.
     pub(crate) fn holds(&self, condition: Condition) -> bool
         ensures { result ≡ holds condition (values_of self.now) }
     {

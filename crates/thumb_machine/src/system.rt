@@ -1,4 +1,4 @@
-//! Instructions that only the system sees: each is one event with a code.
+//! Calls, SVC and MRS, which may need an answer of the outside, and instructions that only the system sees: each of these is one event with a code.
 ghost use Rattle.std.specs.Prelude.{◌≡◌, ◌<◌, ◌≤◌, [], ◌∷◌, ◌++◌, List, length, map};
 ghost use Rattle.thumb_model.specs.Effect.{sp};
 ghost use Rattle.thumb_model.specs.States.{Sys, Call, answers_with, handed, served, takes, tells};
@@ -68,7 +68,7 @@ impl World {
         self.tell_on(sys(code, values))
     }
 
-    /// The event of calling the outside by a word.
+    /// The event of a call that leaves the listing to a word.
     fn called_by(&self, word: u32) -> Event
         ensures { event_of result ≡ Call word (map (values_of self.now.registers) handed) }
     {
@@ -79,7 +79,7 @@ impl World {
         }
     }
 
-    /// The event of a service by its number.
+    /// The event of an SVC of this number.
     fn served_by(&self, number: u32) -> Event
         ensures { event_of result ≡ Sys number (map (values_of self.now.registers) (served ++ (sp ∷ []))) }
     {
@@ -87,7 +87,7 @@ impl World {
         sys(number, &[r[0], r[1], r[2], r[3], r[12], r[13]])
     }
 
-    /// Takes what the next answer brings, after an event.
+    /// Adds an event and takes what the next answer gives; waits where there is none.
     fn answered(
         &mut self,
         answers: &mut Answers,
@@ -108,7 +108,7 @@ impl World {
         Ok(Continuation::On)
     }
 
-    /// Calls the outside by a word.
+    /// Calls a word outside the listing.
     fn call_out(&mut self, answers: &mut Answers, word: u32) -> Result<Continuation, AllocError>
         ensures { Acts (calls_out word) self.old answers.old self.new answers.new result }
     {
@@ -134,7 +134,7 @@ impl World {
         }
     }
 
-    /// Calls by a word that lands so.
+    /// Calls a word, given where it lands.
     pub(crate) fn call_by(
         &mut self,
         answers: &mut Answers,

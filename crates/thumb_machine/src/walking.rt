@@ -17,13 +17,13 @@ pub(crate) trait PointTest {
 
     ghost after: { Self → ℕ → ℕ → Self };
 
-    /// Whether the code point of that word and place passes, which is then the last that came.
+    /// Whether the code point of that word and place passes. The test then counts it as the last one.
     fn test(&mut self, word: u32, place: u32) -> bool
         ensures result { result ≡ passes self.old word place }
         ensures after { self.new ≡ after self.old word place };
 }
 
-/// Whether a statement ends in a call.
+/// Whether a statement is a call.
 fn ends_in_call(statement: &Statement) -> bool
     ensures { result ≡ ends_in_call (statement_view statement.now) }
 {

@@ -1,4 +1,4 @@
-//! What listings and images have in common when they run: what changes, and what has to be said of a place.
+//! What the machines of listings and of images share: the state that a run changes, and what a place has to supply (`Around` and `Lands`).
 ghost use Rattle.std.specs.Prelude.{◌≡◌, ◌<◌, ◌==◌, ◌%◌, [], ◌∷◌, List, Some, map, if◌then◌else◌};
 ghost use Rattle.thumb_model.specs.States.{ends, tells, puts, registers_left, Left, On};
 ghost use Rattle.thumb_model.specs.Acts.{holds, jumps, branches};
@@ -54,11 +54,11 @@ pub enum Continuation {
 pub enum Target {
     /// To a place, or to an address of an image.
     Inside { at: u32 },
-    /// Out of the listing, by a word.
+    /// Out of the listing, to a word.
     External { word: u32 },
 }
 
-/// Where a branch by a word goes.
+/// Where an indirect branch to a word goes.
 #[derive(Clone, Copy, Debug, PartialEq, Eq)]
 pub enum Landing {
     /// To a place, or to an address of an image.
@@ -69,7 +69,7 @@ pub enum Landing {
     Strays,
 }
 
-/// What is said where an instruction stands, beside where words land: the target of a direct branch, what a literal load or ADR gives, and the word
+/// What a place decides for its instruction, beside where words land: the target of a direct branch, what a literal load or ADR gives, and the word
 /// of the return point of a call.
 #[derive(Clone, Copy, Debug, PartialEq, Eq)]
 pub struct Around {
@@ -78,7 +78,7 @@ pub struct Around {
     pub link: u32,
 }
 
-/// What says where words land: a listing under a naming, or an image.
+/// What decides where words land, that is where indirect branches go: a listing under a naming, or an image.
 pub trait Lands {
     ghost use Rattle.std.specs.Prelude.{◌≡◌, ℕ};
     ghost use Rattle.thumb_model.specs.States.{Landing as Lands};
@@ -86,7 +86,7 @@ pub trait Lands {
 
     ghost lands: { Self → ℕ → Lands };
 
-    /// Where a branch by a word goes.
+    /// Where an indirect branch to a word goes.
     fn lands(&self, word: u32) -> Landing
         ensures { landing_of result ≡ lands self.now word };
 }
@@ -108,14 +108,14 @@ impl World {
         self.registers.get(register)
     }
 
-    /// ConditionHolds
+    /// Whether a condition holds: the manual's ConditionHolds.
     fn holds(&self, condition: Condition) -> bool
         ensures { result ≡ holds condition (values_of self.now.registers) }
     {
         self.registers.holds(condition)
     }
 
-    /// The event of leaving by a word.
+    /// The event of leaving the listing to a word.
     pub(crate) fn left_by(&self, word: u32) -> Event
         ensures { event_of result ≡ Left word (map (values_of self.now.registers) registers_left) }
     {
@@ -155,7 +155,7 @@ impl World {
         Ok(Continuation::Over { end })
     }
 
-    /// Ends the run by leaving by a word.
+    /// Ends the run by leaving the listing to a word.
     fn leave(&mut self, word: u32) -> Result<Continuation, AllocError>
         ensures { (left : List Answer) → Acts (ends (Left word (map (values_of self.old.registers) registers_left))) self.old left self.new left result }
     {
@@ -163,7 +163,7 @@ impl World {
         self.finish(event, End::Left)
     }
 
-    /// Branches by a word that lands so.
+    /// Branches to a word, given where it lands.
     pub(crate) fn branch(&mut self, landing: Landing, word: u32) -> Result<Continuation, AllocError>
         ensures { (left : List Answer) → Acts (branches (landing_of landing) word) self.old left self.new left result }
     {

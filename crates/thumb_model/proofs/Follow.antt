@@ -1,4 +1,4 @@
--- The listing in which a window was replaced follows the one before.
+-- A listing in which a window was soundly replaced runs the same as the one before, by simulation.
 use Rattle.std.proofs.Common.{◌≡◌, ◌≢◌, ℕ, suc, ◌+◌, ◌-◌, ◌<◌, ◌≤◌, ◌^◌, ◌/◌, ◌&&◌, not, true, false, if◌then◌else◌, List, [], ◌∷◌, ◌++◌, length, map, Option, Some, None, IsSome, refl, sym, ap, ◌∙◌, subst, ◌⊎◌, inl, inr, arith}
 use Rattle.std.specs.Prelude.{slice_get}
 use Rattle.std.specs.Option.{option_map}
@@ -32,7 +32,7 @@ stands_from places p (i ∷ is) h = (
 
 -- ---- one replacement ----
 
--- a replacement by instructions that leave the same in all that is read afterwards
+-- a replacement by instructions that leave the same values in all items that are read afterwards
 pub record IsSound (code : Code) (p : ℕ) (left right : List Instr) : Type 0 where
   pub fits_in : IsReplacement code p (length left) right
   pub stands : StandsAt code.places p left
@@ -55,18 +55,18 @@ module _ (names : Naming) (small : AreSmall names) (code : Code) (literals : Has
   abbrev to : ℕ → ℕ
   to = moved p (length left - length right)
 
-  -- r is where q came to, outside the window
+  -- q lies outside the window, and r is its new number
   abbrev CameTo : ℕ → ℕ → Type 0
   CameTo q r = (r ≡ to q) × IsOutside p (length left) q
 
-  -- the two runs are at the same place, and what is live there is the same
+  -- the two runs are at the same place, and the items that are live there have the same values
   abbrev pub AtBoth : Position → Position → Values → Values → Type 0
   AtBoth Ended Ended u v = Unit {0}
   AtBoth (Here q) (Here r) u v = CameTo q r × ((x : ℕ) → Reads code x q → u x ≡ v x)
   AtBoth Ended (Here r) u v = ⊥
   AtBoth (Here q) Ended u v = ⊥
 
-  -- the two runs show the same, and are at the same place
+  -- the two runs are observably equal so far, and at the same place
   pub record Related (s t : State) : Type 0 where
     pub events : s.events ≡ t.events
     pub memory : s.world.memory ≡ t.world.memory
@@ -136,7 +136,7 @@ module _ (names : Naming) (small : AreSmall names) (code : Code) (literals : Has
   next_place q ne (inl h) = (omega arith, inl (omega arith))
   next_place q ne (inr h) = let s = sound.fits_in.no_longer in (omega arith, inr (omega arith))
 
-  -- where both come to
+  -- both go on to the same place
   arrive : (q : ℕ) (n n' : Continuation) (u v : Values) → NextTied CameTo n n' → q ≢ p → IsOutside p (length left) q → ((r x : ℕ) → GoesTo q n r → Reads code x r → u x ≡ v x) → AtBoth (arrives q (q + 1) n) (arrives (to q) (to q + 1) n') u v
   arrive q On On u v t ne out h = let e = next_place q ne out in ((e.0, e.1), λ x r. h (q + 1) x refl r)
   arrive q Stay Stay u v t ne out h = ((refl, out), λ x r. h q x refl r)
@@ -207,7 +207,7 @@ module _ (names : Naming) (small : AreSmall names) (code : Code) (literals : Has
   abbrev Go : State → State → Type 0
   Go s t = Advance State State (step names code) (step names new) Alike Related s t
 
-  -- in the window nothing is seen
+  -- within the window nothing observable happens
   quiet_left : (u : World) (es : List Event) (k : ℕ) → k ≤ length left → (q : ℕ) × (w : Values) × (times (step names code) k (state u (Here p) es) ≡ went (state u (Here p) es) q w)
   quiet_left u es k h = straight_part names code (state u (Here p) es) left p u.values k sound.stands sound.left_straight h
 
@@ -347,7 +347,7 @@ keeps_refl a =
       entry = λ label h. h;
     }
 
--- and from one to the next
+-- and two replacements, one after the other, keep them
 pub keeps_trans : (a b c : Code) → Keeps a b → Keeps b c → Keeps a c
 keeps_trans a b c h k =
     record {

@@ -36,7 +36,7 @@ pub record AreHeld (v : Values) : Type 0 where
 abbrev pub IsValueOf : ℕ × ℕ → Type 0
 IsValueOf o = (o.0 < 15 → o.1 < 2 ^ 32) × (15 ≤ o.0 → o.1 < 2) × (o.0 ≡ sp → o.1 % 4 ≡ 0)
 
--- each of the new values is one for its item
+-- each of the new values is in the range of its item
 abbrev pub AreValues : List (ℕ × ℕ) → Type 0
 AreValues [] = Unit {0}
 AreValues (o ∷ os) = IsValueOf o × AreValues os
@@ -53,7 +53,7 @@ held_at (o ∷ os) v h a x =
       | false ↦ λ e. held_at os v h.1 a x
     ] refl
 
--- items that get such values hold such values
+-- items that get values in their ranges hold values in their ranges
 pub are_held : (os : List (ℕ × ℕ)) (v : Values) → AreValues os → AreHeld v → AreHeld (assigned os v)
 are_held os v h a = record {
   words = record { register = λ x l. (held_at os v h a x).0 l; flag = λ x l. (held_at os v h a x).1 l };

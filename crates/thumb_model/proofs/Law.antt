@@ -1,4 +1,4 @@
--- What a step depends on, row by row.
+-- What an instruction does depends on no items but those that its ways read, and it writes those that they say, row by row.
 use Rattle.std.proofs.Common.{arith, ◌≡◌, ℕ, ◌+◌, ◌*◌, ◌%◌, ◌==◌, ◌||◌, not, nat_le, Bool, true, false, List, [], ◌∷◌, ◌++◌, length, Option, Some, None, refl, sym, ap, ◌∙◌, subst, map, if◌then◌else◌}
 use Rattle.std.specs.Prelude.{slice_get, filter}
 use Rattle.thumb_instr.specs.declared.instr.Instr.{Instr}
@@ -27,7 +27,7 @@ abbrev pub keys : List (ℕ × ℕ) → List ℕ
 keys [] = []
 keys (o ∷ os) = o.0 ∷ keys os
 
--- two values agree on the items of a list
+-- two worlds' values agree on the items of a list
 abbrev pub AgreeOn : List ℕ → Values → Values → Type 0
 AgreeOn [] u v = Unit {0}
 AgreeOn (x ∷ xs) u v = (u x ≡ v x) × AgreeOn xs u v
@@ -55,7 +55,7 @@ abbrev pub inside_of : Target → Option ℕ
 inside_of (Inside p) = Some p
 inside_of (External word) = None
 
--- a step that goes on so goes by a way that leads so, and writes what the way says
+-- a step with this continuation takes a way that leads so, and writes the items that the way says
 abbrev pub Matches : (ℕ → Landing) → Continuation → Leads → List ℕ → List ℕ → Type 0
 Matches lands On Onward ks ws = ks ≡ ws
 Matches lands (To p) (ToPlace q) ks ws = (p ≡ q) × (ks ≡ ws)
@@ -64,11 +64,11 @@ Matches lands Stay l ks ws = ks ≡ []
 Matches lands Over l ks ws = Unit {0}
 Matches lands k l ks ws = ⊥
 
--- the act goes by the way
+-- the act takes the way
 abbrev pub Takes : (ℕ → Landing) → Act → Way → Type 0
 Takes lands a w = Matches lands a.next w.leads (keys a.outputs) w.writes
 
--- the instruction goes by this way from u, and from each world that agrees on what the way reads it does the same
+-- the instruction takes one of its ways from u, and does the same from a world w that agrees on what this way reads
 pub record Taken (around : Around) (i : Instr) (u w : World) : Type 0 where
   pub number : ℕ
   pub taken : Way
@@ -93,7 +93,7 @@ ends_same e f u w h s = cc (h.0, h.1)
 left_same : (word : ℕ) (xs ys : List ℕ) → xs ≡ ys → Left word xs ≡ Left word ys
 left_same word xs ys e = cc
 
--- two worlds that agree on the word land alike
+-- equal words land alike
 lands_same : (around : Around) (x y : ℕ) (l : Landing) → around.lands x ≡ l → x ≡ y → around.lands y ≡ l
 lands_same around x y l e s = ap around.lands (sym s) ∙ e
 
@@ -142,11 +142,11 @@ bare v = record { values = λ x. 0; memory = v.memory; answers = v.answers }
 bare_same : (u w : World) → AlikeBut u w → bare u ≡ bare w
 bare_same u w h = cc (h.0, h.1)
 
--- what looks at memory and answers alone is the same
+-- a function of memory and answers alone has one result for both worlds
 same_world : {A : Type 0} (f : World → A) → ((v : World) → f v ≡ f (bare v)) → (u w : World) → AlikeBut u w → f u ≡ f w
 same_world f e u w h = e u ∙ ap f (bare_same u w h) ∙ sym (e w)
 
--- a function of two equals
+-- a function of two arguments, each replaced by an equal one
 pub ap_two : {A B C : Type 0} (f : A → B → C) {a b : A} {x y : B} → a ≡ b → x ≡ y → f a x ≡ f b y
 ap_two f {a} {b} {x} {y} e g = ap (λ z. f z x) e ∙ ap (f b) g
 
@@ -163,7 +163,7 @@ straight : (around : Around) (i : Instr) (u w : World) → ways_of (inside_of ar
     → Takes around.lands (act around i u) (way (uses_of i) (writes_of i) Onward) → Taken around i u w
 straight around i u w e same takes = record { number = 0; taken = way (uses_of i) (writes_of i) Onward; is_way = ap (λ ws. slice_get ws 0) e; same = same; takes = takes }
 
--- one that looks at items alone
+-- an instruction with one way on that looks at items alone
 puts_law : (around : Around) (i : Instr) (u w : World) → AlikeBut u w → ((v : World) → act around i v ≡ puts (outputs i v.values) On v) → ways_of (inside_of around.target) i ≡ way (uses_of i) (writes_of i) Onward ∷ []
     → (AgreeOn (uses_of i) u.values w.values → outputs i u.values ≡ outputs i w.values) → keys (outputs i u.values) ≡ writes_of i → Taken around i u w
 puts_law around i u w a acts ways same writes =
@@ -190,7 +190,7 @@ byte_keys o d x n = refl
 -- ---- accesses ----
 
 module _ (lands : ℕ → Landing) (l : Leads) (ws : List ℕ) where
-  -- goes by a way that leads and writes so
+  -- the act takes a way that leads and writes so
   abbrev Follows : Act → Type 0
   Follows a = Matches lands a.next l (keys a.outputs) ws
 

@@ -1,4 +1,4 @@
--- Two machines of which one follows the other, step by step or in more steps than it: nothing here is about instructions.
+-- Simulation: when the second of two machines follows the first, in no more steps. It holds of any step functions, and says nothing of instructions.
 use Rattle.std.proofs.Common.{◌≡◌, ℕ, zero, suc, ◌+◌, ◌-◌, ◌<◌, ◌≤◌, refl, sym, ap, ◌∙◌, subst, ◌⊎◌, inl, inr, arith}
 use Rattle.std.proofs.lemmas.Bool.{cases_lt}
 use Rattle.thumb_model.specs.Steps.{times}
@@ -9,7 +9,7 @@ times_add f zero n k a e = ap (λ j. times f j a) (let h : k ≡ n = omega arith
 times_add f (suc m) n zero a e = absurd (omega arith)
 times_add f (suc m) n (suc k) a e = times_add f m n k (f a) (omega arith)
 
--- what stands still stays
+-- a state that a step leaves as it is stays so
 pub times_still : {A : Type 0} (f : A → A) (n : ℕ) (a : A) → f a ≡ a → times f n a ≡ a
 times_still f zero a e = refl
 times_still f (suc n) a e = ap (times f n) e ∙ times_still f n a e

@@ -65,7 +65,7 @@ module _ (names : Naming) (code : Code) (s : State) where
       ∙ straight_run is (p + 1) (after i v) h.1 a.1
       ∙ ap (λ q. went s q (after_all is (after i v))) (let e : p + 1 + length is ≡ p + length (i ∷ is) = omega arith in e)
 
-  -- within the code nothing is seen
+  -- within the code nothing observable happens
   pub straight_part : (is : List Instr) (p : ℕ) (v : Values) (j : ℕ) → StandsAt code.places p is → AreStraight is → j ≤ length is → (q : ℕ) × (u : Values) × (times (step names code) j (went s p v) ≡ went s q u)
   straight_part is p v zero h a l = (p, v, refl)
   straight_part [] p v (suc j) h a l = absurd (omega arith)
@@ -407,7 +407,7 @@ module _ (registers : List Low) (few : length registers ≤ 4) (one : IsOneToOne
   far x h y (inl l) e = let a = register_under y l in not_among registers x y a.0 h.1 a.1 (e ∙ a.2)
   far x h y (inr l) e = let a = flag_under y l.0 in absurd (omega (arith, h.0))
 
-  -- the two sides leave the same in each item of the mask and in each register outside the map
+  -- the two sides leave the same value in each item of the mask and in each register outside the map
   pub sides_agree : (left right : List Instr) (mask : List ℕ) (t : Values) → Equal left right mask → AreOver (length registers) left → AreOver (length registers) right → ((x : ℕ) → one_of x mask ≡ true → IsCanonical (length registers) x) → AreWords t → (x : ℕ) → (one_of x (map under mask) ≡ true) ⊎ ((x < 15) × (one_of x (map (λ r. r.number) registers) ≡ false)) → after_all (map (renamed registers) left) t x ≡ after_all (map (renamed registers) right) t x
   sides_agree left right mask t eq ol or om words x (inl h) =
       let w : Values = λ y. t (under y) in

@@ -20,17 +20,17 @@ access_size access.Ldrh = 2
 access_size access.Ldrb = 1
 access_size access.Ldrsh = 2
 
--- the number of so many bytes from an address on, the lowest first
+-- the little-endian number in n bytes from an address on
 abbrev pub value_at : (ℕ → ℕ) → ℕ → ℕ → ℕ
 value_at memory address zero = 0
 value_at memory address (suc n) = memory address + 256 * value_at memory (address + 1) n
 
--- memory with a number's bytes from an address on, the lowest first
+-- memory with the n low bytes of a number written from an address on, little-endian
 abbrev pub with_value : (ℕ → ℕ) → ℕ → ℕ → ℕ → ℕ → ℕ
 with_value memory address zero value x = memory x
 with_value memory address (suc n) value x = if x == address then value % 256 else with_value memory (address + 1) n (value / 256) x
 
--- the memory after a store: a device has none
+-- the memory after a store, which stays as it is where the address is a device's
 abbrev pub stored : (ℕ → ℕ) → ℕ → ℕ → ℕ → ℕ → ℕ
 stored memory address size value = if is_device address then memory else with_value memory address size value
 
@@ -75,7 +75,7 @@ accesses access.Ldrsh t address value w = loads access.Ldrsh t address w
 abbrev pub next_word : ℕ → ℕ
 next_word address = (address + 4) % 2 ^ 32
 
--- the address behind so many words, and the one so many words below
+-- the address behind as many words as the list has, and the one that many words below
 abbrev pub behind : List ℕ → ℕ → ℕ
 behind [] address = address
 behind (x ∷ xs) address = behind xs (next_word address)
@@ -91,7 +91,7 @@ abbrev pub store_events : ℕ → List ℕ → List Event
 store_events address [] = []
 store_events address (x ∷ xs) = Store address 4 x ∷ store_events (next_word address) xs
 
--- stores words from an address on, and then writes the base back
+-- stores words from an address on, and writes `back` to the base
 abbrev pub stores_many : ℕ → ℕ → ℕ → List ℕ → World → Act
 stores_many base back address words w = aligned address 4 w (record {
   outputs = (base, written_to base back) ∷ [];
@@ -101,7 +101,7 @@ stores_many base back address words w = aligned address 4 w (record {
   next = On;
 })
 
--- the word at an address, and the answers that are left when it was read
+-- the word at an address, and the answers that are left after it was read
 abbrev pub first_word : List Answer → ℕ
 first_word [] = 0
 first_word (a ∷ rest) = a.values 0
@@ -112,7 +112,7 @@ word_at memory answers address = loaded access.Ldr (if is_device address then fi
 abbrev pub left_at : List Answer → ℕ → List Answer
 left_at answers address = if is_device address then drop 1 answers else answers
 
--- the registers' words from an address on, and the answers that are left when they were read
+-- the registers' words from an address on, and the answers that are left after they were read
 abbrev pub words_from : (ℕ → ℕ) → List Answer → ℕ → List ℕ → List (ℕ × ℕ)
 words_from memory answers address [] = []
 words_from memory answers address (x ∷ xs) = (x, word_at memory answers address) ∷ words_from memory (left_at answers address) (next_word address) xs
@@ -130,7 +130,7 @@ abbrev pub load_events : ℕ → List ℕ → List Event
 load_events address [] = []
 load_events address (x ∷ xs) = Load address 4 ∷ load_events (next_word address) xs
 
--- stays where the words at devices are more than the answers that are left
+-- waits (`Stay`) where more of the words are at devices than answers are left
 abbrev pub enough : ℕ → List ℕ → World → Act → Act
 enough address xs w a = if nat_le (device_words address xs) (length w.answers) then a else puts [] Stay w
 

@@ -1,4 +1,4 @@
--- What each instruction does, where it stands.
+-- What each instruction does at its place, by the ARM manual's pseudocode.
 use Rattle.std.specs.Prelude.{ℕ, ◌+◌, ◌*◌, ◌%◌, ◌^◌, ◌==◌, ◌&&◌, not, Bool, List, [], ◌∷◌, ◌++◌, map, if◌then◌else◌}
 use Rattle.thumb_instr.specs.declared.instr.Instr.{Instr}
 use Rattle.thumb_instr.specs.declared.instr.Instr.TheVariants as instr
@@ -20,7 +20,7 @@ use Rattle.thumb_model.specs.Accesses.{access_size, accesses, behind, below, sto
 
 -- ---- branches ----
 
--- a branch by a word: BX
+-- an indirect branch to a word: BX
 abbrev pub branches : Landing → ℕ → World → Act
 branches (Goes p) word w = puts [] (To p) w
 branches Leaves word w = ends (Left word (map w.values registers_left)) w
@@ -45,7 +45,7 @@ calls_by (Goes p) word link w = puts ((lr, link) ∷ []) (To p) w
 calls_by Leaves word link w = calls_out word w
 calls_by Strays word link w = ends (Astray word) w
 
--- POP with pc: the registers' words, then a branch by one word more, of pc as 15
+-- POP with pc: loads the registers' words and one more, to which it branches; in the list pc is 15
 abbrev pub with_pc : List ℕ → List ℕ
 with_pc xs = xs ++ (15 ∷ [])
 

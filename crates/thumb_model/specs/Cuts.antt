@@ -1,4 +1,4 @@
--- What a replacement makes of lines that are cut at its window.
+-- A replacement in lines that are split at its window: which lines stay.
 use Rattle.std.specs.Prelude.{◌≡◌, ℕ, zero, suc, ◌+◌, List, [], ◌∷◌, ◌++◌, length, map, true, if◌then◌else◌}
 use Rattle.thumb_instr.specs.declared.instr.Instr.{Instr}
 use Rattle.thumb_model.specs.Listing.{ListingLine, Place, Op, Word, places_of}

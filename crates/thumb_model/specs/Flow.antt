@@ -1,4 +1,4 @@
--- Ways through a listing, the places that runs may come to, and the items that are live.
+-- Control flow: the ways (edges) on from each place, the places that are reachable, and the items that are live.
 use Rattle.std.specs.Prelude.{◌≡◌, ℕ, ◌+◌, not, true, false, List, [], ◌∷◌, ◌++◌, filter, Option, Some, None, slice_get, if◌then◌else◌}
 use Rattle.thumb_instr.specs.declared.instr.Instr.{Instr}
 use Rattle.thumb_instr.specs.declared.instr.Instr.TheVariants as instr
@@ -25,12 +25,12 @@ pub record Way : Type 0 where
 abbrev pub way : List ℕ → List ℕ → Leads → Way
 way reads writes leads = record { reads = reads; writes = writes; leads = leads }
 
--- of a direct branch that reads these: to a place, or out
+-- the way of a direct branch that reads these items: to a place, or out
 abbrev pub jump_way : List ℕ → Option ℕ → Way
 jump_way reads (Some p) = way reads [] (ToPlace p)
 jump_way reads None = way (reads ++ registers_left) [] Out
 
--- of a call: to a place, or out and back
+-- the way of a call: to a place, or out and back to the next place
 abbrev pub call_way : Option ℕ → Way
 call_way (Some p) = way [] (lr ∷ []) (ToPlace p)
 call_way None = way handed answered Onward
@@ -60,7 +60,7 @@ ways_on code (Some (Op i mention)) = ways_of (aim_of code mention) i
 abbrev pub ways : Code → ℕ → List Way
 ways code place = ways_on code (slice_get code.places place)
 
--- a way from p that leads so comes to q
+-- q is a successor of p by a way that leads so
 abbrev pub Follows : Code → ℕ → Leads → ℕ → Type 0
 Follows code p Onward q = q ≡ p + 1
 Follows code p (ToPlace r) q = q ≡ r

@@ -19,7 +19,7 @@ pub data Value : Type 0 where
   Number : (n : ℕ) → Value
   OfName : (m : Mention) → Value
 
--- what a line says: nothing, an instruction with the name that it mentions, words of data, an alignment that pads at most so many bytes, or the address of a name
+-- what a line says: nothing, an instruction and what it mentions, data words, an alignment that pads `most` bytes at most, or the address set for a name
 pub data Statement : Type 0 where
   Nothing : Statement
   Instruction : (i : Instr) (mention : Option Mention) → Statement
@@ -55,7 +55,7 @@ abbrev pub places_of : List ListingLine → List Place
 places_of [] = []
 places_of (l ∷ ls) = places_in l.statement ++ places_of ls
 
--- a label, and the place after it
+-- a label, and the number of the place that follows it
 pub record Label : Type 0 where
   pub name : Name
   pub place : ℕ

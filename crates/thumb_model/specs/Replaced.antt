@@ -1,4 +1,4 @@
--- The windows of a listing, and its instructions and lines after one gives way.
+-- The windows of a listing, and its places, labels and lines after a window gives way to other instructions.
 use Rattle.std.specs.Prelude.{◌≡◌, ℕ, ◌+◌, ◌-◌, ◌≤◌, ◌⊎◌, min, max, List, ◌++◌, length, take, drop, map, zero, suc, ◌==◌, ◌&&◌, Bool, true, false, [], ◌∷◌, Some, None, slice_get, if◌then◌else◌}
 use Rattle.std.specs.List.{list_all}
 use Rattle.thumb_instr.specs.declared.instr.Instr.{Instr}
@@ -7,7 +7,7 @@ use Rattle.thumb_model.specs.Listing.{plain, Label, Code, Name, Statement, Nothi
 
 -- The places and labels of a code in which instructions give way to others.
 
--- where a place comes to when `gone` places after p go
+-- the new number of place q when `gone` of the places from p on are removed
 abbrev pub moved : ℕ → ℕ → ℕ → ℕ
 moved p gone q = max (min q p) (q - gone)
 

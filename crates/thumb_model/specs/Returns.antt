@@ -4,7 +4,7 @@ use Rattle.thumb_model.specs.Listing.{Name, ListingLine, Place, places_of, is_ca
 use Rattle.thumb_model.specs.Layout.{end_of}
 use Rattle.thumb_model.specs.Naming.{IsCutAtCall, laid, Naming, returns_from}
 
--- each call's number has a cut
+-- for each call number the lines have a cut at that call
 abbrev pub EachCallIsACut : Type 0
 EachCallIsACut = (lines : List ListingLine) (k : ℕ) → k < call_count (places_of lines) → (before : List ListingLine) × (call : ListingLine) × (after : List ListingLine) × IsCutAtCall lines k before call after
 
@@ -23,7 +23,7 @@ pub record IsReturnPoint (names : Naming) (places : List Place) (w p : ℕ) : Ty
   pub word : w ≡ names.return_word (call_count before)
   pub place : p ≡ length before + 1
 
--- the return points of places are these
+-- the return points of a listing are exactly these
 abbrev pub ReturnPointsStandBehind : Type 0
 ReturnPointsStandBehind = (names : Naming) (places : List Place) (w p : ℕ) → Contains (returns_from names 0 0 places) (w, p) ↔ IsReturnPoint names places w p
 

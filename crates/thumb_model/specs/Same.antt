@@ -1,4 +1,4 @@
--- Two listings that run the same.
+-- When two listings are observably equal, as the theorem on rewriting says it.
 use Rattle.std.specs.Prelude.{◌≡◌, ℕ, ◌≤◌, Bool, true, false, List, Option, Some, None, IsSome}
 use Rattle.thumb_model.specs.Listing.{Name, Code, place_of}
 use Rattle.thumb_model.specs.Naming.{Naming, Fits}

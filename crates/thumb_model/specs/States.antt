@@ -58,20 +58,20 @@ pub data Target : Type 0 where
   Inside : (at : ℕ) → Target
   External : (word : ℕ) → Target
 
--- where a branch by a word goes: to a place, out of the listing, or nowhere
+-- where an indirect branch (BX, BLX, POP with pc) goes: to a place, out of the listing, or nowhere
 pub data Landing : Type 0 where
   Goes : (at : ℕ) → Landing
   Leaves : Landing
   Strays : Landing
 
--- all that a naming and a listing, or an image, say where an instruction stands
+-- all that an instruction's place decides for it, under a naming of a listing or in an image
 pub record Around : Type 0 where
   pub target : Target
   pub literal : ℕ
   pub link : ℕ
   pub lands : ℕ → Landing
 
--- where a step goes on: behind the instruction, nowhere for want of answers, to a place, or not at all
+-- where a step goes on: at the next instruction, at the same one for want of an answer, at a place, or not at all
 pub data Continuation : Type 0 where
   On : Continuation
   Stay : Continuation
@@ -90,7 +90,7 @@ pub record Act : Type 0 where
 abbrev pub registers_left : List ℕ
 registers_left = 0 ∷ 1 ∷ 2 ∷ 3 ∷ 4 ∷ 5 ∷ 6 ∷ 7 ∷ 8 ∷ 9 ∷ 10 ∷ 11 ∷ 13 ∷ 14 ∷ []
 
--- puts values into items, and goes on there
+-- gives items values, and goes on as `next` says
 abbrev pub puts : List (ℕ × ℕ) → Continuation → World → Act
 puts os next w = record { outputs = os; memory = w.memory; answers = w.answers; events = []; next = next }
 
@@ -98,7 +98,7 @@ puts os next w = record { outputs = os; memory = w.memory; answers = w.answers; 
 abbrev pub ends : Event → World → Act
 ends e w = record { outputs = []; memory = w.memory; answers = w.answers; events = e ∷ []; next = Over }
 
--- an event, and on
+-- adds an event, and goes on at the next instruction
 abbrev pub tells : Event → World → Act
 tells e w = record { outputs = []; memory = w.memory; answers = w.answers; events = e ∷ []; next = On }
 
@@ -107,31 +107,31 @@ abbrev pub takes : (Answer → List Answer → Act) → World → List Answer �
 takes go w [] = puts [] Stay w
 takes go w (a ∷ rest) = go a rest
 
--- nothing but a fault where the address isn't a multiple of the size
+-- the act where the address is a multiple of the size, else a fault alone
 abbrev pub aligned : ℕ → ℕ → World → Act → Act
 aligned address size w a = if address % size == 0 then a else ends (Fault address) w
 
--- r0 to r3 and sp, that a call hands out; and r0 to r3, r12, lr and the flags, that it brings back
+-- what the event of a call out of the listing shows, r0 to r3 and sp; and what its answer gives, r0 to r3, r12, lr and the flags
 abbrev pub handed : List ℕ
 handed = 0 ∷ 1 ∷ 2 ∷ 3 ∷ sp ∷ []
 
 abbrev pub answered : List ℕ
 answered = 0 ∷ 1 ∷ 2 ∷ 3 ∷ 12 ∷ lr ∷ n_flag ∷ z_flag ∷ c_flag ∷ v_flag ∷ []
 
--- SVC: r0 to r3, r12 and sp; and r0 to r3 and r12
+-- what the answer to an SVC gives: r0 to r3 and r12; the event shows these and sp
 abbrev pub served : List ℕ
 served = 0 ∷ 1 ∷ 2 ∷ 3 ∷ 12 ∷ []
 
--- what items hold
+-- each of the items with its value
 abbrev pub all_at : List ℕ → Values → List (ℕ × ℕ)
 all_at [] v = []
 all_at (x ∷ xs) v = (x, v x) ∷ all_at xs v
 
--- the memory after bytes were written by address, of which the later stands where two have one address
+-- the memory after bytes were written by address; of two at one address the later counts
 abbrev pub with_bytes : List (ℕ × ℕ) → (ℕ → ℕ) → ℕ → ℕ
 with_bytes [] memory = memory
 with_bytes (b ∷ bs) memory = with_bytes bs (assigned (b ∷ []) memory)
 
--- an answer's items and bytes, after an event
+-- adds an event, and takes the items and the bytes of an answer
 abbrev pub answers_with : List ℕ → Event → World → Answer → List Answer → Act
 answers_with xs e w a rest = record { outputs = all_at xs a.values; memory = with_bytes a.bytes w.memory; answers = rest; events = e ∷ []; next = On }

@@ -30,7 +30,7 @@ abbrev pub point_among : ℕ → List (ℕ × ℕ) → Option ℕ
 point_among word [] = None
 point_among word (p ∷ ps) = if word == p.0 then least_or p.1 (point_among word ps) else point_among word ps
 
--- a code point's word goes there, another odd word outside the range leaves
+-- a code point's word goes there, any other odd word outside the range leaves, and all else strays
 abbrev pub landing : Naming → ℕ → Option ℕ → Landing
 landing names word (Some p) = Goes p
 landing names word None = if is_odd word && not (is_in_range names word) then Leaves else Strays
@@ -62,7 +62,7 @@ word_of_place names None = 0
 word_of_place names (Some (Op i mention)) = 0
 word_of_place names (Some (Word v)) = word_of_value names v
 
--- the data word that lies so many bytes behind a label
+-- the word of the data word that lies `plus` bytes behind a label; 0 where there is none
 abbrev pub word_behind : Naming → List Place → ℕ → Option ℕ → ℕ
 word_behind names places plus None = 0
 word_behind names places plus (Some q) = word_of_place names (slice_get places (q + plus / 4))
@@ -85,7 +85,7 @@ around_of names code place i mention = record {
 
 -- ---- steps ----
 
--- where it is after a step at `here`, behind which `following` stands
+-- the position after a step at `here`, where the next instruction is at `following`
 abbrev pub arrives : ℕ → ℕ → Continuation → Position
 arrives here following On = Here following
 arrives here following Stay = Here here

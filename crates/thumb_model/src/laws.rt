@@ -1,4 +1,4 @@
-//! The laws of runs. Each is the contract of a function that does nothing.
+//! Laws of runs. Each is stated as the contract of a function with an empty body.
 
 ghost use Rattle.thumb_model.specs.Cuts.{ReplacedLinesAreACut};
 ghost use Rattle.thumb_model.specs.Laws.{StepsKeepWorlds, OnlyItemsAreLive, PointsArePlaces};
@@ -15,22 +15,23 @@ pub fn only_items_are_live()
     ensures { OnlyItemsAreLive }
 {}
 
-/// A code point is the same as a place and as what its word leads to.
+/// The places to which the words of code points lead are those of the code labels and return points.
 pub fn points_are_places()
     ensures { PointsArePlaces }
 {}
 
-/// What stands before and behind a window stays as it is, and so do its labels and the lines between its instructions.
+/// A replacement keeps the lines before and behind the window, the window's labels and the lines between its instructions.
 pub fn replaced_lines_are_a_cut()
     ensures { ReplacedLinesAreACut }
 {}
 
-/// What the layout lets through is what an encoding's field holds: an even distance of a branch, and words past a literal's rounded address.
+/// The layout accepts exactly what the encoding's field can hold: even distances of branches, and fewer than 256 words past a literal's rounded base.
 pub fn reaches_are_fields()
     ensures { ReachesAreFields }
 {}
 
-/// Each call has a cut at it, before which as many calls stand as its number says; its return point is the place behind it, and where lines are laid out 1 more than the address behind it.
+/// Call number k has k calls before it, and its return point is the place right behind it. In the laid naming the return point's word is 1 more than
+/// the address behind the call.
 pub fn returns_are_cuts()
     ensures { ReturnsAreCuts }
 {}

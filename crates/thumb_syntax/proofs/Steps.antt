@@ -1,4 +1,4 @@
--- What slots that were filled took.
+-- From slots that were filled back to the operands that they took.
 use Rattle.std.proofs.Common.{◌≡◌, ◌∙◌, inl, inr, ℕ, ◌+◌, ◌/◌, ◌%◌, ◌≤◌, ◌||◌, ◌==◌, Bool, true, false, not, List, [], ◌∷◌, Option, Some, None, refl, sym, ap, arith, true≢false, eqb-true}
 use Rattle.std.specs.Prelude.{nat_lt, option_and_then, option_map}
 use Rattle.std.proofs.lemmas.Bool.{cases_Bool, or_parts, ltb-false}

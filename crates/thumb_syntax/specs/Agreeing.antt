@@ -1,4 +1,4 @@
--- Which slots may take which operands, by what these stand for: where none may, the operands don't fill the slots.
+-- A quick test of forms, by what each operand stands for alone: operands that fail it don't fill the slots, so most forms needn't be tried.
 use Rattle.std.specs.Prelude.{ℕ, ◌==◌, ◌&&◌, ◌||◌, not, Bool, true, false, List, [], ◌∷◌}
 use Rattle.thumb_syntax.specs.declared.form.Slot.{Slot}
 use Rattle.thumb_syntax.specs.declared.form.Slot.TheVariants as slot
@@ -28,7 +28,7 @@ abbrev pub is_mark : ℕ → Operand → Bool
 is_mark m (sign s) = m == s
 is_mark m o = false
 
--- names are let through
+-- a slot that takes a name or an option passes every operand
 abbrev pub agrees : Slot → Operand → Bool
 agrees (slot.Register p) o = is_register o
 agrees (slot.Twice p q) o = is_register o
@@ -40,7 +40,7 @@ agrees (slot.Exactly m) o = is_number o
 agrees (slot.Mark m) o = is_mark m o
 agrees s o = true
 
--- the first operands, up to the first slot that takes a list; where the operands end, more may follow them
+-- tests the operands before the first slot that takes a list or none; where the operands at hand end, more may follow
 abbrev pub agree : List Slot → List Operand → Bool
 agree [] [] = true
 agree [] (o ∷ os) = false

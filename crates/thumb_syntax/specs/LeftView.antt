@@ -1,4 +1,4 @@
--- The operands that are still to be read, without where they lie in memory.
+-- The operands that are still to be read as one list, whether read ahead or not.
 use Rattle.std.specs.Prelude.{List, ◌++◌, map}
 use Rattle.ascii_scan.specs.Tokens.{tokens}
 use Rattle.thumb_syntax.specs.declared.left.Left.{Left}

@@ -26,7 +26,7 @@ groups_at places = map (λ (ms : Bor (List Mnemonic)). map group_of ms.now) plac
 abbrev pub forms_of : Group → List Row
 forms_of g = g.forms
 
--- the rows whose mnemonic the word is, in order
+-- the rows whose mnemonic the word spells, in order
 abbrev pub rows_of : List ℕ → List Row
 rows_of w = filter (λ r. is_spelled w r.mnemonic) rows
 
@@ -53,11 +53,11 @@ abbrev pub are_there : ℕ → ℕ → List (List Group) → Bool
 are_there least end places =
     list_all (λ r. not (is_between least end (place_of r.mnemonic)) || is_named r.mnemonic (get_or places (place_of r.mnemonic - least) [])) rows
 
--- the forms of the first mnemonic that the word is
+-- the forms of the first mnemonic that the word spells
 abbrev pub rows_in : List Group → List ℕ → List Row
 rows_in [] w = []
 rows_in (g ∷ gs) w = if is_spelled w g.name then g.forms else rows_in gs w
 
--- what operands are by a form
+-- what operands are read as by a form
 abbrev pub read_by : List Operand → Row → Option Shown
 read_by os r = option_and_then (shown_by r.kind) (filled r.slots empty os)

@@ -15,7 +15,7 @@ abbrev pub or_else : {B : Type 0} → Option B → Option B → Option B
 or_else None next = next
 or_else (Some x) next = Some x
 
--- the first answer
+-- the first result of `f` along the list that isn't None
 abbrev pub first_some : {A B : Type 0} → (A → Option B) → List A → Option B
 first_some f [] = None
 first_some f (x ∷ xs) = or_else (f x) (first_some f xs)
@@ -51,7 +51,7 @@ abbrev pub range_to : ℕ → Option ℕ → Operand
 range_to a None = stray
 range_to a (Some b) = range a b
 
--- what a register's name is with the bytes after it
+-- what a register's name stands for together with the bytes after it
 abbrev pub after_register : ℕ → List ℕ → Operand
 after_register a [] = register a
 after_register a (b ∷ []) = if b == 33 then base a else stray

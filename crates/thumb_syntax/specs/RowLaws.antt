@@ -8,7 +8,7 @@ use Rattle.thumb_syntax.specs.Rows.{Row, data_rows, memory_rows, control_rows, S
 unfoldable pub rows : List Row
 rows = data_rows ++ (memory_rows ++ control_rows)
 
--- what a statement is by one form
+-- what a statement is read as by one form
 abbrev pub by_row : Row → List Token → Option Shown
 by_row r [] = None
 by_row r (text w ∷ ts) = read_as w (map operand ts) r

@@ -111,14 +111,14 @@ with_label l m = record { made = m; label = l }
 abbrev pub shown_by : Kind → Fields → Option Shown
 shown_by k f = option_map (with_label f.label) (made k f.first f.second f.third)
 
--- what a mnemonic and operands are by a form
+-- what a mnemonic and operands are read as by a form
 abbrev pub read_as : List ℕ → List Operand → Row → Option Shown
 read_as w os r = if is_spelled w r.mnemonic then option_and_then (shown_by r.kind) (filled r.slots empty os) else None
 
 abbrev pub read_in : List Row → List ℕ → List Operand → Option Shown
 read_in rs w os = first_some (read_as w os) rs
 
--- what they are by some form
+-- what they are read as by some form
 abbrev pub read_all : List ℕ → List Operand → Option Shown
 read_all w os = or_else (read_in data_rows w os) (or_else (read_in memory_rows w os) (read_in control_rows w os))
 
@@ -127,6 +127,6 @@ reading_of [] = None
 reading_of (text w ∷ ts) = read_all w (map operand ts)
 reading_of (mark m ∷ ts) = None
 
--- what a text is: an instruction and its label, or nothing
+-- what a text is read as: an instruction and its label, or nothing
 abbrev pub reading : List ℕ → Option Shown
 reading bytes = reading_of (tokens bytes)

@@ -1,4 +1,4 @@
--- What the slots of a form take, and what they hold then. A list of registers is a bit of its number for each of r0 to r7, and bit 8 for lr or pc where the list may have it.
+-- What the slots of a form take, and what they hold then. A list of registers is a set of bits: 0 to 7 for r0 to r7, and 8 for lr or pc where allowed.
 use Rattle.std.specs.Prelude.{ℕ, ◌+◌, ◌-◌, ◌^◌, ◌==◌, ◌&&◌, Bool, false, List, [], ◌∷◌, Option, Some, None, if◌then◌else◌, nat_lt, option_and_then, bit_and, bit_or, ◌/◌, ◌%◌, ◌||◌, not, codes, option_map}
 use Rattle.thumb_syntax.specs.Operands.{Operand, register, range, sign, is_some_of, base, number, name, sum}
 use Rattle.std.specs.Str.{bytes_eq}
@@ -20,7 +20,7 @@ bits_of extra (register r) = if nat_lt r 8 then Some (2 ^ r) else if is_some_of 
 bits_of extra (range a b) = if nat_lt a b && nat_lt b 8 then Some (2 ^ (b + 1) - 2 ^ a) else None
 bits_of extra _ = None
 
--- the list with more bits, none of which it has
+-- the list with more bits; None where it has some of them already
 abbrev pub joined : ℕ → ℕ → Option ℕ
 joined list bits = if bit_and list bits == 0 then Some (bit_or list bits) else None
 

@@ -33,6 +33,6 @@ is_whole i l = is_unlabelled l
 abbrev pub WritingReadsBack : Type 0
 WritingReadsBack = (i : Instr) (l : Option (List ℕ × ℕ)) → is_whole i l ≡ true → reading (text_of (shown_with i l)) ≡ Some (shown_with i l)
 
--- what is read is an instruction with its label
+-- what is read is whole
 abbrev pub ReadingIsWhole : Type 0
 ReadingIsWhole = (bytes : List ℕ) (i : Instr) (l : Option (List ℕ × ℕ)) → reading bytes ≡ Some (shown_with i l) → is_whole i l ≡ true

@@ -1,4 +1,4 @@
-//! The form of each instruction's canonical text.
+//! The form of each instruction's canonical text: some kinds have two that are written, and the registers and numbers decide between them.
 ghost use Rattle.std.specs.Prelude.{◌≡◌};
 ghost use Rattle.thumb_syntax.specs.FieldViews.{forms_at};
 ghost use Rattle.thumb_syntax.specs.Spelling.{is_second, first_of, second_of, slots};

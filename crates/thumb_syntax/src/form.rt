@@ -22,7 +22,7 @@ pub enum Slot {
     Sp,
     /// a register and `!`
     Base(OperandPosition),
-    /// a number from the second to the third and a multiple of the fourth, in units of which it is kept
+    /// a number from the second field to the third and a multiple of the fourth; it is kept divided by the fourth
     Number(OperandPosition, u32, u32, u32),
     /// one number
     Exactly(u32),
@@ -44,9 +44,9 @@ pub enum Slot {
     LowList(OperandPosition),
     /// a list of low registers and one more
     StackList(OperandPosition, u32),
-    /// nothing, where the register of the first place is in the list of the second
+    /// no operand, but a condition: the register of the first position is in the list of the second
     InList(OperandPosition, OperandPosition),
-    /// nothing, where it isn't
+    /// no operand, but a condition: the register isn't in the list
     NotInList(OperandPosition, OperandPosition),
 }
 

@@ -58,7 +58,7 @@ fn bits_of(extra: Option<u32>, item: &Operand<'_>) -> Option<u32>
     }
 }
 
-/// The list with more bits, where it has none of them.
+/// The list with more bits. None where it has some of them already.
 fn joined(list: u32, bits: u32) -> Option<u32>
     ensures { result ≡ joined list bits }
 {

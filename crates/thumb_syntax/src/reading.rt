@@ -35,7 +35,7 @@ fn with_fields<'a>(kind: Kind, fields: Fields<'a>) -> Option<Parsed<'a>>
     }
 }
 
-/// The forms of the first mnemonic that the word is.
+/// The forms of the first mnemonic that the word spells.
 fn forms_in(mnemonics: &'static [Mnemonic], word: &[u8]) -> &'static [Form]
     ensures { map row_of result.now ≡ rows_in (map group_of mnemonics.now) word.now }
 {
@@ -65,7 +65,7 @@ fn forms_of(word: &[u8]) -> &'static [Form]
     forms_in(mnemonics(place_of(word)), word)
 }
 
-/// What operands are by a form.
+/// What operands are read as by a form.
 fn read_by<'a>(form: &Form, operands: Left<'a, '_>) -> Option<Parsed<'a>>
     ensures { option_map shown result ≡ read_by (left operands.entry) (row_of form.now) }
 {
@@ -75,7 +75,7 @@ fn read_by<'a>(form: &Form, operands: Left<'a, '_>) -> Option<Parsed<'a>>
     }
 }
 
-/// What they are by the first form that they have.
+/// What operands are read as by the first form that they fill.
 fn read_in<'a>(forms: &[Form], operands: Left<'a, '_>) -> Option<Parsed<'a>>
     ensures { option_map shown result ≡ first_some (read_by (left operands.entry)) (map row_of forms.now) }
 {
@@ -87,7 +87,7 @@ fn read_in<'a>(forms: &[Form], operands: Left<'a, '_>) -> Option<Parsed<'a>>
     None
 }
 
-/// What a mnemonic and operands are by some form.
+/// What a mnemonic and operands are read as by some form.
 fn read_all<'a>(word: &[u8], bytes: &'a [u8]) -> Option<Parsed<'a>>
     ensures { option_map shown result ≡ read_all word.now (map operand (tokens bytes.now)) }
 {
@@ -100,7 +100,7 @@ fn read_all<'a>(word: &[u8], bytes: &'a [u8]) -> Option<Parsed<'a>>
     read_in(forms, operands)
 }
 
-/// The instruction that a text is, in canonical or another spelling, without the listing's labels and comments. None where no form has it.
+/// The instruction that a text is, in canonical or another spelling, without the listing's labels and comments. None where no form reads it.
 /// An instruction that names a label has distance 0.
 pub fn read_instr(text: &[u8]) -> Option<Parsed<'_>>
     ensures { option_map shown result ≡ reading text.now }

@@ -1,4 +1,4 @@
-//! The names of registers, in either case, with the second names of the calling standard. One is found by its second letter, without a search.
+//! The names of registers, in either case, with the synonyms of the procedure call standard. A name is looked up by its second byte, among very few.
 ghost use Rattle.std.specs.Prelude.{◌≡◌, ◌<◌, map, length};
 ghost use Rattle.ascii_scan.specs.Names.{is_spelled};
 ghost use Rattle.thumb_syntax.specs.Operands.{register_named, register_in};
@@ -20,7 +20,7 @@ macro_rules! register {
     };
 }
 
-/// The registers, each at the place of the second byte of its name: what is left of it modulo 32.
+/// The registers, each at the place that the second byte of its name has modulo 32.
 static REGISTERS: [&[Register]; 32] = [
     &[],
     &[],
@@ -93,7 +93,7 @@ pub fn is_spelled(word: &[u8], name: &[u8]) -> bool
     word.eq_ignore_ascii_case(name)
 }
 
-/// The number of the first register that is named so.
+/// The number of the first register with this name.
 fn number_in(registers: &[Register], word: &[u8]) -> Option<u32>
     ensures { result ≡ register_in (map named registers.now) word.now }
 {

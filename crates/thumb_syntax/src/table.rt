@@ -85,10 +85,10 @@ const LABEL: &[Slot] = &[Slot::Label];
 /// A register and a label with what is added.
 const LABELLED: &[Slot] = &[FIRST, COMMA, Slot::LabelSum];
 
-/// A register, and an address of two.
+/// A register, and an address that is the sum of two registers.
 const INDEXED: &[Slot] = &[FIRST, COMMA, OPEN, SECOND, COMMA, THIRD, CLOSE];
 
-/// A register, and an address of one with an offset.
+/// A register, and an address that is a register and an offset.
 macro_rules! with_offset {
     ($most:literal, $step:literal) => {
         &[FIRST, COMMA, OPEN, SECOND, COMMA, Slot::Number(OperandPosition::Third, 0, $most, $step), CLOSE]
@@ -151,9 +151,9 @@ const LOAD_WITHIN: &[Slot] = &[
     Slot::InList(OperandPosition::First, OperandPosition::Second),
 ];
 
-/// The table, handed to another macro: in four parts the first letters of mnemonics, at each letter its mnemonics, those that compilers write most first.
-/// A mnemonic has a row for each kind that is written with it: what may follow, first what is written (`is_second` tells it of kinds with two that are).
-/// Behind `also` stand kinds that it is read as, and that are written with another.
+/// The table, handed to another macro. It goes by first letters, in four parts; at each letter stand its mnemonics, the ones most used by compilers first.
+/// A mnemonic has a row for each kind that is written with it: its forms, the written one first (where two are written, `is_second` chooses).
+/// Behind `also` stand kinds that are read by this mnemonic too, but written with another.
 macro_rules! spellings {
     ($then:ident $($kind:ident)?) => {
         $then! {
@@ -444,7 +444,7 @@ fn s_to_z() -> &'static [&'static [Mnemonic]]
     &S_TO_Z
 }
 
-/// The mnemonics at a place: that of a first letter is what is left of it modulo 32, 1 for `a` and `A`.
+/// The mnemonics at a place: a first letter's place is the letter modulo 32, so 1 for `a` and `A`.
 pub fn mnemonics(place: usize) -> &'static [Mnemonic]
     requires { place < 32 }
     ensures forms { map forms_of (map group_of result.now) ≡ map named_forms (map group_of result.now) }

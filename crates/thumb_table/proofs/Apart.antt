@@ -92,7 +92,7 @@ every test a k = let l = listed k in in_list test (kinds_at (upper k)) l.0 k (al
 
 -- ---- proper rows ----
 
--- a row has one halfword or two, begins with four fixed bits or more, and tells of small numbers
+-- a row has one halfword or two, begins with four fixed bits or more, and holds small numbers
 abbrev begins : List Piece → Bool
 begins (Fixed w x ∷ ps) = nat_le 4 w
 begins ps = false

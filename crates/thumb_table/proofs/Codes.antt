@@ -1,4 +1,4 @@
--- Codes and instructions: halfwords are of one instruction at most, and what is read as none is none.
+-- Halfwords encode one instruction at most, and where decoding finds none there is none.
 use Rattle.std.proofs.Common.{◌≡◌, ◌∙◌, ◌⊎◌, inl, inr, ℕ, ◌+◌, ◌*◌, ◌/◌, ◌<◌, true, false, Some, refl, sym, ap, subst, arith, true≢false, eq-eqb, ne_eqb}
 use Rattle.std.specs.Prelude.{slice_get}
 use Rattle.thumb_instr.specs.declared.instr.Instr.{Instr}
@@ -25,18 +25,18 @@ encoded_number : (i : Instr) (a b : ℕ) (k : Kind) (o : OperandPosition) → (p
 encoded_number i a b k o e d =
     sym (read_is i o) ∙ (ap (λ (n : ℕ). read_on o (row_of i) n 0) d.is ∙ ap (λ (x : Kind). read_on o (pieces x) (whole (pieces x) a b) 0) e)
 
--- an instruction of the row that has the halfwords has what they tell
+-- an instruction of the row that has the halfwords has the registers and numbers that they hold
 encoded_parts : (i : Instr) (a b : ℕ) (k : Kind) → (parts_of i).kind ≡ k → Encodes i a b → parts_of i ≡ read_parts k (whole (pieces k) a b)
 encoded_parts i a b k e d =
     same_fields (parts_of i) (read_parts k (whole (pieces k) a b)) e (encoded_number i a b k position.First e d) (encoded_number i a b k position.Second e d) (encoded_number i a b k position.Third e d)
 
--- halfwords are of one instruction at most
+-- halfwords encode one instruction at most
 pub one_instr : (i j : Instr) (a b : ℕ) → a < 65536 → b < 65536 → Encodes i a b → Encodes j a b → i ≡ j
 one_instr i j a b h l e d =
     let k : (parts_of i).kind ≡ (parts_of j).kind = one_row (parts_of i).kind (parts_of j).kind a b h l (encoded_agrees i a b e) (encoded_agrees j a b d) in
     same_parts i j (encoded_parts i a b (parts_of j).kind k e ∙ sym (encoded_parts j a b (parts_of j).kind refl d))
 
--- an instruction that has what halfwords tell, and makes them again, is theirs
+-- an instruction with the registers and numbers that halfwords hold, and whose code they are, is theirs
 pub made_encodes : (k : Kind) (a b : ℕ) (m : Parts) (i : Instr) → m ≡ read_parts k (whole (pieces k) a b) → parts_of i ≡ m → packed (pieces k) m ≡ whole (pieces k) a b → Encodes i a b
 made_encodes k a b m i e f p =
     let is : (parts_of i).kind ≡ k = ap (λ (x : Parts). x.kind) (f ∙ e) in
@@ -50,17 +50,17 @@ unlike_is_not k a b n = λ i e d. true≢false (sym (encoded_agrees i a b d) ∙
 pub unbegun_is_not : (k : Kind) (a b : ℕ) → a < 65536 → b < 65536 → begins_with (pieces k) a ≡ false → IsNotOf k a b
 unbegun_is_not k a b h l n = λ i e d. true≢false (sym (begun (parts_of i).kind a b h l (encoded_agrees i a b d)) ∙ (ap (λ (x : Kind). begins_with (pieces x) a) e ∙ n))
 
--- nor are halfwords that tell what no instruction has
+-- nor are halfwords with registers and numbers that no instruction has
 pub unmade_is_not : (k : Kind) (a b : ℕ) (m : Parts) → m ≡ read_parts k (whole (pieces k) a b) → ((i : Instr) → parts_of i ≡ m → ⊥) → IsNotOf k a b
 unmade_is_not k a b m e n = λ i f d. n i (encoded_parts i a b k f d ∙ sym e)
 
--- nor those that what they tell doesn't make
+-- nor those that aren't the code of what is read from them
 pub other_is_not : (k : Kind) (a b : ℕ) (m : Parts) → m ≡ read_parts k (whole (pieces k) a b) → (packed (pieces k) m ≡ whole (pieces k) a b → ⊥) → IsNotOf k a b
 other_is_not k a b m e n = λ i f d.
     let same : parts_of i ≡ m = encoded_parts i a b k f d ∙ sym e in
     n (ap (packed (pieces k)) (sym same) ∙ subst (λ (x : Kind). packed (pieces x) (parts_of i) ≡ whole (pieces x) a b) f d.is)
 
--- halfwords that are of no row with their upper bits are no code
+-- halfwords that belong to none of the rows with their upper bits encode no instruction
 pub none_encodes : (a b : ℕ) → a < 65536 → b < 65536 → ((j : ℕ) (k : Kind) → slice_get (kinds_at (a / 4096)) j ≡ Some k → IsNotOf k a b) → (i : Instr) → Encodes i a b → ⊥
 none_encodes a b h m none i e =
     let k = (parts_of i).kind in

@@ -87,7 +87,7 @@ below (instr.Three s d n m) position.Third = within m
 below i position.Second = search (within, general, nothing)
 below i position.Third = search (within, general, nothing)
 
--- ---- its row tells it ----
+-- ---- its row holds it ----
 
 -- the numbers that a row has otherwise than by its bits in order
 abbrev is_odd : Kind → OperandPosition → Bool

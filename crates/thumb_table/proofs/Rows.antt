@@ -162,7 +162,7 @@ disjoint (Fixed w x) (Bits v o from least) = nat_lt x least
 disjoint (Bits w o from least) (Fixed v y) = nat_lt y least
 disjoint p q = false
 
--- so many bits that are free
+-- a piece of w bits that are free
 abbrev free : ℕ → Piece
 free w = Bits w position.First 0 0
 

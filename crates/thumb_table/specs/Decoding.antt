@@ -40,7 +40,7 @@ abbrev pub begins_with : List Piece → ℕ → Bool
 begins_with (Fixed w x ∷ ps) a = nat_lt 16 w || (a / 2 ^ (16 - w) == x)
 begins_with ps a = true
 
--- what a code tells of a kind's registers and numbers
+-- the registers and numbers that a code holds by the row of a kind
 abbrev pub read_parts : Kind → ℕ → Parts
 read_parts k c = of k (read_on position.First (pieces k) c 0) (read_on position.Second (pieces k) c 0) (read_on position.Third (pieces k) c 0)
 

@@ -1,4 +1,4 @@
--- The kinds of instructions by the upper four bits of their rows.
+-- The kinds of instructions by the upper four bits of their rows, so that decoding tries few of them.
 use Rattle.std.specs.Prelude.{ℕ, List, [], ◌∷◌, slice_index_or}
 use Rattle.thumb_instr.specs.declared.kind.Kind.{Kind}
 use Rattle.thumb_instr.specs.declared.kind.Kind.TheVariants as kind

@@ -25,28 +25,28 @@ is_operand position.Second position.Second = true
 is_operand position.Third position.Third = true
 is_operand o p = false
 
--- what a piece that holds v tells of a register or number, of which n is known
+-- what is known of a register or number after a piece that holds v, where n was known before
 abbrev pub told : Piece → ℕ → ℕ → ℕ
 told (Fixed w x) v n = n
 told (Bits w o from least) v n = n + v * 2 ^ from
 told (Amount w o) v n = n + (if v == 0 then 2 ^ w else v)
 told (Same o a b) v n = n + same v (n / 2 ^ b % 2) * 2 ^ a
 
--- whether a piece tells of a register or number
+-- whether a piece holds bits of a register or number
 abbrev pub is_about : OperandPosition → Piece → Bool
 is_about o (Fixed w x) = false
 is_about o (Bits w p from least) = is_operand o p
 is_about o (Amount w p) = is_operand o p
 is_about o (Same p a b) = is_operand o p
 
--- the register or number that a code tells, of which n is known before its pieces
+-- the register or number that a code holds, where n is known before its pieces are read
 unfoldable pub read_on : OperandPosition → List Piece → ℕ → ℕ → ℕ
 read_on o [] c n = n
 read_on o (p ∷ ps) c n = read_on o ps (c % 2 ^ width ps) (if is_about o p then told p (c / 2 ^ width ps) n else n)
 
 -- ---- rows that are proper ----
 
--- the bits that a piece tells of a number lie below the 24th, and a fixed number fits its bits
+-- the bits that a piece holds of a number lie below bit 24, and a fixed number fits its bits
 abbrev pub is_narrow : Piece → Bool
 is_narrow (Fixed w x) = nat_lt x (2 ^ w)
 is_narrow (Bits w o from least) = nat_le (from + w) 24
@@ -57,7 +57,7 @@ unfoldable pub are_narrow : List Piece → Bool
 are_narrow [] = true
 are_narrow (p ∷ ps) = is_narrow p && are_narrow ps
 
--- more than a row's pieces tell of a number
+-- an upper bound of what a piece, and a row, add to a number
 abbrev pub most_of : Piece → ℕ
 most_of (Fixed w x) = 0
 most_of (Bits w o from least) = 2 ^ w * 2 ^ from

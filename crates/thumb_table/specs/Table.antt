@@ -1,4 +1,4 @@
--- The encodings of instructions, as the tables of the ARM manual's section on the Thumb instruction set encoding: a row is a list of pieces from the highest bit.
+-- The encodings of instructions, as in the tables of the ARM manual's section on the Thumb instruction set encoding: a row lists pieces from the highest bit.
 use Rattle.std.specs.Prelude.{ℕ, ◌+◌, ◌*◌, ◌/◌, ◌%◌, ◌^◌, ◌==◌, List, [], ◌∷◌, if◌then◌else◌, ◌≡◌}
 use Rattle.thumb_instr.specs.declared.kind.Parts.{Parts}
 use Rattle.thumb_table.specs.declared.row.OperandPosition.{OperandPosition}

@@ -50,7 +50,7 @@ fn lowest(number: u64, bits: u32) -> u64
     number % (1 << bits)
 }
 
-/// Whether a number has the bits of a row that is so many bits wide.
+/// Whether a number has the bits of a row, which is `wide` bits wide.
 #[tactic(auto, unfolding(crate::specs::ReadBits::agrees))]
 pub fn agrees(pieces: &[Piece], wide: u32, code: u32) -> bool
     requires wide { wide ≡ width pieces.now }
@@ -106,7 +106,7 @@ fn value_of(piece: &Piece, parts: &Parts) -> u64
     }
 }
 
-/// The number that a row, so many bits wide, makes of an instruction.
+/// The number that a row, which is `wide` bits wide, makes of an instruction.
 #[tactic(auto, using(crate::proofs::Rows::packed_word), unfolding(crate::specs::Table::packed, crate::specs::ReadBits::are_narrow))]
 pub fn packed(pieces: &[Piece], wide: u32, parts: &Parts) -> u32
     requires wide { wide ≡ width pieces.now }
@@ -123,7 +123,7 @@ pub fn packed(pieces: &[Piece], wide: u32, parts: &Parts) -> u32
     code as u32
 }
 
-/// Whether a piece tells of a register or number.
+/// Whether a piece holds bits of a register or number.
 fn is_about(operand: OperandPosition, piece: &Piece) -> bool
     ensures { result ≡ is_about operand piece.now }
 {
@@ -146,7 +146,7 @@ fn is_operand(one: OperandPosition, other: OperandPosition) -> bool
     }
 }
 
-/// What is known of a register or number by a piece that holds this value, of which so much was known before.
+/// What is known of a register or number after a piece that holds `value`, where `known` was known before.
 fn told(operand: OperandPosition, piece: &Piece, value: u64, known: u64) -> u64
     requires narrow { is_narrow piece.now ≡ true }
     requires value { value < 2 ^ width_of piece.now }
@@ -165,7 +165,7 @@ fn told(operand: OperandPosition, piece: &Piece, value: u64, known: u64) -> u64
     }
 }
 
-/// The register or number that a code tells by a row that is so many bits wide.
+/// The register or number that a code holds by a row, which is `wide` bits wide.
 #[tactic(auto, unfolding(crate::specs::ReadBits::read_on, crate::specs::ReadBits::are_narrow))]
 pub fn read(operand: OperandPosition, pieces: &[Piece], wide: u32, code: u32) -> u32
     requires wide { wide ≡ width pieces.now }

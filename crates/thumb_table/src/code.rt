@@ -42,7 +42,7 @@ fn begins_with(row: &[Piece], first: u16) -> bool
     }
 }
 
-/// The bits in two halfwords of a row that is so many bits wide.
+/// The code in two halfwords by a row that is `wide` bits wide: a short row has the first halfword alone.
 fn whole(wide: u32, first: u16, second: u16) -> u32
     ensures { result ≡ (if wide == 16 then first else first * 65536 + second) }
 {
@@ -53,7 +53,7 @@ fn whole(wide: u32, first: u16, second: u16) -> u32
     }
 }
 
-/// What a code tells of a kind's registers and numbers, of which this is the row.
+/// The registers and numbers that a code holds by the row of its kind.
 #[tactic(auto, using(crate::proofs::Apart::narrow, crate::proofs::Apart::most_small))]
 fn read_parts(kind: Kind, row: &[Piece], wide: u32, code: u32) -> Parts
     requires row { row.now ≡ pieces kind }
@@ -70,7 +70,7 @@ fn read_parts(kind: Kind, row: &[Piece], wide: u32, code: u32) -> Parts
     }
 }
 
-/// The instruction of the row that two halfwords are, if there is one.
+/// The instruction of a kind that two halfwords encode, if there is one.
 #[tactic(auto, using(crate::proofs::Apart::width_most, crate::proofs::Apart::narrow, crate::proofs::Apart::whole_word, crate::proofs::Codes::unbegun_is_not, crate::proofs::Codes::unlike_is_not, crate::proofs::Codes::unmade_is_not, crate::proofs::Codes::made_encodes, crate::proofs::Codes::other_is_not))]
 fn read_as(kind: Kind, first: u16, second: u16) -> Option<Instr>
     ensures some { IfSome result (λ i. Encodes i first second) }
@@ -98,7 +98,7 @@ fn read_as(kind: Kind, first: u16, second: u16) -> Option<Instr>
     }
 }
 
-/// The instruction that two halfwords are, if there is one; where the first alone is one, the second is free.
+/// The instruction that two halfwords encode, if there is one; where the first alone encodes one, the second may be anything.
 pub fn decode(first: u16, second: u16) -> Option<Instr>
     ensures some { IfSome result (λ i. Encodes i first second) }
     ensures none { IfNone result (IsNoCode first second) }

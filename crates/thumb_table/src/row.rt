@@ -11,13 +11,13 @@ pub enum OperandPosition {
 /// A piece of a row: bits that are fixed, or what the code holds of a register or number.
 #[derive(Clone, Copy, Debug)]
 pub enum Piece {
-    /// How many bits, and the number that they make.
+    /// Fixed bits: how many, and the number that they make.
     Fixed(u32, u32),
-    /// How many bits of which number, from which of its bits on, and the least that they make.
+    /// Bits of a number: how many, of which number, from which of its bits on, and the least value that they may have.
     Bits(u32, OperandPosition, u32, u32),
-    /// How many bits of which number, from its lowest on, where they make 0 for the number that has one bit more.
+    /// The lowest bits of a number: how many, and of which. They are 0 for the number one above the greatest that they hold, as 32 for a shift's 5 bits.
     Amount(u32, OperandPosition),
-    /// Of which number, which of its bits as 1 where it equals which other one.
+    /// One bit: 1 where two bits of a number, this one and that one, are equal, as in BL's J1 and J2.
     Same(OperandPosition, u32, u32),
 }
 

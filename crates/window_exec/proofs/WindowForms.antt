@@ -1,4 +1,4 @@
--- What may stand in a window computes.
+-- An instruction that may stand in a window looks at registers and flags alone, as `computes` asks.
 use Rattle.std.proofs.Common.{◌≡◌, true, refl}
 use Rattle.thumb_instr.specs.declared.instr.Instr.{Instr}
 use Rattle.thumb_instr.specs.declared.instr.Instr.TheVariants as instr

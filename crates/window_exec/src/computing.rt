@@ -1,4 +1,4 @@
-//! What an instruction that looks at registers and flags alone does to any file of registers.
+//! What an instruction that looks at registers and flags alone does to any register file: of one state, of eight, or of the machine.
 ghost use Rattle.std.specs.Prelude.{◌≡◌, ℕ, ◌<◌, ◌≤◌, true, false};
 ghost use Rattle.word_bits.specs.Word.{shift_of};
 ghost use Rattle.thumb_instr.specs.Window.{named, AreBelow};
@@ -144,7 +144,7 @@ pub fn compute<F: RegisterFile>(file: &mut F, instr: &Instr)
     }
 }
 
-/// Puts a result into a register, and its N and Z.
+/// Puts a result into a register, and sets N and Z by it.
 #[inline(always)]
 fn set_result<F: RegisterFile>(file: &mut F, target: u32, value: F::Value)
     requires { target < F.count }
@@ -154,7 +154,7 @@ fn set_result<F: RegisterFile>(file: &mut F, target: u32, value: F::Value)
     file.set_register(target, value);
 }
 
-/// Puts a shift of a value into a register, its N and Z, and its last bit out as C.
+/// Puts a shifted value into a register, and sets N and Z by it and C to the carry out.
 #[inline(always)]
 fn set_shift<F: RegisterFile>(file: &mut F, target: u32, moved: <F::Value as Word>::Moved)
     requires { target < F.count }
@@ -164,7 +164,7 @@ fn set_shift<F: RegisterFile>(file: &mut F, target: u32, moved: <F::Value as Wor
     file.set_register(target, F::Value::moved_value(moved));
 }
 
-/// Puts a sum into a register, and all its flags.
+/// Puts a sum into a register, and sets all flags by it.
 #[inline(always)]
 fn set_sum<F: RegisterFile>(file: &mut F, target: u32, sum: <F::Value as Word>::Sum)
     requires { target < F.count }

@@ -40,15 +40,15 @@ pub trait RegisterFile {
     fn carry(&self) -> <Self::Value as Word>::Flag
         ensures { (i : ℕ) → Self.Value.is_set result i ≡ (values self.now i c_flag == 1) };
 
-    /// Gives N and Z of a result.
+    /// Sets N and Z by a result.
     fn set_result_flags(&mut self, value: Self::Value)
         ensures { (i : ℕ) → values self.new i ≡ assigned (result_flags (Self.Value.number value i)) (values self.old i) };
 
-    /// Gives N and Z of a shift's result, and its carry out as C.
+    /// Sets N and Z by a shift's result, and C to its carry out.
     fn set_shift_flags(&mut self, moved: <Self::Value as Word>::Moved)
         ensures { (i : ℕ) → values self.new i ≡ assigned (result_flags (Self.Value.moved_in moved i).0) (assigned ((c_flag, from_bool (Self.Value.moved_in moved i).1) ∷ []) (values self.old i)) };
 
-    /// Gives all flags of a sum.
+    /// Sets all flags by a sum.
     fn set_sum_flags(&mut self, sum: <Self::Value as Word>::Sum)
         ensures { (i : ℕ) → values self.new i ≡ assigned (sum_flags (Self.Value.sum_in sum i)) (values self.old i) };
 }
