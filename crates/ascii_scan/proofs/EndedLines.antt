@@ -7,7 +7,7 @@ use Rattle.ascii_scan.specs.FirstLine.{is_inside}
 use Rattle.ascii_scan.specs.Lines.{lines_of, onto_first, content_of, is_ended, Placed, whole}
 use Rattle.ascii_scan.proofs.LineLemmas.{lines_nil, lines_newline, lines_other}
 
--- no newline stands in it
+-- no byte is a newline
 abbrev pub IsInside : List ℕ → Type 0
 IsInside bytes = list_all is_inside bytes ≡ true
 
@@ -39,7 +39,7 @@ pub is_ended_last : (t : List ℕ) → is_ended (ended t) ≡ true
 is_ended_last [] = refl
 is_ended_last (b ∷ t) = elim (cases_Bool (b == 10)) [ inl e ↦ rw e refl | inr e ↦ rw e (is_ended_last t) ]
 
--- what isn't ended is its own content
+-- a line without a newline is its own content
 pub open_content : (l : List ℕ) → is_ended l ≡ false → content_of l ≡ l
 open_content [] h = refl
 open_content (b ∷ l) h = elim (cases_Bool (b == 10)) [

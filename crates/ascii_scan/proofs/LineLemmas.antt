@@ -1,4 +1,4 @@
--- The first line of a text.
+-- Lines of a text: taking the first line off, that they are slices of the text, and that joined they are the text.
 use Rattle.std.proofs.Common.{◌≡◌, ◌∙◌, ◌⊎◌, inl, inr, ℕ, suc, ◌+◌, ◌-◌, ◌<◌, ◌≤◌, ◌==◌, Bool, true, false, List, [], ◌∷◌, ◌++◌, length, take, drop, cond, refl, sym, ap, arith, subst, append_assoc, length-append, map, eqb-true}
 use Rattle.std.proofs.lemmas.List.{drop_at}
 use Rattle.std.proofs.lemmas.List.Elements.{All-nil, All-cons}
@@ -37,7 +37,7 @@ pub lines_none : (bs : List ℕ) → length bs ≡ 0 → lines_of bs ≡ []
 lines_none [] e = lines_nil
 lines_none (b ∷ bs) e = absurd (omega arith)
 
--- of a text that isn't empty
+-- the lines of a text that isn't empty are its first line and the lines of what follows
 pub lines_at : (bs : List ℕ) → 0 < length bs → lines_of bs ≡ first_line bs ∷ lines_of (after_first bs)
 lines_at [] h = absurd (omega arith)
 lines_at (b ∷ bs) h = lines_front b bs
@@ -49,7 +49,7 @@ content_first (b ∷ bs) = elim (either (b == 10)) [
   | inr e ↦ rw e (rw e (ap (λ w. b ∷ w) (content_first bs)))
 ]
 
--- where no newline is left the line isn't ended, and nothing is after it
+-- in a text without a newline the first line isn't ended, and nothing follows it
 pub open_line : (bs : List ℕ) → rest is_inside bs ≡ [] → (is_ended (first_line bs) ≡ false) × (after_first bs ≡ [])
 open_line [] e = (refl, refl)
 open_line (b ∷ bs) e = elim (either (b == 10)) [
@@ -88,7 +88,7 @@ lines_join (b ∷ bs) = elim (either (b == 10)) [
   | inr e ↦ ap concat (lines_other b bs e) ∙ concat_onto b (lines_of bs) ∙ ap (λ w. b ∷ w) (lines_join bs)
 ]
 
--- a line's bytes stand at its front
+-- a line's content is its prefix
 content_front : (line after : List ℕ) → take (length (content_of line)) (line ++ after) ≡ content_of line
 content_front [] after = refl
 content_front (b ∷ bs) after = elim (either (b == 10)) [
@@ -96,7 +96,7 @@ content_front (b ∷ bs) after = elim (either (b == 10)) [
   | inr e ↦ rw e (ap (λ w. b ∷ w) (content_front bs after))
 ]
 
--- where a line of the list is the slice of a text between its ends
+-- a line's bytes are those of the text from its start to before its end
 IsSlice : List ℕ → Placed → Type 0
 IsSlice bytes l = l.text ≡ take (l.end - l.start) (drop l.start bytes)
 
@@ -121,7 +121,7 @@ lines_slices bytes =
     let P : List ℕ → Type 0 = λ bs. All (IsSlice bs) (placed_from 1 0 (lines_of bytes)) in
     subst P (lines_join bytes) (slices_from [] 1 0 (lines_of bytes) refl)
 
--- what is known of a first line
+-- a line's content is no longer than the line
 pub content_short : (line : List ℕ) → length (content_of line) ≤ length line
 content_short [] = omega arith
 content_short (b ∷ bs) = elim (either (b == 10)) [

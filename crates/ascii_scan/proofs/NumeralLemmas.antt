@@ -1,4 +1,4 @@
--- Digits of a base of at most 16, as a text that is parsed.
+-- Parsing a text of digits in a base of at most 16 with the standard library gives the specification's value, and a number's own text is read back.
 use Rattle.std.proofs.Common.{◌≡◌, ◌∙◌, ℕ, zero, suc, ◌^◌, ◌<◌, ◌≤◌, ◌&&◌, Bool, true, false, List, [], ◌∷◌, length, get_or, Some, None, Result, Ok, Err, refl, sym, ap, arith, rules, cond, true≢false, lt-ltb, le-ltb, ne_eqb}
 use Rattle.std.specs.Prelude.{nat_lt}
 use Rattle.std.specs.List.{list_all}
@@ -31,7 +31,7 @@ digits_are : (r : ℕ) (ds : List ℕ) → list_all (λ d. is_digit d r) ds ≡ 
 digits_are r [] all = tt
 digits_are r (d ∷ ds) all = (search rules, digits_are r ds (both (is_digit d r) _ all).1)
 
--- a numeral and a small one, or neither
+-- digits are a numeral exactly where there is at least one and their value is below 2 ^ 32
 is_small : (r : ℕ) (ds : List ℕ) → list_all (λ d. is_digit d r) ds ≡ true → 0 < length ds → digits_value r ds < 2 ^ 32 → in_base r ds ≡ Some (digits_value r ds)
 is_small r ds all some small = rw (lt-ltb _ _ some, all, lt-ltb _ _ small) refl
 
@@ -50,7 +50,7 @@ parsed {E} r ds (Err e) high all is =
     let known = rw (no_plus r ds high all) at is in
     sym (is_none r ds all (λ some small. known ((some, digits_are r ds all), small)))
 
--- ---- what was written is read
+-- ---- a number that was written is read back
 
 all_digits_list : (r : ℕ) (ds : List ℕ) → AllDigits r ds → list_all (λ d. is_digit d r) ds ≡ true
 all_digits_list r [] all = refl

@@ -1,4 +1,4 @@
--- A text that is refused is no text of that kind, and the line of its refusal is unique.
+-- A text that is refused as one of a kind isn't of that kind, and it is refused at one line only.
 use Rattle.std.proofs.Common.{◌≡◌, ◌∙◌, ℕ, ◌≤◌, List, [], ◌∷◌, ◌++◌, length, sym, ap, subst, arith, append_assoc, append-nil}
 use Rattle.ascii_scan.specs.Lines.{lines_of}
 use Rattle.ascii_scan.specs.Refused.{Begins, Stops, IsRefused}
@@ -11,11 +11,11 @@ module _ (IsOf : List ℕ → Type 0) where
       by [] e stops = stops bytes text (e ∙ append-nil r.before)
       by (l ∷ rest) e stops = stops (record { bytes = bytes; text = text; rest = rest; whole = e ∙ sym (append_assoc r.before (l ∷ []) rest) })
 
-  -- what begins a text begins it with fewer lines too
+  -- if a text of the kind begins with some lines, it begins with any prefix of them
   fewer : (xs ys : List (List ℕ)) → Begins IsOf (xs ++ ys) → Begins IsOf xs
   fewer xs ys b = record { bytes = b.bytes; text = b.text; rest = ys ++ b.rest; whole = b.whole ∙ append_assoc xs ys b.rest }
 
-  -- no text begins with more lines than come before a stop
+  -- no text of the kind begins with more lines than those before a stop
   no_longer : (seen xs ys us vs : List (List ℕ)) → xs ++ us ≡ ys ++ vs → Stops IsOf (seen ++ xs) us → Begins IsOf (seen ++ ys) → length ys ≤ length xs
   no_longer seen [] [] us vs e stops b = omega arith
   no_longer seen [] (y ∷ ys) us vs e stops b =

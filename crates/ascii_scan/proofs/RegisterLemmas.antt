@@ -1,4 +1,4 @@
--- A register's name is short.
+-- A register's name has at most three bytes, so that longer words needn't be compared with the names.
 use Rattle.std.proofs.Common.{◌≡◌, ◌∙◌, inl, inr, ℕ, ◌<◌, true, false, List, [], ◌∷◌, map, length, refl, sym, ap, true≢false}
 use Rattle.std.specs.Prelude.{nat_le}
 use Rattle.std.specs.List.{list_all, list_any}

@@ -1,4 +1,4 @@
--- The first token of bytes.
+-- The first token of a text, as the scanner splits it off, is the first of the specification's tokens.
 use Rattle.std.proofs.Common.{◌≡◌, ◌∙◌, inl, inr, ℕ, suc, ◌+◌, ◌&&◌, Bool, true, false, not, List, [], ◌∷◌, ◌++◌, drop, take, refl, sym, ap, arith, cond, true≢false}
 use Rattle.std.specs.List.{prefix_len, list_all}
 use Rattle.ascii_scan.specs.Tokens.{word, mark, is_blank, is_mark, is_inner, begins_blank, begins_inner, tokens, grown, front, rest}
@@ -53,7 +53,7 @@ rest_is p (b ∷ bs) = elim (p b) as (λ v. drop (cond v (1 + prefix_len p bs) 0
   | false ↦ refl
 ]
 
--- a word stands at the front, up to the first byte that isn't in it
+-- a text that begins with a byte of a word begins with the word up to the first blank or mark
 pub tokens_word : (b : ℕ) (bs : List ℕ) → is_blank b ≡ false → is_mark b ≡ false → tokens (b ∷ bs) ≡ word (b ∷ front is_inner bs) ∷ tokens (rest is_inner bs)
 tokens_word b [] blank marked = tokens_last b [] blank marked refl
 tokens_word b (x ∷ xs) blank marked = elim (either (is_inner x)) [
@@ -96,7 +96,7 @@ next_word bs f after e marked =
     let inner = inner_of f blank marked in
     rw e (same_tokens bs _ e ∙ tokens_word f after blank marked ∙ rw inner refl)
 
--- ---- a word that was written
+-- ---- a word that was written is read back
 
 front_written : (w rest' : List ℕ) → list_all is_inner w ≡ true → begins_inner rest' ≡ false → (front is_inner (w ++ rest') ≡ w) × (rest is_inner (w ++ rest') ≡ rest')
 front_written [] [] all ends = (refl, refl)

@@ -4,7 +4,7 @@ use Rattle.std.specs.Prelude.{ℕ, ◌==◌, Bool, not, List, [], ◌∷◌, if�
 abbrev pub is_inside : ℕ → Bool
 is_inside b = not (b == 10)
 
--- the first line, with its newline
+-- the first line with its newline, which may be missing
 abbrev pub first_line : List ℕ → List ℕ
 first_line [] = []
 first_line (b ∷ bs) = if b == 10 then b ∷ [] else b ∷ first_line bs

@@ -1,8 +1,8 @@
--- The lines of a text, each with its newline. The last may lack it. Joined they are the text.
+-- The lines of a text, each with its newline, which the last may lack. Their concatenation is the text.
 use Rattle.std.specs.Prelude.{◌≡◌, ℕ, ◌+◌, ◌-◌, ◌==◌, ◌||◌, Bool, false, List, [], ◌∷◌, ◌++◌, length, take, drop, if◌then◌else◌}
 use Rattle.std.specs.List.{concat, flat_map, All}
 
--- the lines with the byte put in front of the first one
+-- the byte put in front of the first line
 abbrev pub onto_first : ℕ → List (List ℕ) → List (List ℕ)
 onto_first b [] = (b ∷ []) ∷ []
 onto_first b (l ∷ ls) = (b ∷ l) ∷ ls
@@ -39,7 +39,7 @@ placed number start line = record {
   is_ended = is_ended line;
 }
 
--- lines in order, by the number of the first and where it starts
+-- lines in order, where `number` and `start` are those of the first
 abbrev pub placed_from : ℕ → ℕ → List (List ℕ) → List Placed
 placed_from number start [] = []
 placed_from number start (line ∷ lines) = placed number start line ∷ placed_from (number + 1) (start + length line) lines
@@ -56,6 +56,6 @@ whole l = if l.is_ended then l.text ++ 10 ∷ [] else l.text
 abbrev pub LinesJoinToText : Type 0
 LinesJoinToText = (bytes : List ℕ) → (concat (lines_of bytes) ≡ bytes) × (flat_map whole (lines_in bytes) ≡ bytes)
 
--- each line's bytes are those of the text between its ends
+-- each line's bytes are those of the text from its start to before its end
 abbrev pub LinesAreSlices : Type 0
 LinesAreSlices = (bytes : List ℕ) → All (λ l. l.text ≡ take (l.end - l.start) (drop l.start bytes)) (lines_in bytes)

@@ -1,4 +1,4 @@
--- Names: a letter, `_`, `.` or `$`, then these and digits, and no register's name.
+-- Names: a letter, `_`, `.` or `$`, then any of these and digits; a register's name is none.
 use Rattle.std.specs.Prelude.{ℕ, ◌&&◌, ◌||◌, ◌==◌, not, Bool, List, [], ◌∷◌, length, map, codes, Option, Some, None, if◌then◌else◌, nat_le}
 use Rattle.std.specs.List.{list_any}
 use Rattle.std.specs.Str.{bytes_eq}
@@ -15,11 +15,11 @@ is_letter b = (nat_le 65 b && nat_le b 90) || (nat_le 97 b && nat_le b 122)
 abbrev pub is_opening : ℕ → Bool
 is_opening b = is_letter b || (b == 95 || (b == 46 || b == 36))
 
--- a byte of a name
+-- a byte that may occur in a name
 abbrev pub is_name_byte : ℕ → Bool
 is_name_byte b = is_opening b || is_digit b
 
--- the names of registers, which are written in either case
+-- the names of registers, which may be written in upper or lower case
 unfoldable pub registers : List (List ℕ)
 registers =
     codes "r0" ∷ codes "r1" ∷ codes "r2" ∷ codes "r3" ∷ codes "r4" ∷ codes "r5" ∷ codes "r6" ∷ codes "r7"
@@ -33,7 +33,7 @@ is_spelled word name = bytes_eq (map to_ascii_lowercase word) (map to_ascii_lowe
 abbrev pub is_register : List ℕ → Bool
 is_register word = list_any (is_spelled word) registers
 
--- the length of the name at the front, which is as long as it can be
+-- the length of the longest name at the front
 abbrev pub name_length : List ℕ → Option ℕ
 name_length [] = None
 name_length (b ∷ bs) =

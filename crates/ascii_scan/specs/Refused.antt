@@ -1,4 +1,4 @@
--- The line by which a text is refused, for any kind of text (tables, costs): the first one up to which the lines begin no text of that kind.
+-- The line at which a text is refused that isn't of some kind, such as a table or costs: no text of that kind begins with the lines up to it.
 use Rattle.std.specs.Prelude.{◌≡◌, ℕ, ◌+◌, List, [], ◌∷◌, ◌++◌, length}
 use Rattle.ascii_scan.specs.Lines.{lines_of}
 
@@ -9,12 +9,12 @@ pub record Begins (IsOf : List ℕ → Type 0) (lines : List (List ℕ)) : Type 
   pub rest : List (List ℕ)
   pub whole : lines_of bytes ≡ lines ++ rest
 
--- no line follows, and the lines before are no whole text of the kind; or one follows with which they begin none, as one that lacks its newline
+-- after `before` the text ends, and no text of the kind has these lines alone; or no text of the kind begins with them and the next line
 abbrev pub Stops : (List ℕ → Type 0) → List (List ℕ) → List (List ℕ) → Type 0
 Stops IsOf before [] = (bytes : List ℕ) → IsOf bytes → lines_of bytes ≡ before → ⊥
 Stops IsOf before (line ∷ rest) = Begins IsOf (before ++ line ∷ []) → ⊥
 
--- n is the least number such that the first n lines begin no text of the kind; where all lines begin one and are none, the number of the missing line
+-- no text of the kind begins with the first n lines, and n is the least such number; where one begins with all the lines, n is their number plus 1
 pub record IsRefused (IsOf : List ℕ → Type 0) (bytes : List ℕ) (n : ℕ) : Type 0 where
   pub before : List (List ℕ)
   pub rest : List (List ℕ)

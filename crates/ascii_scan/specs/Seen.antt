@@ -1,4 +1,4 @@
--- A token as the definitions have it: its bytes as a list, in place of a borrowed slice.
+-- The token of the specification that a token of the code stands for: its bytes without their address.
 use Rattle.ascii_scan.specs.declared.words.Token.{Token as Slices}
 use Rattle.ascii_scan.specs.declared.words.Token.TheVariants as of
 use Rattle.ascii_scan.specs.Tokens.{Token, word, mark}

@@ -1,4 +1,4 @@
--- The lines that are left of a source.
+-- The lines that an iterator over a source has still to yield, as values of the specification.
 use Rattle.std.specs.Prelude.{◌+◌, List}
 use Rattle.ascii_scan.specs.Lines.{lines_of, Placed, placed_from}
 use Rattle.ascii_scan.specs.declared.source.SourceLine.{SourceLine}

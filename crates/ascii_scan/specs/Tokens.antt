@@ -1,4 +1,4 @@
--- A statement as words and marks. Blanks stand between them and mean nothing else.
+-- The tokens of a statement: words and marks. Blanks separate words and have no other meaning.
 use Rattle.std.specs.Prelude.{ℕ, ◌&&◌, ◌||◌, ◌==◌, Bool, false, not, List, [], ◌∷◌, if◌then◌else◌}
 
 pub data Token : Type 0 where
@@ -16,12 +16,12 @@ is_mark b = b == 44 || (b == 91 || (b == 93 || (b == 123 || b == 125)))
 abbrev pub is_inner : ℕ → Bool
 is_inner b = not (is_blank b) && not (is_mark b)
 
--- the byte put in front of the first word, or as a word of its own where no word begins here
+-- the byte put in front of the first token where that is a word, and otherwise as a word of its own
 abbrev pub grown : ℕ → List Token → List Token
 grown b (word w ∷ ts) = word (b ∷ w) ∷ ts
 grown b ts = word (b ∷ []) ∷ ts
 
--- the longest front whose bytes pass, and what follows it
+-- the longest prefix whose bytes all satisfy p, and what follows it
 abbrev pub front : (ℕ → Bool) → List ℕ → List ℕ
 front p [] = []
 front p (b ∷ bs) = if p b then b ∷ front p bs else []
@@ -38,7 +38,7 @@ abbrev pub begins_inner : List ℕ → Bool
 begins_inner [] = false
 begins_inner (b ∷ bs) = is_inner b
 
--- the words and marks of the bytes, a word being as long as it can be
+-- the words and marks of the bytes; each word is as long as possible
 unfoldable pub tokens : List ℕ → List Token
 tokens [] = []
 tokens (b ∷ bs) =

@@ -1,4 +1,4 @@
-//! Scanning of ASCII text: lines, numerals, names, and the words and marks of a statement.
+//! The scanner that the readers of listings, tables, costs and command lines share: lines, numerals, names, and the words and marks of a statement.
 #![tactic(auto)]
 
 mod naming;

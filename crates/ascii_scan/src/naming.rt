@@ -1,4 +1,4 @@
-//! Names, and the registers' names, which are none: one definition, so that every reader of words takes the same words for names.
+//! Which words are names of labels and which are register names: one definition, so that every reader takes the same words for a name.
 ghost use Rattle.std.specs.Prelude.{◌≡◌, map};
 ghost use Rattle.std.specs.List.{list_any, prefix_len};
 ghost use Rattle.ascii_scan.specs.Tokens.{front};
@@ -24,14 +24,14 @@ fn is_spelled(word: &[u8], name: &[u8]) -> bool
     word.eq_ignore_ascii_case(name)
 }
 
-/// Whether some name is spelled so.
+/// Whether the word is one of the names, but for the case of letters.
 fn is_among(word: &[u8], names: &[&[u8]]) -> bool
     ensures { result ≡ list_any (λ name. is_spelled word.now name.now) names.now }
 {
     names.iter().any(|name| is_spelled(word, name))
 }
 
-/// The most bytes of a register's name.
+/// The length of the longest register name, in bytes.
 const LONGEST_REGISTER: usize = 3;
 
 fn is_some_register(word: &[u8]) -> bool
@@ -77,8 +77,8 @@ fn front_word(bytes: &[u8]) -> &[u8]
     word
 }
 
-/// The length of the name at the front: a letter, `_`, `.` or `$`, then these and digits, as many as there are.
-/// None where there is none, or where these bytes are a register's name, in either case.
+/// The length in bytes of the name at the front: a letter, `_`, `.` or `$`, then as many of these and of digits as follow.
+/// None where no name begins there, or where these bytes are a register's name in upper or lower case.
 pub fn name(bytes: &[u8]) -> Option<usize>
     ensures { result ≡ name_length bytes.now }
 {

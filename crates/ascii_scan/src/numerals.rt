@@ -1,4 +1,4 @@
-//! Numerals of instructions, directives and command lines: one reader, so that all of them take the same spellings of a number.
+//! Numerals of listings, tables and command lines: one reader for all, so that they accept the same spellings.
 ghost use Rattle.std.specs.Prelude.{◌≡◌, ◌≤◌};
 ghost use Rattle.std.specs.List.{list_all};
 ghost use Rattle.std.specs.Char.{is_digit};
@@ -12,7 +12,7 @@ fn all_digits(bytes: &[u8], radix: u32) -> bool
     bytes.iter().all(|b| char::from(*b).is_digit(radix))
 }
 
-/// The number of the digits, in base 10 or 16.
+/// The value of the digits in the base `radix`. None where one is no digit, where there is none, or from 2^32 on.
 fn digits(bytes: &[u8], radix: u32) -> Option<u32>
     requires low { 2 ≤ radix }
     requires high { radix ≤ 16 }
@@ -28,8 +28,8 @@ fn digits(bytes: &[u8], radix: u32) -> Option<u32>
     }
 }
 
-/// The number that the bytes are: decimal digits without a leading zero, or `0x` and hexadecimal digits of either case, below 2^32.
-/// None where they are no such numeral.
+/// The value of a numeral: decimal digits without a leading zero, or `0x` and hexadecimal digits of either case, below 2^32.
+/// None where the bytes are no such numeral.
 pub fn number(bytes: &[u8]) -> Option<u32>
     ensures { result ≡ numeral bytes.now }
 {

@@ -1,4 +1,4 @@
-//! A text cut into its lines, each with its bytes and its number, without a copy of any byte.
+//! An iterator over the lines of a text, each with its number and offset, which copies no byte.
 ghost use Rattle.std.specs.Prelude.{◌≡◌, ◌+◌, ◌<◌, ◌≤◌, ◌^◌, ◌∷◌, [], length, IfSome, MatchOption};
 ghost use Rattle.std.specs.List.{prefix_len};
 ghost use Rattle.ascii_scan.specs.Lines.{content_of, is_ended, lines_of, LinesJoinToText, LinesAreSlices};
@@ -10,9 +10,9 @@ ghost use Rattle.ascii_scan.specs.FirstLine.{is_inside, first_line, after_first}
 pub struct SourceLine<'a> {
     /// Its number, from 1.
     pub number: usize,
-    /// Where it starts in the source.
+    /// The offset of its first byte in the source.
     pub start: usize,
-    /// Where its newline is, or where the source ends.
+    /// The offset of its newline, or the length of the source where it has none.
     pub end: usize,
     /// Its bytes, without the newline.
     pub text: &'a [u8],
@@ -38,7 +38,7 @@ fn line_len(bytes: &[u8]) -> usize
     bytes.iter().take_while(|b| **b != b'\n').count()
 }
 
-/// The bytes before the first newline, and those from it on.
+/// The bytes before the first newline, and those from the newline on.
 fn split_line(bytes: &[u8]) -> (&[u8], &[u8])
     ensures line { result.0.now ≡ front is_inside bytes.now }
     ensures rest { result.1.now ≡ rest is_inside bytes.now }
@@ -46,7 +46,7 @@ fn split_line(bytes: &[u8]) -> (&[u8], &[u8])
     bytes.split_at(line_len(bytes))
 }
 
-/// The first line, of a text with or without one.
+/// The first line of a text; of an empty text it is empty.
 fn first_line(bytes: &[u8]) -> FirstLine<'_>
     ensures text { result.text.now ≡ content_of (first_line bytes.now) }
     ensures ended { result.is_ended ≡ is_ended (first_line bytes.now) }
@@ -88,12 +88,12 @@ fn next_line(bytes: &[u8]) -> Option<FirstLine<'_>>
     }
 }
 
-/// The lines of a source in order, from some line on.
+/// The lines of a source that are left to yield, in order.
 #[derive(Drop)]
 pub struct Lines<'a> {
     /// The bytes of the lines that are left.
     rest: &'a [u8],
-    /// Where they start in the source.
+    /// The offset in the source of the first of them.
     start: usize,
     /// How many lines are before them.
     passed: usize,
@@ -123,7 +123,7 @@ pub fn lines_join_to_the_text()
     ensures { LinesJoinToText }
 {}
 
-/// Each line's bytes are those of the text between its ends.
+/// Each line's bytes are those of the text from its `start` to before its `end`.
 #[tactic(auto, using(crate::proofs::LineLemmas::lines_slices))]
 pub fn lines_are_slices()
     ensures { LinesAreSlices }

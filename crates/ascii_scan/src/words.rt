@@ -1,4 +1,4 @@
-//! A line's statement cut into words and marks, which is all that the readers of instructions and directives look at.
+//! The tokens of a line's statement: words and marks. The readers of instructions and directives look at nothing else.
 ghost use Rattle.std.specs.Prelude.{◌≡◌, ◌∷◌, [], MatchOption};
 ghost use Rattle.std.specs.List.{prefix_len};
 ghost use Rattle.ascii_scan.specs.Tokens.{front, rest, is_blank, is_mark, is_inner, tokens};
@@ -7,7 +7,7 @@ ghost use Rattle.ascii_scan.specs.Seen.{seen};
 /// A word or a mark of a statement.
 #[derive(Clone, Copy)]
 pub enum Token<'a> {
-    /// The longest run of bytes that are neither blanks nor marks.
+    /// A longest run of bytes that are neither blanks nor marks.
     Word(&'a [u8]),
     /// `,`, `[`, `]`, `{` or `}`.
     Mark(u8),
@@ -51,7 +51,7 @@ fn blank_len(bytes: &[u8]) -> usize
     bytes.iter().take_while(|b| is_blank_byte(**b)).count()
 }
 
-/// The bytes from the first that is no blank on.
+/// The bytes without the blanks at their front.
 fn without_blanks(bytes: &[u8]) -> &[u8]
     ensures { result.now ≡ rest is_blank bytes.now }
 {

@@ -1,4 +1,4 @@
--- Shifts and rotations by a register are the manual's.
+-- The circuits of shifts and rotations by a register compute the manual's functions.
 use Rattle.std.proofs.Common.{◌≡◌, ℕ, suc, ◌+◌, ◌-◌, ◌*◌, ◌^◌, ◌/◌, ◌%◌, ◌<◌, ◌≤◌, List, [], ◌∷◌, Bool, true, false, not, ◌||◌, cond, eqb, length, refl, sym, ap, ◌∙◌, arith, take, length-take, ⊎_elim}
 use Rattle.std.proofs.lemmas.Nat.{pow_pos, pow-add}
 use Rattle.std.proofs.lemmas.Bool.{ne_eqb, eq-eqb, cases_eq}
@@ -25,7 +25,7 @@ use Rattle.bit_blast.proofs.Moves.{IsStraight, length-filled, number_of-filled, 
 
 -- ---- one stage
 
--- what a step for a shifted word gives
+-- the properties of a step that gives a shifted word and its carry
 pub record ShiftedGives (n : ℕ) (b : Built) (step : Built → Built × Shifted) (f : (ℕ → Bool) → ℕ × Bool) : Type 0 where
   pub goes : Goes n b step
   pub below : AllBelow (step b).0.variables (step b).1.value
@@ -64,7 +64,7 @@ stage_gives low b a bits out s wb ws k pa pb po ps pc =
 
 -- ---- stage after stage
 
--- a choice between a shift by n and none
+-- a shift by n where a is true, and else none, is a shift by a times n
 choice_of_shift : (kind : Shift) (a : Bool) (x n : ℕ) (c : Bool) → 0 < n → cond a (shifted kind x n, eqb (last_out kind x n) 1) (x, c) ≡ shift_of kind x (from_bool a * n) c
 choice_of_shift kind true x n c h = sym (shift_of-some kind x n c h) ∙ ap (λ k. shift_of kind x k c) (let e : n ≡ 1 * n = omega arith in e)
 choice_of_shift kind false x n c h = ap (λ k. shift_of kind x k c) (let e : 0 ≡ 0 * n = omega arith in e)
@@ -116,7 +116,7 @@ stages_give low b kind j (a ∷ rest) s straight few ws k pa ps pc =
           tg.value m holds ∙ shift_next kind x c (bit_value m a) j (number_of m rest) (number_of m r.1.value) (bit_value m r.1.carry) (number_lt m s.value ws) here;
     }
 
--- ---- all out
+-- ---- all bits moved out
 
 one_all : (p : ℕ) → 0 * p ≡ 0
 one_all p = omega arith
@@ -148,7 +148,7 @@ far_shift m kind xs true false c s wide = far_pair m kind xs 64 c s (omega arith
 far_shift m kind xs false true c s wide = far_pair m kind xs 128 c s (omega arith) wide
 far_shift m kind xs true true c s wide = far_pair m kind xs 192 c s (omega arith) wide
 
--- the low byte of an amount, from its bits
+-- the low byte of an amount: bits 0 to 5, and bits 6 and 7
 low_byte : (y : ℕ) → 2 ^ 0 * (y % 2 ^ 6) + (64 * bit_at y 6 + 128 * bit_at y 7) ≡ y % 256
 low_byte y = omega arith
 

@@ -1,4 +1,4 @@
--- Circuits that go bit by bit: a gate of each pair of bits, a multiplexer of each pair, whether no bit and whether some bit is true.
+-- The meaning of circuits that go bit by bit: bitwise gates, the choice between two words, and whether none or some of the bits is true.
 use Rattle.std.proofs.Common.{◌≡◌, ℕ, suc, ◌+◌, ◌*◌, ◌<◌, List, [], ◌∷◌, Bool, true, false, not, ◌&&◌, ◌||◌, cond, eqb, length, refl, sym, ap, ◌∙◌, arith, bit_and, bit_or, bit_xor}
 use Rattle.std.proofs.lemmas.Nat.{and_block, or_block, xor_block}
 use Rattle.std.proofs.lemmas.Bool.{ne_eqb}
@@ -20,9 +20,9 @@ use Rattle.bit_blast.proofs.Steps.{Goes-none, Goes-gives, Goes-map, Goes-then, B
 use Rattle.common_lemmas.proofs.Booleans.{or_false}
 use Rattle.thumb_model.proofs.Held.{bool_small}
 
--- ---- a gate of each pair of bits
+-- ---- one gate for each pair of bits
 
--- what a kind of gate does to two bits, and to two numbers
+-- the result of a kind of gate on two bits, and on two numbers
 abbrev pub of_bits : Connective → Bool → Bool → Bool
 of_bits And x y = x && y
 of_bits Or x y = x || y
@@ -99,7 +99,7 @@ each_gives low b gate (x ∷ xs) (y ∷ ys) same k px py =
           ∙ of_places gate (bit_value m x) (bit_value m y) (number_of m xs) (number_of m ys);
     }
 
--- ---- a multiplexer of each pair of bits
+-- ---- one choice for each pair of bits
 
 choose_place : (a x y : Bool) (p q : ℕ) → from_bool (cond a y x) + 2 * cond a q p ≡ cond a (from_bool y + 2 * q) (from_bool x + 2 * p)
 choose_place true x y p q = refl

@@ -1,4 +1,4 @@
--- Steps and ends of the loops over the 32 places of a word.
+-- For the code's loops over the 32 bits of a word: the invariant is preserved, and at the end gives the contract.
 use Rattle.std.proofs.Common.{◌≡◌, ℕ, zero, suc, ◌+◌, ◌-◌, ◌*◌, ◌^◌, ◌/◌, ◌%◌, ◌<◌, ◌≤◌, false, List, [], ◌∷◌, ◌++◌, length, take, drop, get_or, set, eqb, refl, sym, ap, ◌∙◌, arith, append_assoc}
 use Rattle.std.proofs.lemmas.List.{take_all, take_more, take_more_set, drop_more, get_or-take, length-take, length-drop, take-replicate, get_or_append_left, get_or-append_right, length-append}
 use Rattle.word_bits.specs.declared.Shift.{Shift}
@@ -28,7 +28,7 @@ constant_step i rest bits r h wide e =
 
 -- ---- words put together
 
--- one bit more of a list
+-- a prefix that grows by one bit
 pub one_more : (i : ℕ) (word whole : List Bit) (x : Bit) → i < 32 → length word ≡ 32 → length whole ≡ 32 → x ≡ get_or whole i x → take i word ≡ take i whole → take (i + 1) (set word i x) ≡ take (i + 1) whole
 one_more i word whole x h wide long e same =
     take_more_set word i x (omega arith) ∙ ap (λ t. t ++ x ∷ []) same ∙ ap (λ y. take i whole ++ y ∷ []) e ∙ sym (take_more whole i x (omega arith))
@@ -41,7 +41,7 @@ pub moved_lsl : (kind : Shift) (n : ℕ) (x rest result : List Bit) → kind ≡
 moved_lsl kind n x rest result e le f g =
     g ∙ ap (λ r. take n r ++ take (32 - n) x) (f ∙ ap (λ k. filled (fill k x)) e) ∙ ap (λ r. r ++ take (32 - n) x) (take-filled n (Constant false) le) ∙ sym (ap (λ k. moved k n x) e)
 
--- all that is left behind a place
+-- taking all the bits that are left from place n on
 rest_taken : (n : ℕ) (x : List Bit) → n ≤ 32 → length x ≡ 32 → take (length x - n) (drop n x) ≡ drop n x
 rest_taken n x le wide = take_all (length x - n) (drop n x) (omega (arith, length-drop n x))
 

@@ -1,4 +1,4 @@
--- The formula's models are exactly the states that tell the sides apart; its variables are few; and a side against itself.
+-- The formula's models are exactly the states that tell the sides apart, it has few variables, and that of a side against itself ends in the empty clause.
 use Rattle.std.proofs.Common.{◌≡◌, ℕ, ◌+◌, ◌-◌, ◌*◌, ◌^◌, ◌<◌, ◌≤◌, ◌↔◌, List, [], ◌∷◌, ◌++◌, Bool, true, false, ◌||◌, cond, eqb, length, take, refl, sym, ap, ◌∙◌, arith, ⊎_elim, subst, map}
 use Rattle.std.proofs.lemmas.Bool.{cond-true, cond-false, eq-eqb, cases_eq}
 use Rattle.std.proofs.lemmas.List.{length-map}
@@ -25,7 +25,7 @@ use Rattle.bit_blast.proofs.Formed.{run_gives}
 use Rattle.bit_blast.proofs.Start.{start_are, start_ready, start_words, values_same, given_by, given_back}
 use Rattle.bit_blast.proofs.TwoSides.{IsStart, start_count, model_tells, teller_is_model, few_from, same_states_tell}
 
--- no hole: the bits of the symbol's value don't matter
+-- the bits of a symbol's value for sides without holes, which ignore them
 abbrev no_symbol : List Bit
 no_symbol = filled (Constant false)
 
@@ -109,7 +109,7 @@ xor_itself b (Constant false) = refl
 xor_itself b (Signed x) =
     cond-true (eqb (variable_of x) (variable_of x)) (b, Constant (differ (is_negative x) (is_negative x))) _ (eq-eqb (variable_of x) (variable_of x) refl) ∙ ap (λ n. (b, Constant n)) (same_sign (is_negative x))
 
--- a step that makes nothing, and finds False alone
+-- a step that builds nothing and gives only bits that are False
 record FindsNothing (b : Built) (r : Built × List Bit) : Type 0 where
   makes_nothing : r.0 ≡ b
   are_false : AreFalse r.1
@@ -145,7 +145,7 @@ flag_itself : (b : Built) (on : Bool) (x : Bit) → FindsNothing b (flag_differe
 flag_itself b false x = record { makes_nothing = refl; are_false = tt }
 flag_itself b true x = record { makes_nothing = ap (λ p. p.0) (xor_itself b x); are_false = (ap (λ p. p.1) (xor_itself b x), tt) }
 
--- one such step behind another
+-- one such step after another
 behind : (a b : Built) (found : List Bit) (r : Built → Built × List Bit) → b ≡ a → AreFalse found → ((d : Built) → FindsNothing d (r d)) → FindsNothing a ((r b).0, found ++ (r b).1)
 behind a b found r e h k = record { makes_nothing = (k b).makes_nothing ∙ e; are_false = AreFalse-append found (r b).1 h (k b).are_false }
 
@@ -172,7 +172,7 @@ empty_clause b xs h =
     cond-false (always_true xs) b (record b { clauses = b.clauses ++ map number_of_literal (distinct (literals xs)) ∷ [] }) never
     ∙ ap (λ l. let c : Built = record b { clauses = b.clauses ++ map number_of_literal (distinct l) ∷ [] } in c) ls
 
--- forming the side a second time finds every gate again, so nothing differs and the last clause is empty
+-- forming the side a second time finds every gate already built, so both ends have the same bits, nothing differs and the last clause is empty
 pub itself_ends_in_empty : (side : List Instr) (mask k : ℕ) → AreOver k side → EndsInEmpty (sides_formula side side mask k)
 itself_ends_in_empty side mask k over =
     let low : ℕ = 32 * k + 4 in

@@ -1,4 +1,4 @@
--- The clauses that a gate adds stand behind those that are there, and are true wherever the gates hold.
+-- The clauses that a gate adds come after those that are there, and are true wherever the gates hold.
 use Rattle.std.proofs.Common.{◌≡◌, ℕ, [], ◌∷◌, Option, Some, None, Bool, true, false, cond, eqb, ltb, sym, ◌∙◌}
 use Rattle.std.proofs.lemmas.Bool.{and_parts, and_from}
 use Rattle.std.specs.Map.{lookup}
@@ -11,7 +11,7 @@ use Rattle.cnf_gates.specs.Gates.{Built, gate_eq, clauses_of, gate_of, found_or,
 use Rattle.cnf_gates.specs.Meaning.{all_true, gate_value, GatesHold}
 use Rattle.cnf_gates.proofs.Values.{all_true-append, all_true-clauses_of, beq_same, GatesHold-append}
 
--- c's clauses are b's, and others that are true where c's gates hold
+-- c's clauses are b's and then others, which are true where c's gates hold
 pub record Extends (b c : Built) : Type 0 where
   pub forth : (m : ℕ → Bool) → GatesHold m c.gates → all_true m b.clauses ≡ true → all_true m c.clauses ≡ true
   pub back : (m : ℕ → Bool) → all_true m c.clauses ≡ true → all_true m b.clauses ≡ true

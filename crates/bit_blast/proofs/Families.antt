@@ -57,7 +57,7 @@ contrary_number m k =
     let e : number_of m (inverted (symbol_bits k)) + value_at m k + 1 ≡ 2 ^ 8 = number_of-inverted m (symbol_bits k) ∙ ap (λ n. 2 ^ n) (length-variables_from (32 * k + 4) 8) in
     omega arith
 
--- nothing lies above eight bits
+-- a number below 256 has no bits above the lowest eight
 nothing_above : (a b : ℕ) → a < 256 → b < 256 → (a / 2 ^ 8 ≤ b / 2 ^ 8) × (let f : Bool = ltb 0 0 in f ≡ ltb (a / 2 ^ 8) (b / 2 ^ 8))
 nothing_above a b h k =
     let x : a / 2 ^ 8 ≡ 0 = omega arith in
@@ -127,7 +127,7 @@ family_models_tell left right s mask k h over_left over_right m t =
 
 -- ---- and tellers are models
 
--- the truth values of a value and a state
+-- the truth values that stand for a value of the symbol and a state
 abbrev both_given : ℕ → Byte → Values → ℕ → Bool
 both_given k x v t = cond (ltb t (32 * k + 4)) (given_by k v t) (eqb (bit_at x.number (t - (32 * k + 4))) 1)
 
@@ -143,7 +143,7 @@ value_back k x v =
     let small : x.number < 256 = x.below in
     number_of-bits (both_given k x v) (32 * k + 4) 8 x.number 0 (λ i p. value_agrees k x v i) ∙ (let e : x.number / 2 ^ 0 % 2 ^ 8 ≡ x.number = omega arith in e)
 
--- truth values that agree with them on the variables of the start give them too
+-- truth values that agree with these on the variables of the start give the same value and state
 module _ (k : ℕ) (x : Byte) (v : Values) (n : ℕ → Bool) (agree : (u : ℕ) → u < 32 * k + 12 → n u ≡ both_given k x v u) where
   value_given : value_at n k ≡ x.number
   value_given = number_same n (both_given k x v) (32 * k + 12) (symbol_bits k) agree (bits_below k (32 * k + 12) (omega arith)) ∙ value_back k x v

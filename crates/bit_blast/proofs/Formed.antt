@@ -1,4 +1,4 @@
--- A slot's circuit gives what its instruction does.
+-- A slot's circuit computes what the model's step of its instruction does.
 use Rattle.std.proofs.Common.{◌≡◌, ℕ, zero, suc, ◌+◌, ◌-◌, ◌*◌, ◌^◌, ◌%◌, ◌<◌, ◌≤◌, List, [], ◌∷◌, Bool, true, false, cond, eqb, ltb, length, refl, sym, ap, ◌∙◌, arith, set, bit_and, subst, ⊎_elim, map}
 use Rattle.std.proofs.lemmas.List.{length-set, get_or-set_same, get_or-set_other}
 use Rattle.std.proofs.lemmas.Bool.{cond-true, cond-false, ne_eqb, eq-eqb, eqb-true, cases_Bool, and_parts, ltb-true, lt-ltb}
@@ -50,7 +50,7 @@ use Rattle.bit_blast.proofs.Outputs.{Numbers, all_outputs, result_numbers, sum_n
 abbrev pub numbers_of : (ℕ → Bool) → ResultBits → Numbers
 numbers_of m o = record { value = number_of m o.value; n = from_bool (bit_value m o.n); z = from_bool (bit_value m o.z); c = from_bool (bit_value m o.c); v = from_bool (bit_value m o.v) }
 
--- bits of what was built, and a whole word
+-- bits whose variables were built already, and a value of 32 bits
 pub record IsOutcome (v : ℕ) (o : ResultBits) : Type 0 where
   pub value : AllBelow v o.value
   pub wide : length o.value ≡ 32
@@ -59,7 +59,7 @@ pub record IsOutcome (v : ℕ) (o : ResultBits) : Type 0 where
   pub c_of : BitBelow v o.c
   pub v_of : BitBelow v o.v
 
--- what a step for an outcome gives
+-- the properties of a step that gives an outcome
 pub record OutcomeGives (n : ℕ) (b : Built) (step : Built → Built × ResultBits) (f : (ℕ → Bool) → Numbers) : Type 0 where
   pub goes : Goes n b step
   pub is : IsOutcome (step b).0.variables (step b).1
@@ -99,7 +99,7 @@ result_gives low b xs c v wide k px pc pv =
           (number_at m xs 31) (ap from_bool (zg.value m holds));
     }
 
--- a word, and then the result that it is
+-- a step that gives a word, and then N and Z of it
 word_result_gives : (low n : ℕ) (b : Built) (step : Built → Built × List Bit) (f : (ℕ → Bool) → ℕ) (c v : Bit) → Ready low b → WordGives n b step 32 f → BitBelow b.variables c → BitBelow b.variables v
     → OutcomeGives (n + 32) b (λ d. result_of (step d).0 (step d).1 c v) (λ m. result_numbers (f m) (from_bool (bit_value m c)) (from_bool (bit_value m v)))
 word_result_gives low n b step f c v k w pc pv =
@@ -156,7 +156,7 @@ alone_gives n b x step f wide px h = record {
 
 -- ---- registers and flags
 
--- words of 32 bits, each of what was built
+-- words of 32 bits, whose variables were built already
 abbrev pub AllWords : ℕ → List (List Bit) → Type 0
 AllWords v [] = Unit {0}
 AllWords v (w ∷ ws) = (length w ≡ 32) × AllBelow v w × AllWords v ws
@@ -211,7 +211,7 @@ unflagged_gives n b step f s are w =
       value = λ m holds. ap (λ x. plain_numbers x (values_at m s)) (w.value m holds);
     }
 
--- a word without a gate
+-- a word that needs no gate
 same_word : (b : Built) (xs : List Bit) (f : (ℕ → Bool) → ℕ) → length xs ≡ 32 → AllBelow b.variables xs → ((m : ℕ → Bool) → number_of m xs ≡ f m) → WordGives 0 b (λ d. (d, xs)) 32 f
 same_word b xs f wide px e = record { goes = Goes-none 0 b xs; below = px; length_is = wide; value = λ m _. e m }
 
@@ -270,7 +270,7 @@ multiplied_gives low b xs ys s wx wy k px py are =
     } in
     within (193 * length ys + 32) 6208 b (λ d. multiplied_of d xs ys s) _ (omega arith) (word_result_gives low (193 * length ys) b (λ d. product_from d 0 xs ys zero_word) _ s.c s.v k w are.c_of are.v_of)
 
--- a word's complement with its flags
+-- a word's complement with its N and Z
 inverted_gives : (low : ℕ) (b : Built) (ys : List Bit) (s : Bits) → length ys ≡ 32 → Ready low b → AllBelow b.variables ys → AreOf b.variables s
     → OutcomeGives 32 b (λ d. result_of d (inverted ys) s.c s.v) (λ m. result_numbers (complement (number_of m ys)) (values_at m s c_flag) (values_at m s v_flag))
 inverted_gives low b ys s wy k py are =
@@ -317,7 +317,7 @@ two_gives low b operation.Bic xs ys s wx wy k px py are =
     (joined_gives low b And xs (inverted ys) s wx (inverted_wide ys wy) k px (AllBelow-inverted b.variables ys py) are))
 two_gives low b operation.Mvn xs ys s wx wy k px py are = within 32 6208 b _ _ (omega arith) (inverted_gives low b ys s wy k py are)
 
--- an operation on a number's bits
+-- an operation with an 8-bit number
 byte_gives : (low : ℕ) (b : Built) (o : ByteOperation) (xs ys : List Bit) (s : Bits) → length xs ≡ 32 → length ys ≡ 32 → Ready low b → AllBelow b.variables xs → AllBelow b.variables ys → AreOf b.variables s
     → OutcomeGives 193 b (λ d. byte_of o d xs ys s) (λ m. byte_left o (number_of m xs) (number_of m ys) (values_at m s))
 byte_gives low b byte.Mov xs ys s wx wy k px py are = within 32 193 b (λ d. byte_of byte.Mov d xs ys s) _ (omega arith) (result_gives low b ys s.c s.v wy k py are.c_of are.v_of)
@@ -443,7 +443,7 @@ module _ (low : ℕ) (b : Built) (s : Bits) (k : Ready low b) (are : AreOf b.var
   slot_outcome_gives w at wide below is (Plain i) h = outcome_gives i h.0 h.1
   slot_outcome_gives w at wide below is (Hole o d) h = within 193 6208 b _ _ (omega arith) (byte_at o d.number w (λ m. (at m).number) h d.below wide below is)
 
--- the target is one of the registers that there are, and a low one
+-- the target is one of the first k registers, and a low one
 target_there : (i : Instr) (k : ℕ) → is_in_window i ≡ true → AreBelow k (named i) → target_of i < k
 target_there (instr.Mov d t) k w h = h.0
 target_there i k w h = grind arith
@@ -464,7 +464,7 @@ slot_outputs_are : (x : Slot) (k : ℕ) (y : Byte) (v : Values) (i : ℕ) → Is
 slot_outputs_are (Plain p) k y v i h = outputs_are p v i h.0 (target_low p h.0)
 slot_outputs_are (Hole o d) k y v i h = outputs_are (instr.TwoNumber o d y) v i refl d.below
 
--- ---- what is written
+-- ---- writing an outcome
 
 number_set : (m : ℕ → Bool) (ws : List (List Bit)) (d x : ℕ) (w : List Bit) → d < length ws → number_of m (word (set ws d w) x) ≡ cond (eqb x d) (number_of m w) (number_of m (word ws x))
 number_set m ws d x w h =
@@ -473,7 +473,7 @@ number_set m ws d x w h =
     (λ (f : eqb x d ≡ false). ap (number_of m) (get_or-set_other ws d x w [] (λ e. let t : eqb x d ≡ true = eq-eqb x d e in absurd cc)) ∙ sym (cond-false (eqb x d) (number_of m w) (number_of m (word ws x)) f))
     (cases_Bool (eqb x d))
 
--- the tests of a target and of the flags, one way and the other
+-- writing an item: testing the flags before the target, and the target before the flags, give the same value
 tests_turn : (td tn tz tc tv : Bool) (N Z C V n z c v y r : ℕ) → (td ≡ true → (tn ≡ false) × (tz ≡ false) × (tc ≡ false) × (tv ≡ false))
     → cond tn N (cond tz Z (cond tc C (cond tv V (cond td y r)))) ≡ cond td y (cond tn N (cond tz Z (cond tc C (cond tv V (cond tn n (cond tz z (cond tc c (cond tv v r))))))))
 tests_turn true tn tz tc tv N Z C V n z c v y r h = let e = h refl in rw (e.0, e.1, e.2, e.3) refl
@@ -501,7 +501,7 @@ written_values m s o d x small h =
     ∙ tests_turn (eqb x d) (eqb x n_flag) (eqb x z_flag) (eqb x c_flag) (eqb x v_flag) _ _ _ _ (from_bool (bit_value m s.n)) (from_bool (bit_value m s.z)) (from_bool (bit_value m s.c)) (from_bool (bit_value m s.v)) (number_of m o.value) (cond (ltb x 15) (number_of m (word s.r x)) 0)
     (λ t. (no_flag x d 15 (omega arith) (omega arith) t, no_flag x d 16 (omega arith) (omega arith) t, no_flag x d 17 (omega arith) (omega arith) t, no_flag x d 18 (omega arith) (omega arith) t))
 
--- what a slot's circuit gives
+-- the properties of the circuit of a slot
 pub record FormedGives (n : ℕ) (b : Built) (s : Bits) (step : Built → Built × Bits) (f : (ℕ → Bool) → Values → Values) : Type 0 where
   pub goes : Goes n b step
   pub are : AreOf (step b).0.variables (step b).1

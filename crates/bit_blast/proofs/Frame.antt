@@ -1,4 +1,4 @@
--- An instruction over the first k registers looks at nothing but those and the flags.
+-- An instruction over the first k registers reads only those and the flags.
 use Rattle.std.proofs.Common.{◌≡◌, ℕ, ◌<◌, inl, inr, List, [], ◌∷◌, true, false, cond, eqb, ap, ◌∙◌, arith}
 use Rattle.thumb_instr.specs.declared.instr.Instr.{Instr}
 use Rattle.thumb_instr.specs.declared.instr.Instr.TheVariants as instr

@@ -1,4 +1,4 @@
--- Sides of slots and the instructions that they are for a value.
+-- Sides of slots, and the instructions that they become for a value of the symbol.
 use Rattle.std.proofs.Common.{◌≡◌, ℕ, List, [], ◌∷◌, Bool, true, false, cond, eqb, map, length, refl, sym, ap, ◌∙◌}
 use Rattle.std.proofs.lemmas.Bool.{eqb-true}
 use Rattle.std.proofs.lemmas.List.{length-map}
@@ -11,12 +11,12 @@ use Rattle.bit_blast.specs.declared.slots.Slot.{Slot}
 use Rattle.bit_blast.specs.declared.slots.Slot.TheVariants.{Plain, Hole}
 use Rattle.bit_blast.specs.Slots.{Byte, filled, slot, slots, instance, IsSlotOver, AreSlotsOver}
 
--- a fact of both ways of a choice
+-- a property of both branches of a conditional holds of the conditional
 pub by_test : {A : Type 0} (P : A → Type 0) (t : Bool) (x y : A) → (t ≡ true → P x) → (t ≡ false → P y) → P (cond t x y)
 by_test P true x y h k = h refl
 by_test P false x y h k = k refl
 
--- ---- where slots stand
+-- ---- which registers slots name
 
 slot_over : (k n : ℕ) (i : Instr) → is_in_window i ≡ true → AreBelow k (named i) → IsSlotOver k (slot n i)
 slot_over k n (instr.TwoNumber o d j) w h = by_test (IsSlotOver k) (eqb j.number n) (Hole o d) (Plain (instr.TwoNumber o d j)) (λ _. h.0) (λ _. (w, h))
@@ -35,7 +35,7 @@ filled_over k x [] h = tt
 filled_over k x (Plain i ∷ xs) h = (h.0.0, h.0.1, filled_over k x xs h.1)
 filled_over k x (Hole o d ∷ xs) h = (refl, (h.0, tt), filled_over k x xs h.1)
 
--- ---- what they are for a value
+-- ---- the instructions for a value
 
 pub filled_plain : (x : Byte) (side : List Instr) → map (filled x) (map Plain side) ≡ side
 filled_plain x [] = refl

@@ -1,4 +1,4 @@
--- Steps and ends of the loops that make inputs and gather differences.
+-- For the code's loops that make inputs and gather differences: the invariant is preserved, and at the end gives the contract.
 use Rattle.std.proofs.Common.{◌≡◌, ℕ, suc, ◌+◌, ◌-◌, ◌*◌, ◌<◌, min, Bool, true, false, cond, List, [], ◌∷◌, ◌++◌, length, take, drop, get_or, set, refl, sym, ap, ◌∙◌, arith, append_assoc, append-nil}
 use Rattle.std.proofs.lemmas.List.{drop_more, get_or-take, length-take}
 use Rattle.cnf_gates.specs.declared.bit.Bit.{Bit}
@@ -23,7 +23,7 @@ pub input_built : (a b c : Built) (i : ℕ) (x : Bit) → b ≡ record a { varia
 input_built a b c i x e f =
     ap (λ p. p.0) f ∙ ap (λ d. (input_of d).0) e ∙ ap (with_variables a) (let g : suc (a.variables + i) ≡ a.variables + (i + 1) = omega arith in g)
 
--- one input more in front of what is False
+-- one more input, in the place of the lowest bit that is still False
 pub low_inputs_step : (a b c : Built) (i : ℕ) (word : List Bit) (x : Bit) → i < 32 → b ≡ record a { variables = a.variables + i } → word ≡ low_inputs a.variables i → (c, x) ≡ input_of b → set word i x ≡ low_inputs a.variables (i + 1)
 unfolding low_inputs
 low_inputs_step a b c i word x h e same f =
@@ -49,7 +49,7 @@ inputs_words b i ws w e same f =
 
 -- ---- differences
 
--- what is left of the first four
+-- the first of those of the first four words that are left
 first_of_four : (i : ℕ) (ws : List (List Bit)) (d x : List Bit) → i < min (length ws) 4 → get_or ws i d ≡ x → drop i (take 4 ws) ≡ x ∷ drop (i + 1) (take 4 ws)
 first_of_four i ws d x h e =
     drop_more (take 4 ws) i d (omega (arith, length-take 4 ws)) ∙ ap (λ y. y ∷ drop (i + 1) (take 4 ws)) (get_or-take 4 ws i d (omega arith) ∙ e)

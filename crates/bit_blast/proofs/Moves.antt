@@ -1,4 +1,4 @@
--- Circuits without gates: moving a word's bits shifts, extends or reverses the number that it holds.
+-- Operations on a word that need no gate: its number is then shifted, extended or reversed as the manual says.
 use Rattle.std.proofs.Common.{◌≡◌, ℕ, ◌+◌, ◌-◌, ◌*◌, ◌^◌, ◌/◌, ◌%◌, ◌<◌, ◌≤◌, List, ◌++◌, Bool, true, false, eqb, leb, length, refl, sym, ap, ◌∙◌, arith, take, drop, length-append, length-take, length-drop, ⊎_elim, if◌then◌else◌}
 use Rattle.std.proofs.Math.Nat.{add-mul-div_right, mod-eq_of_lt}
 use Rattle.std.proofs.lemmas.Nat.{pow_pos, pow-add}
@@ -50,7 +50,7 @@ AllBelow-constant v x = AllBelow-number_bits v 32 x
 
 -- ---- moves
 
--- a shift that drops bits
+-- a shift that isn't a rotation
 abbrev pub IsStraight : Shift → Type 0
 IsStraight Ror = ⊥
 IsStraight k = Unit {0}
@@ -87,7 +87,7 @@ moved-lsl m xs n h =
 moved-lsr : (m : ℕ → Bool) (xs : List Bit) (n : ℕ) → number_of m (moved Lsr n xs) ≡ shifted Lsr (number_of m xs) n
 moved-lsr m xs n = number_of-append m (drop n xs) (copies n (Constant false)) ∙ rw (number_of-zeros m n, number_of-drop m xs n) (omega arith)
 
--- the copies of a sign, as a multiple of a power
+-- the copies of a sign bit, as a multiple of a power of two
 sign_copies : (p r w b : ℕ) → p * (r + 1) ≡ w → b * (w * (r + 1) - w) ≡ p * (b * r) * (r + 1)
 sign_copies p r w b e =
     let d : w * (r + 1) - w ≡ w * r = omega arith in
@@ -182,7 +182,7 @@ low_and_copies m n k xs x h wide =
     ∙ ap (λ v. v + 2 ^ n * number_of m (copies k x)) (number_of-take m xs n)
     ∙ ap (λ v. number_of m xs % 2 ^ n + 2 ^ n * v) (number_of-copies m k x)
 
--- the copies of a sign are what SignExtend adds
+-- the copies of a sign bit are what SignExtend adds
 small_sign : (low half more t : ℕ) → low < half → t ≡ 0 → low + t * more ≡ (if leb half low then low + more else low)
 small_sign low half more t h e = rw (e, lt-leb half low h) (omega arith)
 
@@ -224,7 +224,7 @@ AllBelow-byte v i xs h = AllBelow-take v 8 (drop (8 * i) xs) (AllBelow-drop v (8
 byte_is : (m : ℕ → Bool) (i : ℕ) (xs : List Bit) → number_of m (byte_bits i xs) ≡ byte (number_of m xs) i
 byte_is m i xs = number_of-take m (drop (8 * i) xs) 8 ∙ ap (λ v. v % 2 ^ 8) (number_of-drop m xs (8 * i))
 
--- two bytes and what follows them
+-- the number of two bytes and of what follows them
 two_bytes : (m : ℕ → Bool) (a b c : List Bit) (x y z : ℕ) → length a ≡ 8 → length b ≡ 8 → number_of m a ≡ x → number_of m b ≡ y → number_of m c ≡ z → number_of m ((a ++ b) ++ c) ≡ x + 2 ^ 8 * y + 2 ^ 16 * z
 two_bytes m a b c x y z wa wb ea eb ec =
     let both : length (a ++ b) ≡ 16 = omega (arith, length-append a b) in
@@ -264,7 +264,7 @@ AllBelow-turned v reversal.Rev16 xs h =
 AllBelow-turned v reversal.Revsh xs h =
     AllBelow-append v (byte_bits 1 xs ++ byte_bits 0 xs) (copies 16 (bit_of xs 7)) (AllBelow-append v (byte_bits 1 xs) (byte_bits 0 xs) (AllBelow-byte v 1 xs h) (AllBelow-byte v 0 xs h)) (AllBelow-copies v 16 (bit_of xs 7) (bit_below v xs 7 h))
 
--- the sign of two bytes that were exchanged
+-- REVSH: two bytes that were exchanged, and the copies of their sign bit
 exchanged : (x a b t : ℕ) → a ≡ byte x 0 → b ≡ byte x 1 → t ≡ bit_at x 7 → b + 2 ^ 8 * a + 2 ^ 16 * (t * (2 ^ 16 - 1)) ≡ reversed_signed x
 exchanged x a b t ea eb et =
     let y : ℕ = byte x 0 * 2 ^ 8 + byte x 1 in

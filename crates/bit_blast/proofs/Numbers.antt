@@ -1,4 +1,4 @@
--- The numbers of words: of parts of a word, of words put together, of a bit.
+-- The number that a word stands for: of parts of a word, of words put together, of one bit and of the complement.
 use Rattle.std.proofs.Common.{◌≡◌, ℕ, zero, suc, ◌+◌, ◌-◌, ◌*◌, ◌^◌, ◌/◌, ◌%◌, ◌<◌, List, [], ◌∷◌, ◌++◌, Bool, true, false, not, eqb, length, refl, sym, ap, ◌∙◌, arith, subst, take, drop}
 use Rattle.std.proofs.Math.Nat.{pow-suc, zero-mod, zero-div}
 use Rattle.std.proofs.lemmas.Nat.{pow_pos, shr-shr, mod_below, div-add-mod', mod-mul-add}
@@ -24,7 +24,7 @@ number_of-lt m (x ∷ xs) = let h : from_bool (bit_value m x) < 2 = bool_small (
 pub number_lt : (m : ℕ → Bool) (xs : List Bit) → length xs ≡ 32 → number_of m xs < 2 ^ 32
 number_lt m xs wide = subst (λ n. number_of m xs < 2 ^ n) wide (number_of-lt m xs)
 
--- the low places of a number with one place more
+-- the low bits of a number that gets one more bit below
 pub low_places : (x a p : ℕ) → x < 2 → 0 < p → (x + 2 * a) % (p * 2) ≡ x + 2 * (a % p)
 low_places x a p h k =
     let below : a % p < p = mod_below a p k in
@@ -128,7 +128,7 @@ complement_is m xs wide =
     let e : number_of m (inverted xs) + number_of m xs + 1 ≡ 2 ^ 32 = number_of-inverted m xs ∙ ap (λ n. 2 ^ n) wide in
     omega (arith, e)
 
--- ---- bits of what was built
+-- ---- bits whose variables were built already
 
 pub AllBelow-append : (v : ℕ) (xs ys : List Bit) → AllBelow v xs → AllBelow v ys → AllBelow v (xs ++ ys)
 AllBelow-append v [] ys h k = k

@@ -1,4 +1,4 @@
--- What an instruction's outputs leave, as a target's value and the four flags.
+-- The effect of an instruction in the model, as the new value of its target and the four flags.
 use Rattle.std.proofs.Common.{◌≡◌, ℕ, ◌%◌, ◌<◌, List, [], ◌∷◌, Bool, true, false, cond, eqb, refl, sym, ap, ◌∙◌, arith, ⊎_elim, bit_and, bit_or, bit_xor}
 use Rattle.std.proofs.lemmas.Bool.{cond-true, cond-false, ne_eqb, eqb-true, cases_Bool}
 use Rattle.std.specs.Int.{from_bool, bit_at}
@@ -28,7 +28,7 @@ pub record Numbers : Type 0 where
 abbrev pub all_outputs : ℕ → Numbers → List (ℕ × ℕ)
 all_outputs d o = (d, o.value) ∷ (n_flag, o.n) ∷ (z_flag, o.z) ∷ (c_flag, o.c) ∷ (v_flag, o.v) ∷ []
 
--- ---- what each operation leaves
+-- ---- the effect of each operation
 
 abbrev pub result_numbers : ℕ → ℕ → ℕ → Numbers
 result_numbers x c v = record { value = x; n = bit_at x 31; z = from_bool (eqb x 0); c = c; v = v }
@@ -92,7 +92,7 @@ keep v x k =
     (λ (f : eqb x k ≡ false). sym (cond-false (eqb x k) (v k) (v x) f))
     (cases_Bool (eqb x k))
 
--- the flags from the first on
+-- the value of item x: that of the flag with this number, and r for any other item
 abbrev flags_from : ℕ → ℕ → ℕ → ℕ → ℕ → ℕ → ℕ
 flags_from x n z c v r = cond (eqb x n_flag) n (cond (eqb x z_flag) z (cond (eqb x c_flag) c (cond (eqb x v_flag) v r)))
 
@@ -112,7 +112,7 @@ outputs_of_shift : (d : ℕ) (s : ℕ × Bool) (v : Values) (x : ℕ) → assign
 outputs_of_shift d s v x =
     ap (λ r. cond (eqb x d) s.0 (cond (eqb x n_flag) (bit_at s.0 31) (cond (eqb x z_flag) (from_bool (eqb s.0 0)) (cond (eqb x c_flag) (from_bool s.1) r)))) (keep v x v_flag)
 
--- flags alone leave the target as it was
+-- writing only flags leaves the registers unchanged
 at_register : (d n z c v r : ℕ) → d < 15 → r ≡ flags_from d n z c v r
 at_register d n z c v r h =
     sym (cond-false (eqb d n_flag) n _ (ne_eqb d 15 (λ e. omega arith)) ∙ cond-false (eqb d z_flag) z _ (ne_eqb d 16 (λ e. omega arith))

@@ -1,4 +1,4 @@
--- A product by shifts and sums is the product of the numbers.
+-- The circuit of shifted rows that are added computes the low 32 bits of the product.
 use Rattle.std.proofs.Common.{◌≡◌, ℕ, suc, ◌+◌, ◌-◌, ◌*◌, ◌^◌, ◌/◌, ◌%◌, ◌≤◌, List, [], ◌∷◌, Bool, true, false, length, sym, ap, ◌∙◌, arith, bit_and}
 use Rattle.std.proofs.Math.Nat.{mod-eq_of_lt, add-mul-mod_self_right}
 use Rattle.std.proofs.lemmas.Nat.{div-add-mod', and_mask, pow-add}
@@ -21,7 +21,7 @@ use Rattle.bit_blast.proofs.Each.{each_gives}
 use Rattle.bit_blast.proofs.Sums.{add_gives}
 use Rattle.bit_blast.proofs.Moves.{length-filled, number_of-filled, AllBelow-filled, length-moved, AllBelow-moved, moved_is}
 
--- one row: y times x, moved by j places
+-- one row: y times x, shifted left by j places
 row_value : (x j : ℕ) (y : Bool) → bit_and (shifted Lsl x j) (from_bool y * (2 ^ 32 - 1)) ≡ from_bool y * x * 2 ^ j % 2 ^ 32
 row_value x j true =
     ap (bit_and (shifted Lsl x j)) (let e : 1 * (2 ^ 32 - 1) ≡ 2 ^ 32 - 1 = omega arith in e) ∙ and_mask (shifted Lsl x j) 32
@@ -30,7 +30,7 @@ row_value x j false =
     ap (bit_and (shifted Lsl x j)) (let e : 0 * (2 ^ 32 - 1) ≡ 2 ^ 0 - 1 = omega arith in e) ∙ and_mask (shifted Lsl x j) 0
     ∙ (let e : shifted Lsl x j % 1 ≡ 0 * x * 2 ^ j % 2 ^ 32 = omega arith in e)
 
--- one row more
+-- the sum after one more row
 next_row : (s x y p a t r : ℕ) → r ≡ y * x * p % 2 ^ 32 → t ≡ (s + r + 0) % 2 ^ 32 → (t + x * (p * 2) * a) % 2 ^ 32 ≡ (s + x * p * (y + 2 * a)) % 2 ^ 32
 next_row s x y p a t r e f =
     let q : ℕ = y * x * p / 2 ^ 32 in

@@ -1,4 +1,4 @@
--- The clauses of a range: what they say of the number of bits, from the highest bit on.
+-- The clauses of a range are true exactly where the bits hold a number of the range; the proof goes from the highest bit down.
 use Rattle.std.proofs.Common.{◌≡◌, ℕ, zero, suc, ◌+◌, ◌-◌, ◌*◌, ◌^◌, ◌/◌, ◌%◌, ◌<◌, ◌≤◌, List, [], ◌∷◌, ◌++◌, Bool, true, false, ◌&&◌, ◌||◌, eqb, leb, ltb, refl, sym, ap, ◌∙◌, arith, subst, ⊎_elim}
 use Rattle.std.proofs.lemmas.Nat.{pow_pos, shr-shr, le-div}
 use Rattle.std.proofs.Math.Nat.{div-mul-le_self}
@@ -19,7 +19,7 @@ use Rattle.bit_blast.proofs.Holes.{by_test}
 use Rattle.bit_blast.proofs.Telling.{any-append}
 use Rattle.common_lemmas.proofs.Booleans.{or_false, same_tests}
 
--- ---- what is built stays but for the clauses
+-- ---- only the clauses change
 
 pub or_variables : (b : Built) (bits : List Bit) → (or_clause_of b bits).variables ≡ b.variables
 or_variables b bits = by_test (λ (c : Built). c.variables ≡ b.variables) (always_true bits) b _ (λ _. refl) (λ _. refl)
@@ -41,9 +41,9 @@ range_ready low xs least (suc j) higher b k px ph =
     (λ _. range_ready low xs least j higher (or_clause_of b (x ∷ higher)) (Ready-or_clause_of low b (x ∷ higher) (px_j, ph) k) (subst (λ v. AllBelow v xs) (sym same) px) (subst (λ v. AllBelow v higher) (sym same) ph))
     (λ _. range_ready low xs least j (higher ++ x ∷ []) b k px (AllBelow-append b.variables higher (x ∷ []) ph (px_j, tt)))
 
--- ---- what the clauses say
+-- ---- the meaning of the clauses
 
--- a clause that isn't true stays so
+-- if some clause is false already, some clause is false at the end
 lost : (m : ℕ → Bool) (xs : List Bit) (least j : ℕ) (higher : List Bit) (b : Built) → all_true m b.clauses ≡ false → all_true m (at_least_from xs least j higher b).clauses ≡ false
 lost m xs least zero higher b h = h
 lost m xs least (suc j) higher b h =
@@ -52,9 +52,9 @@ lost m xs least (suc j) higher b h =
     (λ _. lost m xs least j higher (or_clause_of b (x ∷ higher)) (all_true-or_clause_of m b (x ∷ higher) ∙ ap (λ t. t && any_value m (x ∷ higher)) h))
     (λ _. lost m xs least j (higher ++ x ∷ []) b h)
 
--- one place: l and y are the least number and the bits' from there on, and x is the lowest bit
+-- one place: l and y are the least number and the bits' number without the bits below the place, and x is the lowest bit of y
 
--- where the least number has the bit
+-- where the bit is set in the least number
 set_place : (l y : ℕ) (x above : Bool) → l % 2 ≡ 1 → from_bool x ≡ y % 2 → l / 2 ≤ y / 2 → above ≡ ltb (l / 2) (y / 2) → (x || above) ≡ leb l y
 set_place l y true above one bit le e = sym (le-leb l y (let b : 1 ≡ y % 2 = bit in omega arith))
 set_place l y false above one bit le e =
@@ -66,7 +66,7 @@ set_above l y one le =
     same_tests (ltb (l / 2) (y / 2)) (ltb l y) (λ t. let p : l / 2 < y / 2 = ltb-true (l / 2) (y / 2) t in lt-ltb l y (omega arith))
     (λ t. let p : l < y = ltb-true l y t in lt-ltb (l / 2) (y / 2) (omega arith))
 
--- and where it hasn't
+-- and where it is clear
 clear_above : (l y : ℕ) (x above : Bool) → l % 2 ≡ 0 → from_bool x ≡ y % 2 → l / 2 ≤ y / 2 → above ≡ ltb (l / 2) (y / 2) → (above || x) ≡ ltb l y
 clear_above l y true above none bit le e =
     let b : 1 ≡ y % 2 = bit in

@@ -1,4 +1,4 @@
--- Reading a number and flags from a model.
+-- The loop and the shifts that read a number and the flags from a model give the specification's values.
 use Rattle.std.proofs.Common.{◌≡◌, ℕ, zero, suc, ◌+◌, ◌-◌, ◌*◌, ◌^◌, ◌%◌, ◌<◌, ◌≤◌, Bool, List, [], ◌∷◌, ◌++◌, length, refl, sym, ap, ◌∙◌, arith, subst, ⊎_elim}
 use Rattle.std.proofs.Math.Nat.{mod-eq_of_lt}
 use Rattle.std.specs.Int.{from_bool, bit_at}
@@ -16,7 +16,7 @@ use Rattle.bit_blast.proofs.Start.{word-words_from, variable_value}
 use Rattle.bit_blast.proofs.Formed.{register_value}
 use Rattle.thumb_model.proofs.Held.{bool_small}
 
--- one bit more
+-- the number after one more bit
 pub one_bit : (m : ℕ → Bool) (first i n : ℕ) → i < 32 → n ≡ number_of m (variables_from first i) → n + from_bool (m (first + i)) * 2 ^ i % 2 ^ 32 ≡ number_of m (variables_from first (i + 1))
 one_bit m first i n h e =
     let x : ℕ = from_bool (m (first + i)) in
@@ -57,7 +57,7 @@ register_absent m k r h far = sym (ap (number_of m) (no_word (words_from 0 k) r 
 abbrev state_with : (a b c d nzcv : ℕ) → WState
 state_with a b c d nzcv = record { r = a ∷ b ∷ c ∷ d ∷ []; nzcv = nzcv }
 
--- a state's registers and flags are read one by one
+-- registers and flags that were read one by one make the state that the model gives
 pub state_given : (m : ℕ → Bool) (k l a b c d nzcv : ℕ) → l ≡ k → a ≡ start_values m k 0 → b ≡ start_values m k 1 → c ≡ start_values m k 2 → d ≡ start_values m k 3
     → bit_at nzcv 3 ≡ from_bool (m (32 * l)) → bit_at nzcv 2 ≡ from_bool (m (32 * l + 1)) → bit_at nzcv 1 ≡ from_bool (m (32 * l + 2)) → bit_at nzcv 0 ≡ from_bool (m (32 * l + 3))
     → SameOver 4 (values_of (state_with a b c d nzcv)) (start_values m k)

@@ -1,4 +1,4 @@
--- The bits that both sides start from, and the truth values that give them a state.
+-- The bits that both sides start from, and the truth values of their variables for a given state.
 use Rattle.std.proofs.Common.{◌≡◌, ℕ, zero, suc, ◌+◌, ◌-◌, ◌*◌, ◌^◌, ◌/◌, ◌%◌, ◌<◌, ◌≤◌, List, [], ◌∷◌, Bool, true, false, cond, eqb, ltb, length, refl, sym, ap, ◌∙◌, arith, ⊎_elim, subst}
 use Rattle.std.proofs.Math.Nat.{pow-suc}
 use Rattle.std.proofs.lemmas.Nat.{pow_pos, shr-shr}
@@ -153,7 +153,7 @@ given_back k v are = λ x p.
     ap (start_values (given_by k v) k) (sym e) ∙ given_flag k v (x - 15) are (omega arith) ∙ ap v e)
     p
 
--- ---- what truth values give is a state
+-- ---- truth values give a state whose items are words
 
 word_lt : (m : ℕ → Bool) (low : ℕ) (ws : List (List Bit)) (x : ℕ) → AllWords low ws → number_of m (word ws x) < 2 ^ 32
 word_lt m low [] x h = omega arith

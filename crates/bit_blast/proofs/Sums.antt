@@ -1,4 +1,4 @@
--- Sums of bits are sums of numbers.
+-- The adder circuit computes AddWithCarry: its bits are those of the sum of the numbers, with the right C and V.
 use Rattle.std.proofs.Common.{◌≡◌, ℕ, suc, ◌+◌, ◌*◌, ◌^◌, ◌<◌, List, [], ◌∷◌, Bool, true, false, ◌&&◌, ◌||◌, length, refl, sym, ap, subst, ◌∙◌, arith, ◌%◌, pos, ◌+ℤ◌}
 use Rattle.std.proofs.Math.Nat.{pow-suc}
 use Rattle.std.proofs.lemmas.Nat.{pow_pos}
@@ -20,11 +20,11 @@ use Rattle.thumb_model.proofs.Held.{bool_small}
 
 -- ---- one place
 
--- two bits and a carry make a bit and a carry
+-- a full adder: the bit and the next carry have the sum of the two bits and the carry
 place_adds : (x y c : Bool) → from_bool (differ (differ x y) c) + 2 * from_bool ((x && y) || (differ x y && c)) ≡ from_bool x + from_bool y + from_bool c
 place_adds x y c = grind arith
 
--- the same of a place's five bits
+-- the same in terms of the outputs of the five gates of a place
 place_from_bits : (x y c p s g h n : Bool) → p ≡ differ x y → s ≡ differ p c → g ≡ (x && y) → h ≡ (p && c) → n ≡ (g || h) → from_bool s + 2 * from_bool n ≡ from_bool x + from_bool y + from_bool c
 place_from_bits x y c p s g h n ep es eg eh en = rw (en, eg, eh, es, ep) (place_adds x y c)
 
@@ -35,7 +35,7 @@ record PlaceGives (b : Built) (x y c : Bit) : Type 0 where
   adds : (m : ℕ → Bool) → GatesHold m (place_of b x y c).0.gates
       → from_bool (bit_value m (place_of b x y c).1.0) + 2 * from_bool (bit_value m (place_of b x y c).1.1) ≡ from_bool (bit_value m x) + from_bool (bit_value m y) + from_bool (bit_value m c)
 
--- the rest of a place, behind its first gates
+-- the rest of a place, after its first gates
 abbrev behind_h : Bit → Bit → Bit → Built → Built × (Bit × Bit)
 behind_h s g h d = let n = or_of d g h in (n.0, (s, n.1))
 
@@ -196,7 +196,7 @@ sum_meets x y s c before carry hx hy hs e f =
     let overflow : differ before carry ≡ differs s x y (from_bool c) = overflow_from_carries x y s (from_bool c) before carry hx hy hs (bool_small c) e f in
     (parts.0, parts.1, overflow ∙ ap (λ n. differs n x y (from_bool c)) parts.0)
 
--- what a sum of words gives
+-- the properties of the sum of two words
 pub record AddGives (b : Built) (xs ys : List Bit) (c : Bit) : Type 0 where
   pub goes : Goes 161 b (λ d. add_of d xs ys c)
   pub below : AllBelow (add_of b xs ys c).0.variables (add_of b xs ys c).1.value

@@ -1,4 +1,4 @@
--- Of the bits that compare two sides some is true exactly where an item of the mask differs.
+-- The gathered bits of which some is true exactly where an item of the mask differs between two states.
 use Rattle.std.proofs.Common.{◌≡◌, ◌≢◌, ℕ, zero, suc, ◌+◌, ◌*◌, ◌<◌, ◌≤◌, List, [], ◌∷◌, ◌++◌, Bool, true, false, not, ◌&&◌, ◌||◌, cond, eqb, length, take, refl, sym, ap, ◌∙◌, arith, ⊎_elim, length-take}
 use Rattle.std.proofs.lemmas.List.{get_or-take}
 use Rattle.std.proofs.lemmas.Bool.{ne_eqb, eq-eqb, and_parts, and_from, or_cases, or_left, or_right}
@@ -30,7 +30,7 @@ pub any-append : (m : ℕ → Bool) (xs ys : List Bit) → any_value m (xs ++ ys
 any-append m [] ys = refl
 any-append m (x ∷ xs) ys = ap (λ v. bit_value m x || v) (any-append m xs ys) ∙ or_assoc (bit_value m x) (any_value m xs) (any_value m ys)
 
--- what gives bits of which one is true exactly where f says
+-- a step that gives bits of which some is true exactly where f is
 pub record TellsGives (n : ℕ) (b : Built) (step : Built → Built × List Bit) (f : (ℕ → Bool) → Bool) : Type 0 where
   pub goes : Goes n b step
   pub below : AllBelow (step b).0.variables (step b).1
@@ -144,7 +144,7 @@ flag_tells low b found true x y k pf px py =
       value = λ m holds. any-append m found (r.1 ∷ []) ∙ ap (λ v. any_value m found || v) (or_false (bit_value m r.1) ∙ g.value m holds);
     }
 
--- a step, and one that goes on behind what it found
+-- a step, and one that continues with the bits that it found
 tells_then : (total n k : ℕ) (b : Built) (first : Built → Built × List Bit) (second : List Bit → Built → Built × List Bit) (f : (ℕ → Bool) → Bool) (h : Bool → (ℕ → Bool) → Bool) → n + k ≤ total
     → TellsGives n b first f → TellsGives k (first b).0 (second (first b).1) (λ m. h (any_value m (first b).1) m) → TellsGives total b (λ d. second (first d).1 (first d).0) (λ m. h (f m) m)
 tells_then total n k b first second f h le p q = record {
@@ -224,7 +224,7 @@ differences_give low b mask x y k px py =
 
 -- ---- items that differ
 
--- an item of the mask that isn't the same
+-- the item i is in the mask and its two values differ
 abbrev pub DiffersAt : ℕ → Values → Values → ℕ → Type 0
 DiffersAt mask v w x = (has mask x ≡ true) × (v x ≢ w x)
 
@@ -246,7 +246,7 @@ not_equal x y h e = let t : eqb x y ≡ true = eq-eqb x y e in absurd cc
 not_equal_found : (x y : ℕ) → x ≢ y → not (eqb x y) ≡ true
 not_equal_found x y h = ap not (ne_eqb x y h)
 
--- a word that differs
+-- a register of the mask, from number i on, whose words differ
 record WordDiffers (mask : ℕ) (m : ℕ → Bool) (i : ℕ) (xs ys : List (List Bit)) : Type 0 where
   at : ℕ
   inside : at < length xs
@@ -282,7 +282,7 @@ words_found mask m i (x ∷ xs) (y ∷ ys) (suc j) p q on h =
 word_of_four : (ws : List (List Bit)) (j : ℕ) → j < 4 → word (take 4 ws) j ≡ word ws j
 word_of_four ws j h = get_or-take 4 ws j [] h
 
--- an item that differs, of those that are looked at
+-- where some item of the mask differs, there is one
 pub differ_shows : (mask : ℕ) (m : ℕ → Bool) (x y : Bits) → all_differ mask m x y ≡ true → (i : ℕ) × DiffersAt mask (values_at m x) (values_at m y) i
 differ_shows mask m x y h =
     let w = words_differ mask m 0 (take 4 x.r) (take 4 y.r) in
@@ -307,7 +307,7 @@ differ_shows mask m x y h =
     (λ t. let p = and_parts (has mask v_flag) (differ (bit_value m x.v) (bit_value m y.v)) t in (18, (p.0, differ_shown (bit_value m x.v) (bit_value m y.v) p.1)))
     h
 
--- and one that differs is found
+-- and a register of the mask that differs is found
 pub register_found : (mask : ℕ) (m : ℕ → Bool) (x y : Bits) (i : ℕ) → i < 4 → i < length x.r → i < length y.r → DiffersAt mask (values_at m x) (values_at m y) i → all_differ mask m x y ≡ true
 register_found mask m x y i small px py d =
     let w = words_differ mask m 0 (take 4 x.r) (take 4 y.r) in

@@ -1,4 +1,4 @@
--- Two sides of slots formed from one start, and what their difference says.
+-- Two sides of slots formed from one start: the clause that they differ is true exactly for the states that tell them apart.
 use Rattle.std.proofs.Common.{◌≡◌, ◌≢◌, ℕ, ◌+◌, ◌-◌, ◌<◌, ◌≤◌, ◌⊎◌, inl, inr, List, Bool, true, ◌&&◌, nat_le, nat_lt, length, sym, ap, ◌∙◌, arith, ⊎_elim, subst, map}
 use Rattle.std.proofs.lemmas.Bool.{and_parts, and_from, or_cases, ltb-true, leb-true}
 use Rattle.cnf_gates.specs.declared.bit.Bit.{Bit}
@@ -33,7 +33,7 @@ pub record IsStart (low k : ℕ) (b : Built) (w : List Bit) (at : (ℕ → Bool)
   pub below : AllBelow b.variables w
   pub is : (m : ℕ → Bool) → number_of m w ≡ (at m).number
 
--- what is known of the two sides formed
+-- the properties of the two sides once they are formed
 pub record SidesGive (left right : List Slot) (mask k : ℕ) (b : Built) (w : List Bit) (at : (ℕ → Bool) → Byte) : Type 0 where
   pub grows : Grows (bound_of left + bound_of right + 132) b (sides_from b (start_bits k) w left right mask).0
   pub extends : Extends b (sides_from b (start_bits k) w left right mask).0
@@ -47,7 +47,7 @@ pub record SidesGive (left right : List Slot) (mask k : ℕ) (b : Built) (w : Li
 pub start_count : (k : ℕ) → length (start_bits k).r ≡ k
 start_count k = length-words_from 0 k
 
--- where an item of a mask lies
+-- an item of a mask is one of r0 to r3 below k, or a flag
 pub mask_item : (mask k x : ℕ) → IsMask mask → IsMaskOver k mask → has mask x ≡ true → ((x < 4) × (x < k)) ⊎ ((15 ≤ x) × (x < 19))
 mask_item mask k x in_masks over on =
     ⊎_elim
@@ -65,7 +65,7 @@ mask_item mask k x in_masks over on =
 item_scope : (k x : ℕ) → ((x < 4) × (x < k)) ⊎ ((15 ≤ x) × (x < 19)) → ((x < k) × (x < 15)) ⊎ ((15 ≤ x) × (x < 19))
 item_scope k x place = ⊎_elim (λ (p : (x < 4) × (x < k)). inl (p.1, (let small : x < 4 = p.0 in omega arith))) (λ (p : (15 ≤ x) × (x < 19)). inr p) place
 
--- a state that has r0 to r3 and the flags of one that tells sides apart does so too
+-- a state with the same r0 to r3 and flags as one that tells the sides apart tells them apart too
 pub same_states_tell : (left right : List Instr) (mask k : ℕ) → AreOver k left → AreOver k right → IsMask mask → IsMaskOver k mask → k ≤ 4 → (v w : Values) → SameOver 4 v w → Tells w left right mask → Tells v left right mask
 same_states_tell left right mask k over_left over_right in_masks over few v w same t =
     let x : ℕ = t.0 in
@@ -151,7 +151,7 @@ module _ (low k : ℕ) (b : Built) (w : List Bit) (at : (ℕ → Bool) → Byte)
       let count : (or_clause_of d.0 d.1).variables ≡ d.0.variables = or_variables d.0 d.1 in
       omega arith
 
--- the same formula, of what is the same
+-- equal arguments give equal formulas
 pub same_formula : (b c : Built) (s t : Bits) (w x : List Bit) (left left' right right' : List Slot) (mask : ℕ) → b ≡ c → s ≡ t → w ≡ x → left ≡ left' → right ≡ right' → formula_from b s w left right mask ≡ formula_from c t x left' right' mask
 same_formula b c s t w x left left' right right' mask eb es ew el er =
     ap (λ d. formula_from d s w left right mask) eb ∙ ap (λ d. formula_from c d w left right mask) es ∙ ap (λ d. formula_from c t d left right mask) ew

@@ -1,4 +1,4 @@
--- The circuits over words: what they build, gate by gate, in order.
+-- The circuits over words: the gates that they build, in order. This fixes the numbers of variables, so the formula of two sequences is known exactly.
 use Rattle.std.specs.Prelude.{ℕ, ◌+◌, ◌^◌, false, List, [], ◌∷◌, ◌++◌, take}
 use Rattle.word_bits.specs.declared.Shift.{Shift}
 use Rattle.word_bits.specs.declared.Shift.TheVariants.{Lsl, Ror}
@@ -11,13 +11,13 @@ use Rattle.bit_blast.specs.Words.{bit_of, filled, fill, moved, moved_out}
 
 -- ---- bit by bit
 
--- one gate of a kind
+-- one gate of the given kind
 abbrev pub connected : Connective → Built → Bit → Bit → Built × Bit
 connected And b x y = and_of b x y
 connected Or b x y = or_of b x y
 connected Xor b x y = xor_of b x y
 
--- a gate of two words' bits, from the lowest on
+-- one gate for each pair of bits of two words, from the lowest pair up
 abbrev pub each_of : Connective → Built → List Bit → List Bit → Built × List Bit
 each_of gate b [] ys = (b, [])
 each_of gate b (x ∷ xs) [] = (b, [])
@@ -26,7 +26,7 @@ each_of gate b (x ∷ xs) (y ∷ ys) =
     let s = each_of gate r.0 xs ys in
     (s.0, r.1 ∷ s.1)
 
--- each bit i becomes ite(a, ys at i, xs at i)
+-- bit i is ite(a, ys at i, xs at i)
 abbrev pub choose_each : Built → Bit → List Bit → List Bit → Built × List Bit
 choose_each b a [] xs = (b, [])
 choose_each b a (y ∷ ys) [] = (b, [])
@@ -35,7 +35,7 @@ choose_each b a (y ∷ ys) (x ∷ xs) =
     let s = choose_each r.0 a ys xs in
     (s.0, r.1 ∷ s.1)
 
--- a word with bits in front
+-- the word of a result, with bits put in front
 abbrev pub before_word : List Bit → Built × List Bit → Built × List Bit
 before_word front r = (r.0, front ++ r.1)
 
@@ -44,14 +44,14 @@ abbrev pub none_of : Built → List Bit → Bit → Built × Bit
 none_of b [] z = (b, z)
 none_of b (x ∷ xs) z = let r = and_of b z (not_of x) in none_of r.0 xs r.1
 
--- or over bits from the first on, from z on
+-- z or any of the bits, one gate for each bit from the first on
 abbrev pub any_of : Built → List Bit → Bit → Built × Bit
 any_of b [] z = (b, z)
 any_of b (x ∷ xs) z = let r = or_of b z x in any_of r.0 xs r.1
 
 -- ---- sums
 
--- one place of a sum: p = xor(x, y), s = xor(p, c), g = and(x, y), h = and(p, c), and the next carry or(g, h)
+-- a full adder: p = xor(x, y), s = xor(p, c), g = and(x, y), h = and(p, c), and the next carry or(g, h)
 abbrev pub place_of : Built → Bit → Bit → Bit → Built × (Bit × Bit)
 place_of b x y c =
     let p = xor_of b x y in
@@ -67,7 +67,7 @@ pub record Places : Type 0 where
   pub carry : Bit
   pub before : Bit
 
--- the places from the lowest on, where c is the carry and `before` the one before it
+-- the places from the lowest on, where c is the carry into the first of them and `before` the carry before c
 abbrev pub places_of : Built → List Bit → List Bit → Bit → Bit → Built × Places
 places_of b [] ys c before = (b, record { value = []; carry = c; before = before })
 places_of b (x ∷ xs) [] c before = (b, record { value = []; carry = c; before = before })
@@ -76,7 +76,7 @@ places_of b (x ∷ xs) (y ∷ ys) c before =
     let rest = places_of here.0 xs ys here.1.1 c in
     (rest.0, record { value = here.1.0 ∷ rest.1.value; carry = rest.1.carry; before = rest.1.before })
 
--- places with bits in front
+-- the places of a result, with bits put in front
 abbrev pub before_places : List Bit → Built × Places → Built × Places
 before_places front r = (r.0, record r.1 { value = front ++ r.1.value })
 
@@ -108,21 +108,21 @@ pub record Shifted : Type 0 where
   pub value : List Bit
   pub carry : Bit
 
--- where a holds, the word becomes these bits and the carry the bit out
+-- where a is true, the word becomes these bits and the carry becomes `out`
 abbrev pub stage_of : Built → Bit → List Bit → Bit → Shifted → Built × Shifted
 stage_of b a bits out s =
     let r = choose_each b a bits s.value in
     let c = ite_of r.0 a out s.carry in
     (c.0, record { value = r.1; carry = c.1 })
 
--- bit j of the amount moves by 2^j, bit after bit
+-- bit after bit: where bit j of the amount is set, the word moves by 2^j
 abbrev pub stages_from : Shift → Built → ℕ → List Bit → Shifted → Built × Shifted
 stages_from kind b j [] s = (b, s)
 stages_from kind b j (a ∷ rest) s =
     let r = stage_of b a (moved kind (2 ^ j) s.value) (moved_out kind (2 ^ j) s.value) s in
     stages_from kind r.0 (j + 1) rest r.1
 
--- LSL, LSR, ASR by the low byte of a word: bits 0 to 5 move by 1 to 32, and either of bits 6 and 7 moves all out
+-- LSL, LSR, ASR by the low byte of a word: bits 0 to 5 move by 1 to 32 places, and either of bits 6 and 7 moves all bits out
 abbrev pub shift_by : Shift → Built → List Bit → Shifted → Built × Shifted
 shift_by kind b amount s =
     let near = stages_from kind b 0 (take 6 amount) s in
@@ -130,7 +130,7 @@ shift_by kind b amount s =
     let rest = fill kind near.1.value in
     stage_of far.0 far.1 (filled rest) rest near.1
 
--- bit j of the amount rotates by 2^j, bit after bit
+-- bit after bit: where bit j of the amount is set, the word rotates by 2^j
 abbrev pub rotations_from : Built → ℕ → List Bit → List Bit → Built × List Bit
 rotations_from b j [] xs = (b, xs)
 rotations_from b j (a ∷ rest) xs =

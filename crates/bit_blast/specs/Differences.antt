@@ -15,7 +15,7 @@ use Rattle.bit_blast.specs.Words.{bit_of, copies, filled, inverted}
 use Rattle.bit_blast.specs.Circuits.{each_of}
 use Rattle.bit_blast.specs.Forming.{Bits, formed_all}
 
--- ---- the start: variables count from 0 here, and from 1 in clauses; 2 * v is the literal of the variable v
+-- ---- the start: variables are numbered from 0 here, and from 1 in clauses; 2 * v is the positive literal of the variable v
 
 -- n variables from v on
 abbrev pub variables_from : ℕ → ℕ → List Bit
@@ -44,9 +44,9 @@ start_bits k = record {
 abbrev pub start_built : ℕ → Built
 start_built k = record { variables = 32 * k + 4; clauses = []; gates = [] }
 
--- ---- what differs
+-- ---- differences: bits of which some is true where the states x and y differ in the mask
 
--- bits that are true where registers of the mask differ, from number i on
+-- those of the registers of the mask, from number i on
 abbrev pub register_differences : Built → ℕ → ℕ → List (List Bit) → List (List Bit) → Built × List Bit
 register_differences b mask i [] ys = (b, [])
 register_differences b mask i (x ∷ xs) [] = (b, [])
@@ -57,7 +57,7 @@ register_differences b mask i (x ∷ xs) (y ∷ ys) =
     (s.0, r.1 ++ s.1))
     else register_differences b mask (i + 1) xs ys
 
--- a bit that is true where a flag differs, if it is in the mask
+-- that of a flag, where it is in the mask
 abbrev pub flag_difference : Built → Bool → Bit → Bit → Built × List Bit
 flag_difference b false x y = (b, [])
 flag_difference b true x y = let r = xor_of b x y in (r.0, r.1 ∷ [])
@@ -74,14 +74,14 @@ differences b mask x y =
 
 -- ---- the formula of two sides of slots
 
--- both sides start from the same bits s, and w are those of the symbol's value: the left one is formed first, then the right one, then what differs
+-- both sides start from the same bits s, and w are those of the symbol's value: the left one is formed first, then the right one, then the differences
 abbrev pub sides_from : Built → Bits → List Bit → List Slot → List Slot → ℕ → Built × List Bit
 sides_from b s w left right mask =
     let l = formed_all w b left s in
     let r = formed_all w l.0 right s in
     differences r.0 mask l.1 r.1
 
--- the clause that something differs comes last
+-- the clause that some item differs comes last
 abbrev pub formula_from : Built → Bits → List Bit → List Slot → List Slot → ℕ → Cnf
 formula_from b s w left right mask = let d = sides_from b s w left right mask in formula_of (or_clause_of d.0 d.1)
 
@@ -95,15 +95,15 @@ sides_formula left right mask k = formula_from (start_built k) (start_bits k) (f
 unfoldable pub low_inputs : ℕ → ℕ → List Bit
 low_inputs v n = variables_from v n ++ copies (32 - n) (Constant false)
 
--- bits 0 to 7 of the symbol's value are the eight variables behind those of the start
+-- bits 0 to 7 of the symbol's value are the eight variables after those of the start
 abbrev pub symbol_bits : ℕ → List Bit
 symbol_bits k = variables_from (32 * k + 4) 8
 
 abbrev pub symbol_built : ℕ → Built
 symbol_built k = record { variables = 32 * k + 12; clauses = []; gates = [] }
 
--- the clauses that eight bits hold a number of `least` or more, from bit j - 1 down: where `least` has the bit, it is set, or one of the higher
--- ones that `least` hasn't
+-- the clauses that the number in eight bits is `least` or more, from bit j - 1 down: for each bit that is set in `least`, it is set in the number, or one of
+-- the higher bits that are clear in `least` (`higher`) is
 abbrev pub at_least_from : List Bit → ℕ → ℕ → List Bit → Built → Built
 at_least_from xs least zero higher b = b
 at_least_from xs least (suc j) higher b =
@@ -113,7 +113,7 @@ at_least_from xs least (suc j) higher b =
 unfoldable pub at_least : List Bit → ℕ → Built → Built
 at_least xs least b = at_least_from xs least 8 [] b
 
--- the value is at least `low`, and at most `high`: the complemented bits hold at least 255 - `high`
+-- the value is at least s.low; and it is at most s.high: the complement of the bits is at least 255 - s.high
 abbrev pub range_built : ℕ → Symbol → Built
 range_built k s = at_least (inverted (symbol_bits k)) (255 - s.high) (at_least (symbol_bits k) s.low (symbol_built k))
 

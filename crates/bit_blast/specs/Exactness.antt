@@ -1,4 +1,4 @@
--- The states that assignments stand for, and the claim that a formula's models are exactly the states that tell two sides apart.
+-- The state that an assignment gives, and the statement that the models of the formula are exactly the states that tell the sides apart.
 use Rattle.std.specs.Prelude.{ℕ, ◌+◌, ◌*◌, ◌==◌, nat_lt, Bool, List, [], ◌∷◌, if◌then◌else◌, ◌≡◌, ◌<◌, ◌≤◌, true, ◌++◌, ◌⊎◌, ℤ}
 use Rattle.std.specs.Int.{from_bool}
 use Rattle.cnf_gates.specs.declared.bit.Bit.{Bit}
@@ -13,14 +13,14 @@ use Rattle.cnf_gates.specs.Cnf.{Cnf}
 use Rattle.bit_blast.specs.declared.slots.Symbol.{Symbol}
 use Rattle.bit_blast.specs.Slots.{Byte, IsValue, instance}
 
--- What words and bits of registers and flags are under truth values for the variables.
+-- ---- the values of words, registers and flags, where m gives the truth values of the variables
 
 -- the number of a word's bits, the lowest first
 abbrev pub number_of : (ℕ → Bool) → List Bit → ℕ
 number_of m [] = 0
 number_of m (x ∷ xs) = from_bool (bit_value m x) + 2 * number_of m xs
 
--- what each item holds
+-- the value of each item: a register's number, or 0 or 1 for a flag
 abbrev pub values_at : (ℕ → Bool) → Bits → Values
 values_at m s = λ x.
     if x == n_flag then from_bool (bit_value m s.n)
@@ -34,7 +34,7 @@ values_at m s = λ x.
 abbrev pub start_values : (ℕ → Bool) → ℕ → Values
 start_values m k = values_at m (start_bits k)
 
--- What a formula's models say of the two sides.
+-- ---- what the models of a formula say about the two sides
 
 -- a mask's items are r0 to r3 and the flags
 abbrev pub IsMask : ℕ → Type 0
@@ -69,7 +69,7 @@ HasNoModel f = (m : ℕ → Bool) → all_true m f.clauses ≡ true → ⊥
 abbrev pub EndsInEmpty : Cnf → Type 0
 EndsInEmpty f = (cs : List (List ℤ)) × (f.clauses ≡ cs ++ [] ∷ [])
 
--- ---- of sides with holes
+-- ---- the same for sides with holes
 
 -- the symbol's value
 abbrev pub value_at : (ℕ → Bool) → ℕ → ℕ

@@ -1,4 +1,4 @@
--- The circuit of each instruction that may stand in a window.
+-- The circuit of each instruction that may stand in a window: the gates that it adds, and the bits of the registers and flags after it.
 use Rattle.std.specs.Prelude.{ℕ, true, false, List, [], ◌∷◌, slice_index_or, slice_set}
 use Rattle.word_bits.specs.declared.Shift.{Shift}
 use Rattle.word_bits.specs.declared.Shift.TheVariants as shift
@@ -30,7 +30,7 @@ pub record Bits : Type 0 where
   pub c : Bit
   pub v : Bit
 
--- what an instruction leaves: the bits of its target and the flags
+-- the outcome of an instruction: the bits of its target and the flags after it
 pub record ResultBits : Type 0 where
   pub value : List Bit
   pub n : Bit
@@ -42,21 +42,21 @@ pub record ResultBits : Type 0 where
 abbrev pub word : List (List Bit) → ℕ → List Bit
 word rs i = slice_index_or rs i []
 
--- ---- what is common
+-- ---- parts that several instructions share
 
--- a result with its N and Z, and these C and V: N is its highest bit, and Z is formed after it
+-- a result with N and Z computed from the value, and the given C and V: N is the highest bit, and the gates of Z come after those of the value
 abbrev pub result_of : Built → List Bit → Bit → Bit → Built × ResultBits
 result_of b value c v =
     let z = none_of b value (Constant true) in
     (z.0, record { value = value; n = bit_of value 31; z = z.1; c = c; v = v })
 
--- a sum with all its flags
+-- a sum that sets all four flags
 abbrev pub summed : Built → List Bit → List Bit → Bit → Built × ResultBits
 summed b x y c =
     let s = add_of b x y c in
     result_of s.0 s.1.value s.1.carry s.1.overflow
 
--- a gate of the bits of two words, a shift and a rotation by a register, and a product, each with its flags
+-- a bitwise operation, a shift and a rotation by a register, and a product, each with the flags that it sets
 abbrev pub joined_of : Connective → Built → List Bit → List Bit → Bits → Built × ResultBits
 joined_of gate b x y s = let r = each_of gate b x y in result_of r.0 r.1 s.c s.v
 
@@ -69,11 +69,11 @@ rotated_of b x y s = let r = rotate_by b y (record { value = x; carry = s.c }) i
 abbrev pub multiplied_of : Built → List Bit → List Bit → Bits → Built × ResultBits
 multiplied_of b x y s = let r = product_from b 0 x y (filled (Constant false)) in result_of r.0 r.1 s.c s.v
 
--- a word with the flags as they are
+-- a result that leaves the flags unchanged
 abbrev pub unflagged : List Bit → Bits → ResultBits
 unflagged value s = record { value = value; n = s.n; z = s.z; c = s.c; v = s.v }
 
--- the flags alone: the target keeps its bits x
+-- an outcome of which only the flags are written: the target keeps its bits x
 abbrev pub flags_alone : List Bit → Built × ResultBits → Built × ResultBits
 flags_alone x r = (r.0, record r.1 { value = x })
 
@@ -83,7 +83,7 @@ abbrev pub three_of : SumOperation → Built → List Bit → List Bit → Built
 three_of sum.Add b x y = summed b x y (Constant false)
 three_of sum.Sub b x y = summed b x (inverted y) (Constant true)
 
--- on the bits x of the target and y of the other register
+-- x holds the bits of the target and y those of the other register
 abbrev pub two_of : Operation → Built → List Bit → List Bit → Bits → Built × ResultBits
 two_of operation.And b x y s = joined_of And b x y s
 two_of operation.Eor b x y s = joined_of Xor b x y s
@@ -102,7 +102,7 @@ two_of operation.Mul b x y s = multiplied_of b x y s
 two_of operation.Bic b x y s = joined_of And b x (inverted y) s
 two_of operation.Mvn b x y s = result_of b (inverted y) s.c s.v
 
--- on the bits x of the target and those of a number
+-- x holds the bits of the target and n those of the 8-bit number
 abbrev pub byte_of : ByteOperation → Built → List Bit → List Bit → Bits → Built × ResultBits
 byte_of byte.Mov b x n s = result_of b n s.c s.v
 byte_of byte.Cmp b x n s = flags_alone x (three_of sum.Sub b x n)

@@ -1,4 +1,4 @@
--- Sides with holes: the instructions in which one 8-bit number stands for a symbol, and what they are for each of its values.
+-- The sides of a family: instructions in which one 8-bit number stands for a symbol, and the instructions that they become for each value of the symbol.
 use Rattle.std.specs.Prelude.{◌≡◌, ℕ, ◌<◌, ◌≤◌, ◌==◌, true, List, [], ◌∷◌, map, if◌then◌else◌}
 use Rattle.thumb_instr.specs.declared.instr.Instr.{Instr}
 use Rattle.thumb_instr.specs.declared.instr.Instr.TheVariants as instr
@@ -17,7 +17,7 @@ Byte = Within 0 256
 abbrev pub IsValue : Symbol → Byte → Type 0
 IsValue s x = (s.low ≤ x.number) × (x.number ≤ s.high)
 
--- the slot's instruction where the symbol's value is x
+-- the instruction that a slot becomes where the symbol's value is x
 abbrev pub filled : Byte → Slot → Instr
 filled x (Plain i) = i
 filled x (Hole o d) = instr.TwoNumber o d x
@@ -30,13 +30,13 @@ slot n i = Plain i
 abbrev pub slots : ℕ → List Instr → List Slot
 slots n side = map (slot n) side
 
--- a side with x in its holes for the number n
+-- a side in which x replaces the number n in each hole
 abbrev pub instance : ℕ → List Instr → Byte → List Instr
 instance n side x = map (filled x) (slots n side)
 
 -- ---- by slot
 
--- the register that an instruction of windows writes, or keeps: the first that its text names
+-- the target register of an instruction of windows, which a compare leaves unchanged: the first that its text names
 abbrev pub target_of : Instr → ℕ
 target_of i = (parts_of i).first
 
@@ -44,7 +44,7 @@ abbrev pub slot_target : Slot → ℕ
 slot_target (Plain i) = target_of i
 slot_target (Hole o d) = d.number
 
--- each slot's instruction may stand in a window, and names registers below k alone
+-- the slot's instruction may stand in a window, and names no register from k on
 abbrev pub IsSlotOver : ℕ → Slot → Type 0
 IsSlotOver k (Plain i) = (is_in_window i ≡ true) × AreBelow k (named i)
 IsSlotOver k (Hole o d) = d.number < k

@@ -1,4 +1,4 @@
--- Words as lists of bits, the lowest first, and what needs no gate: constants, complements, and moving bits to other places.
+-- Words as lists of bits, the lowest first, and the operations on them that need no gate.
 use Rattle.std.specs.Prelude.{ℕ, zero, suc, ◌-◌, ◌*◌, ◌/◌, ◌%◌, ◌==◌, false, List, [], ◌∷◌, ◌++◌, map, take, drop, replicate, slice_index_or}
 use Rattle.word_bits.specs.declared.Shift.{Shift}
 use Rattle.word_bits.specs.declared.Shift.TheVariants.{Lsl, Lsr, Asr, Ror}
@@ -14,7 +14,7 @@ use Rattle.cnf_gates.specs.Gates.{not_of}
 abbrev pub bit_of : List Bit → ℕ → Bit
 bit_of xs i = slice_index_or xs i (Constant false)
 
--- the same bit at n places
+-- n copies of a bit
 abbrev pub copies : ℕ → Bit → List Bit
 copies n x = replicate n x
 
@@ -35,14 +35,14 @@ constant x = number_bits 32 x
 abbrev pub inverted : List Bit → List Bit
 inverted xs = map not_of xs
 
--- what a shift to the right fills with: False, or the highest bit
+-- the bit that a shift fills with: the highest bit for ASR, and otherwise False
 abbrev pub fill : Shift → List Bit → Bit
 fill Lsl xs = Constant false
 fill Lsr xs = Constant false
 fill Asr xs = bit_of xs 31
 fill Ror xs = Constant false
 
--- a word's bits moved by n places, at most 32
+-- a word shifted or rotated by n places, at most 32
 abbrev pub moved : Shift → ℕ → List Bit → List Bit
 moved Lsl n xs = copies n (Constant false) ++ take (32 - n) xs
 moved Lsr n xs = drop n xs ++ copies n (Constant false)

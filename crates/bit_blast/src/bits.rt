@@ -1,4 +1,4 @@
-//! The state of a window as gates see it: what an instruction is formed from, and what a whole sequence leaves.
+//! The symbolic state of a window, where each bit is a constant or a literal, and how an instruction or a sequence changes it by building gates.
 ghost use Rattle.std.specs.Prelude.{◌≡◌, ◌<◌, ◌≤◌, ◌+◌, IfOk, length, true};
 ghost use Rattle.thumb_instr.specs.Window.{is_in_window, named, AreBelow};
 ghost use Rattle.bit_blast.specs.Slots.{IsSlotOver, AreSlotsOver};
@@ -34,7 +34,7 @@ impl Model for Bits {
     ghost view = { λ s. record { r = s.registers.items; n = s.n; z = s.z; c = s.c; v = s.v } };
 }
 
-/// A word of `n` inputs, and False above them.
+/// A word whose low `n` bits are new input variables, and whose others are False.
 pub fn low_inputs(builder: &mut Builder, n: usize) -> Result<BitVector, GateError>
     requires { n ≤ 32 }
     ensures { IfOk result (λ w. (builder.new ≡ record builder.old { variables = builder.old.variables + n }) × (w ≡ low_inputs builder.old.variables n)) }
@@ -46,7 +46,7 @@ pub fn low_inputs(builder: &mut Builder, n: usize) -> Result<BitVector, GateErro
     Ok(word)
 }
 
-/// A word of inputs.
+/// A word of 32 new input variables.
 fn input_bits(builder: &mut Builder) -> Result<BitVector, GateError>
     ensures { IfOk result (λ w. (builder.new ≡ record builder.old { variables = builder.old.variables + 32 }) × (w ≡ input_word builder.old.variables)) }
 {
@@ -54,7 +54,7 @@ fn input_bits(builder: &mut Builder) -> Result<BitVector, GateError>
 }
 
 impl Bits {
-    /// The inputs: 32 bits of each of `k` registers, then N, Z, C and V.
+    /// The state before both sides, as new input variables: 32 bits of each of `k` registers, then N, Z, C and V.
     pub fn inputs(alloc: Global, builder: &mut Builder, k: u8) -> Result<Bits, GateError>
         requires { builder.old ≡ nothing_built }
         ensures built { IfOk result (λ _. builder.new ≡ start_built k) }
@@ -98,7 +98,7 @@ impl Bits {
         &self.registers[register as usize]
     }
 
-    /// What an instruction leaves.
+    /// Builds the gates of an instruction: the bits of its result and the flags after it.
     fn outcome(&self, builder: &mut Builder, instr: &Instr) -> Result<ResultBits, GateError>
         requires window { is_in_window instr.now ≡ true }
         requires registers { AreBelow (length self.now.r) (named instr.now) }
@@ -195,7 +195,7 @@ impl Bits {
         }
     }
 
-    /// Writes what an instruction leaves.
+    /// Writes the outcome of an instruction to its target register and the flags.
     fn write(&mut self, target: u32, outcome: ResultBits)
         requires { target < length self.old.r }
         ensures count { length self.new.r ≡ length self.old.r }
@@ -209,7 +209,7 @@ impl Bits {
         self.v = v;
     }
 
-    /// What a slot leaves, where the symbol's value has these bits.
+    /// The outcome of a slot, where `symbol` holds the bits of the symbol's value.
     fn slot_outcome(
         &self,
         builder: &mut Builder,
@@ -231,7 +231,7 @@ impl Bits {
         }
     }
 
-    /// The registers and flags after a slot.
+    /// Updates the registers and flags by one slot.
     fn form(
         &mut self,
         builder: &mut Builder,
@@ -247,7 +247,7 @@ impl Bits {
         Ok(())
     }
 
-    /// The registers and flags after a side.
+    /// Updates the registers and flags by all slots of a side, in order.
     pub fn form_all(
         &mut self,
         builder: &mut Builder,

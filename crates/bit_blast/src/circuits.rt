@@ -1,5 +1,5 @@
-//! The circuits that instructions share, word by word: choosing, comparing with zero and adding. Each says its meaning in truth values, so that no proof
-//! above speaks of single gates.
+//! The circuits that instructions share, over words: bitwise gates, choice, zero test, sum and product. Each has its meaning proved once (Each, Sums and
+//! Products in `proofs`), so that no proof about instructions speaks of single gates.
 ghost use Rattle.std.specs.Prelude.{◌≡◌, IfOk, true, false};
 ghost use Rattle.cnf_gates.specs.declared.bit.Bit.TheVariants.{Constant};
 ghost use Rattle.bit_blast.specs.Words.{filled};
@@ -10,7 +10,7 @@ use cnf_gates::{Bit, Builder, GateError};
 use std::marker::Model;
 use word_bits::Shift;
 
-/// A gate that is made bit by bit.
+/// A gate that is applied to two words bit by bit.
 #[derive(Clone, Copy, Debug, PartialEq, Eq)]
 pub enum Connective {
     And,
@@ -18,7 +18,7 @@ pub enum Connective {
     Xor,
 }
 
-/// A gate of a kind.
+/// One gate of the given kind.
 fn connected(builder: &mut Builder, gate: Connective, x: &Bit, y: &Bit) -> Result<Bit, GateError>
     ensures { IfOk result (λ r. (builder.new, r) ≡ connected gate builder.old x.now y.now) }
 {
@@ -29,7 +29,7 @@ fn connected(builder: &mut Builder, gate: Connective, x: &Bit, y: &Bit) -> Resul
     }
 }
 
-/// A gate of two words' bits, from the lowest on.
+/// One gate for each pair of bits of two words, from the lowest pair up.
 pub fn each(
     builder: &mut Builder,
     gate: Connective,
@@ -45,7 +45,7 @@ pub fn each(
     Ok(value)
 }
 
-/// A multiplexer: the bits of `y` where `a` holds, and else those of `x`.
+/// The bits of `y` where `a` is true, and otherwise those of `x`.
 pub fn choose(
     builder: &mut Builder,
     a: &Bit,
@@ -115,7 +115,7 @@ impl Model for Total {
     ghost view = { λ t. record { value = t.value; carry = t.carry; overflow = t.overflow } };
 }
 
-/// A full adder: one bit of a sum, and the next carry.
+/// One full adder: the bit of the sum and the next carry.
 fn place(builder: &mut Builder, x: &Bit, y: &Bit, c: &Bit) -> Result<(Bit, Bit), GateError>
     ensures { IfOk result (λ r. (builder.new, r) ≡ place_of builder.old x.now y.now c.now) }
 {
@@ -127,7 +127,7 @@ fn place(builder: &mut Builder, x: &Bit, y: &Bit, c: &Bit) -> Result<(Bit, Bit),
     Ok((s, n))
 }
 
-/// The places of a sum of two words and a carry.
+/// A ripple-carry adder of two words and a carry.
 fn place_by_place(
     builder: &mut Builder,
     x: &BitVector,

@@ -1,5 +1,5 @@
-//! What one instruction does, as gates: a row for each kind, over the same parts and sums as the model, so that a formed state means what the model's
-//! step gives.
+//! What one instruction does, as gates: one case for each kind, divided as in the model of instructions, so that the proof that the bits have the values of
+//! the model's step goes case by case.
 ghost use Rattle.std.specs.Prelude.{◌≡◌, ◌<◌, ◌≤◌, IfOk};
 ghost use Rattle.thumb_model.specs.Effect.{right_shift};
 ghost use Rattle.bit_blast.specs.Forming.{result_of, summed, unflagged, joined_of, shifted_of, rotated_of, multiplied_of, three_of, two_of, byte_of, number_shift};
@@ -13,7 +13,7 @@ use std::marker::Model;
 use thumb_instr::{ByteOperation, Operation, Right, SumOperation};
 use word_bits::Shift;
 
-/// What an instruction leaves: the bits of its target and the flags.
+/// The outcome of an instruction: the bits of its target and the flags after it.
 #[derive(Drop)]
 pub struct ResultBits {
     pub value: BitVector,
@@ -31,7 +31,7 @@ impl Model for ResultBits {
     ghost view = { λ o. record { value = o.value; n = o.n; z = o.z; c = o.c; v = o.v } };
 }
 
-/// A result with its N and Z, and these C and V.
+/// A result with N and Z computed from `value`, and the given C and V.
 pub fn result(
     builder: &mut Builder,
     value: BitVector,
@@ -51,7 +51,7 @@ pub fn result(
     })
 }
 
-/// A sum with all its flags.
+/// A sum that sets all four flags.
 fn summed(
     builder: &mut Builder,
     x: &BitVector,
@@ -68,7 +68,7 @@ fn summed(
     result(builder, value, &carry, &overflow)
 }
 
-/// A word with the flags as they are.
+/// A result that leaves the flags unchanged.
 pub fn unflagged(value: BitVector, before: &Bits) -> ResultBits
     ensures { result ≡ unflagged value before.now }
 {
@@ -81,7 +81,7 @@ pub fn unflagged(value: BitVector, before: &Bits) -> ResultBits
     }
 }
 
-/// The flags alone: the target keeps its bits.
+/// An outcome of which only the flags are written: the target keeps its bits.
 fn flags_alone(target: &BitVector, outcome: ResultBits) -> ResultBits
     ensures { result ≡ record outcome { value = target.now } }
 {
@@ -90,7 +90,7 @@ fn flags_alone(target: &BitVector, outcome: ResultBits) -> ResultBits
     ResultBits { value, n, z, c, v }
 }
 
-/// A sum or a difference.
+/// A sum or a difference of two words, as `sum` says, with all four flags.
 pub fn three(
     builder: &mut Builder,
     sum: SumOperation,
@@ -105,7 +105,7 @@ pub fn three(
     }
 }
 
-/// A shift right as a kind of shift.
+/// A right shift as a kind of shift.
 pub fn right(shift: Right) -> Shift
     ensures { result ≡ right_shift shift }
 {
@@ -132,7 +132,7 @@ pub fn number_shift(
     result(builder, value, &carry, &before.v)
 }
 
-/// A gate of the bits of two words, with its N and Z.
+/// A bitwise operation on two words, which sets N and Z.
 fn joined(
     builder: &mut Builder,
     gate: Connective,
@@ -146,7 +146,7 @@ fn joined(
     result(builder, value, &before.c, &before.v)
 }
 
-/// A word and C, to be shifted.
+/// The word and C as they are before a shift.
 fn unshifted(x: &BitVector, before: &Bits) -> Shifted
     ensures { result ≡ record { value = x.now; carry = before.now.c } }
 {
@@ -157,7 +157,7 @@ fn unshifted(x: &BitVector, before: &Bits) -> Shifted
     }
 }
 
-/// A shift by a register.
+/// A shift by the low byte of a register, which sets N, Z and C.
 fn shifted(
     builder: &mut Builder,
     kind: Shift,
@@ -171,7 +171,7 @@ fn shifted(
     result(builder, value, &carry, &before.v)
 }
 
-/// A rotation by a register.
+/// A rotation by the low byte of a register, which sets N, Z and C.
 fn rotated(
     builder: &mut Builder,
     x: &BitVector,
@@ -184,7 +184,7 @@ fn rotated(
     result(builder, value, &carry, &before.v)
 }
 
-/// A product.
+/// A product, which sets N and Z.
 fn multiplied(
     builder: &mut Builder,
     x: &BitVector,
@@ -197,7 +197,7 @@ fn multiplied(
     result(builder, value, &before.c, &before.v)
 }
 
-/// An operation on the bits `x` of its target and `y` of the other register.
+/// A two-register operation, where `x` holds the bits of its target and `y` those of the other register.
 pub fn two(
     builder: &mut Builder,
     operation: Operation,
@@ -230,7 +230,7 @@ pub fn two(
     }
 }
 
-/// An operation on the bits `x` of its target and those of a number.
+/// An operation with an 8-bit number, where `x` holds the bits of its target.
 pub fn byte(
     builder: &mut Builder,
     operation: ByteOperation,

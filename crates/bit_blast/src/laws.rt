@@ -26,13 +26,13 @@ pub fn states_of_models_tell()
     ensures { (left right : List Instr) (mask k : ℕ) → AreOver k left → AreOver k right → IsMask mask → IsMaskOver k mask → k ≤ 4 → (m : ℕ → Bool) → all_true m (sides_formula left right mask k).clauses ≡ true → (v : Values) → SameOver 4 v (start_values m k) → Tells v left right mask }
 {}
 
-/// A side with its own number in its holes is the side itself.
+/// A side whose holes get the number that they stand for is the side itself.
 pub fn sides_are_their_own_instances()
     ensures { (n : Byte) (side : List Instr) → instance n.number side n ≡ side }
 {}
 
-/// Whatever value is in its holes, a side has as many instructions, which name the same registers, and each may stand in a window where it may
-/// itself.
+/// Whatever value its holes get, a side keeps the number of its instructions and the registers that they name, and an instruction that may stand in a
+/// window still may.
 pub fn values_change_numbers_alone()
     ensures length { (n : ℕ) (side : List Instr) (x : Byte) → length (instance n side x) ≡ length side }
     ensures names { (n : ℕ) (side : List Instr) (x : Byte) → map named (instance n side x) ≡ map named side }

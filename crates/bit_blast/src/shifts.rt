@@ -1,5 +1,5 @@
-//! Barrel shifters, for shifts by a register: six stages that each move by a power of two, and bits 6 and 7 of the amount at once, since the manual's
-//! shifts by more than 32 move all bits out.
+//! Shifts by a register: a barrel shifter of six stages, each by a power of two, and one stage for bits 6 and 7 of the amount, since the manual has rules
+//! of its own for shifts by 32 and more.
 ghost use Rattle.std.specs.Prelude.{◌≡◌, ◌<◌, ◌≤◌, ◌^◌, IfOk, take};
 ghost use Rattle.word_bits.specs.declared.Shift.TheVariants.{Ror};
 ghost use Rattle.bit_blast.specs.Circuits.{stage_of, stages_from, shift_by, rotations_from, rotate_by};
@@ -36,7 +36,7 @@ fn places(j: usize) -> usize
     1 << j
 }
 
-/// One stage: where `a` holds, the word becomes `bits` and the carry `out`.
+/// One stage: where `a` is true, the word becomes `bits` and the carry `out`.
 fn stage(
     builder: &mut Builder,
     a: &Bit,
@@ -51,7 +51,7 @@ fn stage(
     Ok(Shifted { value, carry })
 }
 
-/// The stages of bits 0 to 5 of the amount: bit j moves by 2^j.
+/// The stages of bits 0 to 5 of the amount: where bit j is set, the word moves by 2^j.
 fn stages(
     builder: &mut Builder,
     kind: Shift,
@@ -85,7 +85,7 @@ pub fn shift_by(
     stage(builder, &far, &filled(&rest), &rest, &near)
 }
 
-/// The stages of bits 0 to 4 of the amount as rotations, for the bits alone.
+/// The stages of bits 0 to 4 of the amount as rotations of the word; the carry isn't computed here.
 fn rotations(
     builder: &mut Builder,
     amount: &BitVector,

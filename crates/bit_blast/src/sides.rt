@@ -17,7 +17,7 @@ use std::alloc::Global;
 use thumb_instr::items::{C, N, V, Z};
 use thumb_instr::{Mask, Seq};
 
-/// Pushes for each place of two words a bit that is true where they differ there.
+/// Pushes, for each pair of bits of two words, the bit that is true where they differ.
 fn push_word(
     builder: &mut Builder,
     found: &mut Vec<Bit>,
@@ -31,7 +31,7 @@ fn push_word(
     Ok(())
 }
 
-/// Pushes, for a flag in the mask, a bit that is true where the flag differs.
+/// Pushes the bit that is true where the flag differs, if the flag is in the mask.
 fn push_flag(
     builder: &mut Builder,
     found: &mut Vec<Bit>,
@@ -47,7 +47,7 @@ fn push_flag(
     Ok(())
 }
 
-/// Bits of which some is true exactly where a register of the mask differs.
+/// The bits of which some is true where a register of the mask differs.
 fn register_differences(
     alloc: Global,
     builder: &mut Builder,
@@ -72,7 +72,7 @@ fn register_differences(
     Ok(found)
 }
 
-/// Bits of which some is true exactly where an item of the mask differs.
+/// The bits of which some is true where an item of the mask differs.
 fn differences(
     alloc: Global,
     builder: &mut Builder,
@@ -91,7 +91,7 @@ fn differences(
     Ok(found)
 }
 
-/// Both sides formed from the same bits, and the bits that show where they differ.
+/// Forms both sides from the same bits, and gives the bits of which some is true where the sides differ.
 fn sides_from(
     alloc: Global,
     builder: &mut Builder,
@@ -112,7 +112,7 @@ fn sides_from(
     differences(alloc, builder, mask, &l, &r)
 }
 
-/// The formula of two sides of slots, added to what was built so far.
+/// The formula of two sides of slots, added to what `builder` holds already.
 fn formula_from(
     alloc: Global,
     builder: Builder,
@@ -134,7 +134,7 @@ fn formula_from(
     Ok(builder.finish())
 }
 
-/// Adds the clauses that eight bits hold a number of `least` or more.
+/// Adds the clauses that say that the number in eight bits is `least` or more.
 fn at_least(alloc: Global, builder: &mut Builder, bits: &[Bit], least: u8) -> Result<(), Memory>
     requires { length bits.now ≡ 8 }
     ensures { OnOk result (builder.new ≡ at_least bits.now least builder.old) }
@@ -153,7 +153,7 @@ fn at_least(alloc: Global, builder: &mut Builder, bits: &[Bit], least: u8) -> Re
     Ok(())
 }
 
-/// The symbol's bits, and the clauses that its value lies in the range.
+/// New input variables for the symbol's bits, and the clauses that its value lies in the range.
 fn symbol_inputs(
     alloc: Global,
     builder: &mut Builder,
@@ -169,11 +169,11 @@ fn symbol_inputs(
     Ok(word)
 }
 
-/// The formula that two sequences differ in some item of the mask: both are of instructions that may stand in a window and name r0 to
+/// The formula that two sequences differ in some item of the mask: both consist of instructions that may stand in a window and name r0 to
 /// r(k-1) alone, and the mask has no register of `k` or above.
 ///
 /// Variable 32 r + b + 1 is bit `b` of register `r` before the two, variables 32 k + 1 to 32 k + 4 are N, Z, C and V before them; gates
-/// follow as they are made, for the left sequence, the right one and what differs. The last clause, left out where it is always true, says
+/// follow as they are made, for the left sequence, the right one and the differences. The last clause, left out where it is always true, says
 /// that something differs. The models are exactly the states that tell the two apart (`state_of`), so there is none exactly where the two
 /// are equal under the mask. The one error is want of memory: ten instructions never need more variables than there may be (`laws`).
 pub fn formula(alloc: Global, left: &Seq, right: &Seq, mask: Mask, k: u8) -> Result<Formula, Memory>

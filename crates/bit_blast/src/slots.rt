@@ -1,4 +1,4 @@
-//! Sides with holes: each 8-bit number that is the symbol's number is a hole, which takes the symbol's value.
+//! The sides of a family: each 8-bit number that equals the symbol's number is a hole, which takes the symbol's value.
 ghost use Rattle.std.specs.Prelude.{◌≡◌, ◌<◌, IfOk, map};
 ghost use Rattle.bit_blast.specs.declared.slots.Slot.TheVariants.{Plain};
 ghost use Rattle.bit_blast.specs.Slots.{slot, slots, slot_target};
@@ -7,7 +7,7 @@ use cnf_gates::Memory;
 use std::alloc::Global;
 use thumb_instr::{ByteOperation, Instr, Low, Seq, parts};
 
-/// An instruction, or a hole: one of the four operations with an 8-bit number, whose number is the symbol's value.
+/// An instruction, or one of the four operations with an 8-bit number with a hole for that number, which takes the symbol's value.
 #[derive(Clone, Copy, Debug, PartialEq, Eq)]
 pub enum Slot {
     Plain(Instr),
@@ -26,7 +26,7 @@ pub struct Symbol {
 }
 
 impl Slot {
-    /// An instruction as a slot: a hole where it has the number.
+    /// An instruction as a slot: a hole where its 8-bit number is `number`.
     fn new(instr: &Instr, number: u8) -> Slot
         ensures { result ≡ slot number instr.now }
     {
@@ -46,7 +46,7 @@ impl Slot {
         }
     }
 
-    /// The register that the slot's instruction writes, or keeps, as `cmp` does.
+    /// The number of the target register, which a compare leaves unchanged.
     pub fn target(&self) -> u32
         ensures { result ≡ slot_target self.now }
     {
@@ -68,7 +68,7 @@ pub fn plain(alloc: Global, side: &Seq) -> Result<Vec<Slot>, Memory>
     Ok(slots)
 }
 
-/// A side with holes at a number.
+/// A side with a hole at each 8-bit number that is `number`.
 pub fn slots(alloc: Global, side: &Seq, number: u8) -> Result<Vec<Slot>, Memory>
     ensures { IfOk result (λ s. s.items ≡ slots number side.now) }
 {

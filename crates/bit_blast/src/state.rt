@@ -1,5 +1,5 @@
-//! From a model of the formula back to the state that it stands for, so that the learner can list the state that tells two sequences apart, and to the
-//! value of a symbol.
+//! Decodes a model of the formula: to the state that it stands for, so that the learner can list the state that told two sequences apart, and to the value
+//! of a symbol.
 ghost use Rattle.std.specs.Prelude.{◌≡◌, ◌<◌, ◌≤◌, ◌+◌};
 ghost use Rattle.std.specs.Int.{bit_at, from_bool};
 ghost use Rattle.cnf_gates.specs.Meaning.{assigned};
@@ -10,7 +10,7 @@ ghost use Rattle.bit_blast.specs.Exactness.{number_of, start_values, SameOver, v
 use cnf_gates::Model;
 use window_exec::WState;
 
-/// The number of the `n` variables from a place on, the lowest bit first.
+/// The number whose bits are the `n` variables from `first` on, the lowest bit first.
 fn number(model: &Model, first: u32, n: u32) -> u32
     requires first { first ≤ 10000 }
     requires n { n ≤ 32 }
@@ -23,7 +23,7 @@ fn number(model: &Model, first: u32, n: u32) -> u32
     number
 }
 
-/// The flags from a place on: N, Z, C and V.
+/// The flags N, Z, C and V, which are the four variables from `first` on, in bits 3 to 0.
 fn flags(model: &Model, first: u32) -> u8
     requires { first ≤ 10000 }
     ensures n { bit_at result 3 ≡ from_bool (assigned model.now first) }

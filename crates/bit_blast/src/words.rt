@@ -1,4 +1,4 @@
-//! Words of 32 bits, lowest first, for which no gate is needed: constants, complements, and shifts by a known amount.
+//! Words of 32 bits, lowest first, for which no gate is needed: constants, complements, extensions, reversals, and shifts by a known amount.
 ghost use Rattle.std.specs.Prelude.{◌≡◌, ◌<◌, ◌≤◌, ◌+◌, ◌++◌, length};
 ghost use Rattle.bit_blast.specs.Words.{filled, constant, inverted, fill, moved, moved_out, extended, turned};
 
@@ -40,7 +40,7 @@ pub fn inverted(x: &BitVector) -> BitVector
     bits
 }
 
-/// A copy of the bits.
+/// A copy of the word.
 pub fn copied(x: &BitVector) -> BitVector
     ensures { result ≡ x.now }
 {
@@ -51,7 +51,7 @@ pub fn copied(x: &BitVector) -> BitVector
     bits
 }
 
-/// A word of lower and upper bits.
+/// The word with these lower and upper bits.
 fn joined(low: &[Bit], high: &[Bit]) -> BitVector
     requires { length low.now + length high.now ≡ 32 }
     ensures { result ≡ low.now ++ high.now }
@@ -67,7 +67,7 @@ fn joined(low: &[Bit], high: &[Bit]) -> BitVector
     word
 }
 
-/// What a shift to the right fills with: False, or the highest bit.
+/// The bit that a shift fills with: the highest bit for ASR, and otherwise False.
 pub fn fill(kind: Shift, x: &BitVector) -> Bit
     ensures { result ≡ fill kind x.now }
 {
@@ -77,7 +77,7 @@ pub fn fill(kind: Shift, x: &BitVector) -> Bit
     }
 }
 
-/// The bits moved by `n` places, at most 32.
+/// The word shifted or rotated by `n` places, at most 32.
 pub fn moved(kind: Shift, n: usize, x: &BitVector) -> BitVector
     requires { n ≤ 32 }
     ensures { result ≡ moved kind n x.now }
@@ -93,7 +93,7 @@ pub fn moved(kind: Shift, n: usize, x: &BitVector) -> BitVector
     }
 }
 
-/// The last bit that a shift by `n` places moves out.
+/// The last bit that a shift by `n` places, from 1 to 32, moves out.
 pub fn moved_out(kind: Shift, n: usize, x: &BitVector) -> Bit
     requires some { 0 < n }
     requires within { n ≤ 32 }
@@ -117,7 +117,7 @@ pub fn extended(extension: Extension, x: &BitVector) -> BitVector
     }
 }
 
-/// The bytes in another order.
+/// REV, REV16 or REVSH: the bytes reordered, and for REVSH the sign extended.
 pub fn turned(reversal: Reversal, x: &BitVector) -> BitVector
     ensures { result ≡ turned reversal x.now }
 {

@@ -1,4 +1,4 @@
--- Laws of `&&`, `||` and `==` that proofs of several crates need.
+-- Algebraic laws of truth values, proved by cases.
 use Rattle.std.proofs.Common.{Bool, arith, false, refl, sym, true, ℕ, ◌&&◌, ◌==◌, ◌||◌, ◌≡◌}
 
 pub or_false : (a : Bool) → (a || false) ≡ a

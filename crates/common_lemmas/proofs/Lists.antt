@@ -1,4 +1,4 @@
--- Lists that were changed, cut or joined: which items they have, for proofs of several crates.
+-- Lemmas on reading and writing an item of a list by its index, and on prefixes and suffixes.
 use Rattle.std.proofs.Common.{List, Some, [], ap, arith, drop, get_or, length, map, refl, slice_get, suc, sym, take, true, zero, ℕ, ◌++◌, ◌+◌, ◌-◌, ◌<◌, ◌∙◌, ◌∷◌, ◌≡◌, ◌≢◌}
 use Rattle.std.proofs.lemmas.Option.{same_Some, slice_get-get_or}
 use Rattle.std.proofs.lemmas.Slice.Eq.{bytes_eq-Decides}

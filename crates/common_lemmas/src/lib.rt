@@ -1,2 +1,2 @@
-//! No code: lemmas on truth values, numbers and lists, for crates that have no other crate in common.
+//! No code: lemmas on truth values, numbers and lists, shared by crates that otherwise have no dependency in common.
 #![tactic(auto)]

@@ -1,4 +1,4 @@
--- In an assembled listing each name that is mentioned has a label or is set, and what is set lies outside the image.
+-- In an assembled listing each name that is mentioned has a label or is set, and the addresses that names are set to lie outside the image.
 use Rattle.std.proofs.Common.{◌≡◌, ◌∙◌, ◌⊎◌, inl, inr, ℕ, ◌+◌, ◌%◌, ◌≤◌, ◌&&◌, Bool, true, false, not, List, [], ◌∷◌, ◌++◌, map, refl, sym, ap, subst, arith, true≢false, Option, Some, None, is_some, if◌then◌else◌}
 use Rattle.std.specs.Prelude.{nat_lt, nat_le}
 use Rattle.std.specs.Str.{bytes_eq}
@@ -41,7 +41,7 @@ mentioned_in name (x ∷ xs) ys e = elim (cases_Bool (place_mentions name x)) [
   ]
 ]
 
--- ---- what lies where ----
+-- ---- names and their addresses ----
 
 module _ (base : ℕ) (all : List ListingLine) where
   first_sound : (n : ℕ) (l : ListingLine) (ls : List ListingLine) → flaws_from base all n (l ∷ ls) ≡ None → flaw_of base all l.statement ≡ None
@@ -100,7 +100,7 @@ module _ (base : ℕ) (all : List ListingLine) where
         | inr h ↦ lines_lie name (n + 1) ls fair.1 next h
       ]
 
-  -- without a label it is set
+  -- a name without a label is set
   is_set : (name : Name) → label_address name base all ≡ None → Lies name → (address : ℕ) × (set_address name all ≡ Some address)
   unfolding Lies
   is_set name none lies = by (set_address name all) refl where
@@ -108,7 +108,7 @@ module _ (base : ℕ) (all : List ListingLine) where
     by None e = absurd (lies (rw (none, e) refl))
     by (Some address) e = (address, e)
 
-  -- what is set lies outside the image
+  -- the address that a name is set to lies outside the image
   statement_outside : (name : Name) (s : Statement) (rest : Option ℕ) (address : ℕ) → flaw_of base all s ≡ None → set_in name s rest ≡ Some address → (lies_inside base all address ≡ false) ⊎ (rest ≡ Some address)
   statement_outside name (Sets other a) rest address f e = elim (cases_Bool (bytes_eq name other)) [
     | inl h ↦
@@ -132,7 +132,7 @@ module _ (base : ℕ) (all : List ListingLine) where
         | inr h ↦ set_outside name (n + 1) ls address next h
       ]
 
--- so it lies outside the range, which goes on for two bytes behind a call
+-- so it lies outside the range, which goes on for two bytes after a call at the end
 range_outside : (low end word : ℕ) (call : Bool) → (nat_le low word && nat_lt word end) ≡ false → (call ≡ true → end ≤ word → end + 2 ≤ word) → (nat_le low word && nat_lt word (if call then end + 2 else end)) ≡ false
 range_outside low end word false out behind = out
 range_outside low end word true out behind = elim (cases_Bool (nat_le low word)) [

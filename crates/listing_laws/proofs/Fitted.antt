@@ -1,4 +1,4 @@
--- The laid naming of lines that lie apart fits them: a code point is a cut of the lines, and its word 1 more than the address there.
+-- The laid naming of lines that lie apart fits them: a code point is a cut between two lines, and its word is the address there plus 1.
 use Rattle.std.proofs.Common.{◌≡◌, ◌∙◌, ◌⊎◌, inl, inr, ℕ, zero, suc, ◌+◌, ◌-◌, ◌*◌, ◌%◌, ◌^◌, ◌<◌, ◌≤◌, ◌==◌, ◌&&◌, Bool, true, false, List, [], ◌∷◌, ◌++◌, length, map, refl, sym, ap, arith, true≢false, eq-eqb, Option, Some, None, if◌then◌else◌, append_assoc, append-nil}
 use Rattle.std.specs.Prelude.{nat_lt, nat_le, slice_get}
 use Rattle.std.specs.Str.{bytes_eq}
@@ -37,7 +37,7 @@ room at (l ∷ ls) =
     let both = length-append (places_in l.statement) (places_of ls) in
     omega arith
 
--- of two cuts of the same lines one is within the other
+-- the lines xs are a prefix of the lines zs
 record IsWithin (xs zs : List ListingLine) : Type 0 where
   between : List ListingLine
   cut : zs ≡ xs ++ between
@@ -57,7 +57,7 @@ two_cuts (x ∷ xs) ys (z ∷ zs) ws e =
       | inr h ↦ inr (within_more z x zs xs (sym first) h)
     ]
 
--- a cut further on, with more places before it, lies further on
+-- a later cut lies two bytes or more further on for each place between the two
 cut_later : (base : ℕ) (xs zs : List ListingLine) → IsWithin xs zs → end_of base xs + 2 * (length (places_of zs) - length (places_of xs)) ≤ end_of base zs
 cut_later base xs zs h =
     let more = room (end_of base xs) h.between in
@@ -74,7 +74,7 @@ within_count xs zs h =
 
 -- ---- labels ----
 
--- a label among names
+-- whether a name has a label, where the labels of one line come first
 has_at : (name : Name) (p : ℕ) (ns : List Name) (rest : List Label) → has_label name (labels_at p ns ++ rest) ≡ (if is_among name ns then true else has_label name rest)
 has_at name p [] rest = refl
 has_at name p (n ∷ ns) rest = elim (cases_Bool (bytes_eq name n)) [
@@ -82,7 +82,7 @@ has_at name p (n ∷ ns) rest = elim (cases_Bool (bytes_eq name n)) [
   | inr h ↦ rw h (has_at name p ns rest)
 ]
 
--- the lines before the first one that has the label
+-- the lines before the one with the label, the address a after them and the number q of the label's place
 record LabelCut (name : Name) (base p a q : ℕ) (all : List ListingLine) : Type 0 where
   before : List ListingLine
   after : List ListingLine
@@ -90,7 +90,7 @@ record LabelCut (name : Name) (base p a q : ℕ) (all : List ListingLine) : Type
   address : a ≡ end_of base before
   place : q ≡ p + length (places_of before)
 
--- where a name has a label, it has an address too, at one cut
+-- a label's name also has an address, and address and place belong to the same cut
 abbrev HasCut : (name : Name) (base p q : ℕ) (all : List ListingLine) → Type 0
 HasCut name base p q all = (a : ℕ) × (label_address name base all ≡ Some a) × LabelCut name base p a q all
 
@@ -150,7 +150,7 @@ return_low (suc k) at (l ∷ ls) = elim (cases_Bool (ends_in_call l.statement)) 
   | inr t ↦ rw t (return_low (suc k) (at + size_at l.statement at) ls)
 ]
 
--- a name with a code label has one
+-- a name with a code label has the place of one
 code_label : (name : Name) (places : List Place) (ls : List Label) (k : ℕ) (l : Label) → slice_get ls k ≡ Some l → bytes_eq name l.name ≡ true → is_code places l ≡ true → (p : ℕ) × (place_among name places ls ≡ Some p)
 code_label name places [] k l e n c = absurd (let bad : None ≡ Some l = e in cc)
 code_label name places (m ∷ ls) zero l e n c =
@@ -166,7 +166,7 @@ code_label name places (m ∷ ls) (suc k) l e n c =
 
 -- ---- code points ----
 
--- a point of a label that is code
+-- a code point that a code label gives: its word and its place
 record IsOfLabel (names : Naming) (places : List Place) (ls : List Label) (w p : ℕ) : Type 0 where
   number : ℕ
   label : Label
@@ -222,7 +222,7 @@ module _ (base : ℕ) (set : Name → ℕ) (all : List ListingLine) (is : LiesAp
     by true h = omega arith
     by false h = h
 
-  -- a cut of the lines, whose address and 1 more is the word
+  -- a cut of the lines: the word w is its address plus 1, and p places come before it
   record IsCut (w p : ℕ) : Type 0 where
     before : List ListingLine
     after : List ListingLine
@@ -231,14 +231,14 @@ module _ (base : ℕ) (set : Name → ℕ) (all : List ListingLine) (is : LiesAp
     place : p ≡ length (places_of before)
     inside : end_of base before + 2 ≤ names.high
 
-  -- what stands behind a cut takes room
+  -- each place after a cut takes two bytes or more
   behind : (before after : List ListingLine) → all ≡ before ++ after → end_of base before + 2 * length (places_of after) ≤ end_of base all
   behind before after cut =
       let more = room (end_of base before) after in
       let ends : end_of base all ≡ end_of (end_of base before) after = ap (end_of base) cut ∙ end_append base before after in
       omega arith
 
-  -- ---- those of labels ----
+  -- ---- code points of labels ----
 
   of_label : (w p : ℕ) → IsOfLabel names (places_of all) (labels_from 0 all) w p → IsCut w p
   of_label w p h =
@@ -263,7 +263,7 @@ module _ (base : ℕ) (set : Name → ℕ) (all : List ListingLine) (is : LiesAp
         inside = omega arith;
       }
 
-  -- ---- those of calls ----
+  -- ---- code points of calls, to which they return ----
 
   next_calls : (before : List ListingLine) (l : ListingLine) → call_count (places_of (before ++ l ∷ [])) ≡ call_count (places_of before) + call_count (places_in l.statement)
   next_calls before l =
@@ -279,7 +279,7 @@ module _ (base : ℕ) (set : Name → ℕ) (all : List ListingLine) (is : LiesAp
       let c = length-append (places_in l.statement) [] in
       omega arith
 
-  -- behind a call the range goes on
+  -- after a call the range goes on for two bytes or more
   call_inside : (before after : List ListingLine) (l : ListingLine) (i : Instr) (mention : Option Mention) → all ≡ before ++ l ∷ after → l.statement ≡ Instruction i mention → is_call_instr i ≡ true → end_of base (before ++ l ∷ []) + 2 ≤ names.high
   call_inside before after l i mention cut t h = by (places_of after) refl where
     next : all ≡ (before ++ l ∷ []) ++ after
@@ -299,13 +299,13 @@ module _ (base : ℕ) (set : Name → ℕ) (all : List ListingLine) (is : LiesAp
         let past = high_past in
         omega arith
 
-  -- the return points of the lines behind a cut
+  -- each return point of the lines after a cut is a cut
   abbrev AreReturns : List ListingLine → List ListingLine → Type 0
   AreReturns before ls = (k p : ℕ) → k ≡ call_count (places_of before) → p ≡ length (places_of before) → (j w q : ℕ) → slice_get (returns_from names k p (places_of ls)) j ≡ Some (w, q) → IsCut w q
 
   returns_next : (before ls : List ListingLine) (l : ListingLine) → all ≡ before ++ l ∷ ls → all ≡ (before ++ l ∷ []) ++ ls → AreReturns (before ++ l ∷ []) ls → AreReturns before (l ∷ ls)
   returns_next before ls l cut next rest k p c n j w q e = by l.statement refl e where
-    -- how many calls and places stand before the next line
+    -- how many calls and places come before the next line
     calls : (m : ℕ) → m ≡ k + call_count (places_in l.statement) → m ≡ call_count (places_of (before ++ l ∷ []))
     calls m h = let more = next_calls before l in omega arith
 

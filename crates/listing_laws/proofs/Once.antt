@@ -1,4 +1,4 @@
--- Where no name is defined twice, each label is the first one of its name.
+-- Where no name is defined twice, the search for a name's label finds the only one.
 use Rattle.std.proofs.Common.{◌≡◌, ℕ, List, [], Some}
 use Rattle.std.specs.Prelude.{slice_get}
 use Rattle.thumb_model.specs.Listing.{ListingLine, Label, labels_from}

@@ -1,4 +1,4 @@
--- How many bytes the lines of a listing may take: each twice as many as its text has, since a word of four takes two of it, or 255, as alignments pad.
+-- A bound on the bytes that a listing takes: 255 for each line, as alignments pad, and 2 for each byte of its text, as a word of 4 takes two of these.
 use Rattle.std.proofs.Common.{◌≡◌, inl, inr, ℕ, ◌+◌, ◌-◌, ◌*◌, ◌^◌, ◌≤◌, ◌==◌, ◌&&◌, Bool, true, false, List, [], ◌∷◌, map, length, refl, ap, arith, ltb-false, Option, Some, None, Ok, option_map}
 use Rattle.std.specs.Prelude.{nat_lt, if◌then◌else◌, codes, option_and_then}
 use Rattle.std.specs.Str.{bytes_eq}
@@ -45,7 +45,7 @@ abbrev pub rooms : List Read → ℕ
 rooms [] = 0
 rooms (r ∷ rs) = room r.line.said + rooms rs
 
--- a row
+-- an instruction
 instr_small : (i : Instr) → instr_size i ≤ 4
 instr_small (instr.Call d) = omega arith
 instr_small i = omega arith

@@ -1,25 +1,25 @@
-//! The laws. Each is stated as the contract of a function with an empty body.
+//! The theorems. Each is the contract of a function that does nothing.
 
 ghost use Rattle.listing_laws.specs.Assembled.{AssembledListingsFit, AssembledImagesFollow};
 ghost use Rattle.listing_laws.specs.Fitting.{LaidNamingsFit};
 ghost use Rattle.listing_laws.specs.Limits.{TextsEndInCode};
 
-/// Laid out from a base in the lower half of the Code region, a listing's lines end within the region: so none is refused for want of room there.
+/// Laid out from a base in the lower half of the Code region, every listing ends within that region: so none is refused there for reaching beyond it.
 pub fn texts_end_in_the_code_region()
     ensures { TextsEndInCode }
 {}
 
-/// Where lines begin at even addresses, each name has one label and external names lie elsewhere, the lines' laid naming fits them.
+/// Where lines begin at even addresses, each name has one label and external names lie outside the lines, the naming that the layout gives fits the lines.
 pub fn laid_namings_fit()
     ensures { LaidNamingsFit }
 {}
 
-/// The laid naming of an assembled listing fits it, unless it ends in a call and a name that it mentions is set right behind its end.
+/// The naming that the layout gives fits an assembled listing, unless the listing ends in a call and a name that it mentions is set to an address just after.
 pub fn assembled_listings_fit()
     ensures { AssembledListingsFit }
 {}
 
-/// So an assembled image's run meets its listing's, without a premise that a naming fits.
+/// So the run of an assembled image follows that of its listing, without a condition on the naming.
 pub fn assembled_images_follow()
     ensures { AssembledImagesFollow }
 {}

@@ -1,4 +1,4 @@
-//! Laws of listings that no code needs: where a text's lines end, and when the naming by addresses fits a listing.
+//! Theorems about listings that no code rests on: where the layout of a listing ends, and when the naming of code points by their addresses fits a listing.
 #![tactic(auto)]
 
 pub mod laws;

@@ -1,4 +1,4 @@
--- Steps that follow one another add up.
+-- The counts of steps of two calls, one after the other, add up, so that a caller's cost is the sum of its parts.
 use Rattle.std.proofs.Common.{◌≡◌, ℕ, ◌+◌, ◌-◌, ◌^◌, ◌≤◌, min, arith}
 use Rattle.step_ledger.specs.Counts.{RisesByAtLeast, RisesBy}
 

@@ -1,4 +1,4 @@
-//! Counts of steps, by which contracts bound running times. The program keeps a count as a number (`Counted`) or not at all (`Free`).
+//! A count of steps, in which contracts state costs: `Counted` holds it when the program runs, `Free` doesn't.
 #![tactic(auto)]
 
 ghost use Rattle.std.specs.Prelude.{◌≡◌, ℕ, ◌+◌, ◌-◌, ◌^◌, ◌<◌, min};
@@ -61,7 +61,7 @@ pub struct Free<N: Name> {
 }
 
 impl<N: Name> Free<N> {
-    /// No step counted yet, over new tokens of at least one part.
+    /// A ledger at 0, over new tokens, of which there is at least one part.
     pub fn new(blank: Blank) -> Free<N>
         requires name { blank.name ≡ N.name }
         requires parts { blank.parts ≡ N.parts }
@@ -81,7 +81,7 @@ impl<N: Name> Ledger for Free<N> {
     }
 }
 
-/// A count of the steps of those calls that it is passed to.
+/// A view of a ledger as one number: the steps of all calls that it was passed to.
 #[derive(Drop)]
 pub struct Steps<L: Ledger> {
     ledger: L,
@@ -94,7 +94,7 @@ impl<L: Ledger> Model for Steps<L> {
 }
 
 impl<L: Ledger> Steps<L> {
-    /// Goes on counting in the given ledger.
+    /// Continues from the count of `ledger`.
     pub fn new(ledger: L) -> Steps<L>
         ensures { result ≡ L.count ledger }
     {

@@ -1,4 +1,4 @@
--- What an instruction's place decides for it (`Around`) is tied in the listing and in the image.
+-- The surroundings of an instruction in the listing and in the image correspond.
 use Rattle.std.proofs.Common.{◌≡◌, ◌∙◌, ◌⊎◌, inl, inr, ℕ, zero, suc, ◌+◌, ◌-◌, ◌*◌, ◌/◌, ◌%◌, ◌^◌, ◌<◌, ◌≤◌, ◌==◌, ◌&&◌, ◌||◌, not, Bool, true, false, List, [], ◌∷◌, ◌++◌, length, take, refl, sym, ap, subst, arith, true≢false, Option, Some, None, eqb-true}
 use Rattle.std.specs.Prelude.{slice_get, nat_lt, nat_le, if◌then◌else◌, is_some, ℤ}
 use Rattle.std.proofs.lemmas.Bool.{cases_Bool, cases_lt, and_from, and_parts, le-leb, lt-ltb, ltb-true, leb-true, or_right}
@@ -32,7 +32,7 @@ use Rattle.thumb_assembler.proofs.Cuts.{end_append, two_or_four, LabelCut, label
 use Rattle.thumb_assembler.proofs.Fetched.{fair_here, even_here, Coded, DataAt, data_from}
 use Rattle.thumb_assembler.proofs.Slides.{Arrives, label_found, label_is, arrives_within, code_address, lands_tied, place_here, return_here}
 
--- a distance leads to the address that it was measured to
+-- the distance from one address to another leads to the other
 pub aim_back : (at to : ℕ) → at ≤ 2 ^ 29 → to < 2 ^ 32 → aim_from at (distance at to) ≡ to
 aim_back at to l h = elim (cases_Bool (nat_le (at + 4) to)) [
   | inl e ↦ rw e (let least = leb-true (at + 4) to e in omega arith)
@@ -41,7 +41,7 @@ aim_back at to l h = elim (cases_Bool (nat_le (at + 4) to)) [
   not_le : (a b : ℕ) → nat_le a b ≡ false → b < a
   not_le a b e = elim (cases_lt b a) [ inl h ↦ h | inr h ↦ absurd (true≢false (sym (le-leb a b h) ∙ e)) ]
 
--- an instruction acts alike whatever its distance
+-- the model's effect of an instruction doesn't depend on its own distance
 pub same_act : (b : Around) (at to : ℕ) (i j : Instr) (w : World) → Aims at to i j → act b j w ≡ act b i w
 same_act b at to (instr.Literal t d) j w a = ap (λ (k : Instr). act b k w) a.2
 same_act b at to (instr.Address t d) j w a = ap (λ (k : Instr). act b k w) a.2
@@ -88,7 +88,7 @@ module _ (base : ℕ) (set : Name → ℕ) (all : List ListingLine) (bytes : Lis
 
   -- ---- direct branches ----
 
-  -- where a branch to what is mentioned goes in both
+  -- where a branch to a mentioned name goes in the listing and in the image
   record Aimed (m : Mention) : Type 0 where
     small : mention_lies base names all m < 2 ^ 32
     tied : TargetTied ArrivesAt (target_at names (Some m) (place_of code m.name)) (goes_to image (mention_lies base names all m))
@@ -138,7 +138,7 @@ module _ (base : ℕ) (set : Name → ℕ) (all : List ListingLine) (bytes : Lis
               (subst (λ (x : ℕ). TargetTied ArrivesAt (External (set_bit ((names.word_of m.name + m.plus) % 2 ^ 32))) (goes_to image x)) (sym lies) (rw past same));
         }
 
-  -- a branch to a name that is a code label, or none
+  -- a branch to a name that is a code label, or that is no label at all
   branch_aimed : (q : ℕ) (i : Instr) (m : Mention) → slice_get (places_of all) q ≡ Some (Op i (Some m)) → m.plus ≡ 0 → (is_code_label all m.name || not (is_label all m.name)) ≡ true → lies_nowhere base all m.name ≡ false → Aimed m
   branch_aimed q i m here z fair found = by (place_of code m.name) refl where
     by : (o : Option ℕ) → place_of code m.name ≡ o → Aimed m
@@ -156,7 +156,7 @@ module _ (base : ℕ) (set : Name → ℕ) (all : List ListingLine) (bytes : Lis
     by (Some p) e = inside m p z e
     by None e = absurd (true≢false (sym fair ∙ ap is_some e))
 
-  -- the distance of a branch leads there
+  -- the distance of a branch leads to its target's address
   branch_tied : (at : ℕ) (m : Mention) (d : ℤ) → at ≤ 2 ^ 29 → distance at (mention_lies base names all m) ≡ d → Aimed m → TargetTied ArrivesAt (target_at names (Some m) (place_of code m.name)) (goes_to image (aim_from at d))
   branch_tied at m d low e a =
       subst (λ (x : ℕ). TargetTied ArrivesAt (target_at names (Some m) (place_of code m.name)) (goes_to image x)) (sym (ap (aim_from at) (sym e) ∙ aim_back at (mention_lies base names all m) low a.small)) a.tied
@@ -205,7 +205,7 @@ module _ (base : ℕ) (set : Name → ℕ) (all : List ListingLine) (bytes : Lis
       let place : label_place m.name (labels_from 0 all) ≡ Some (length (places_of l.cut.before)) = l.cut.place 0 ∙ ap (λ (n : ℕ). Some n) (let z : 0 + length (places_of l.cut.before) ≡ length (places_of l.cut.before) = omega arith in z) in
       ap (word_behind names (places_of all) m.plus) place ∙ ap (word_of_place names) l.data_here.place ∙ sym l.data_here.word ∙ ap (word_at image) (sym l.lies)
 
-  -- ADR gives the address of the label, which is no code, with the number added
+  -- ADR yields the address of the label, which isn't a code label, plus the added number
   address_tied : (m : Mention) → is_literal all m ≡ true → mention_lies base names all m < 2 ^ 32 → word_of_mention names (Some m) ≡ mention_lies base names all m
   unfolding code_place
   address_tied m f small =
@@ -218,7 +218,7 @@ module _ (base : ℕ) (set : Name → ℕ) (all : List ListingLine) (bytes : Lis
       let lies : mention_lies base names all m ≡ mention_lies base names all m - m.plus + m.plus = ap (λ (o : Option ℕ). lies_at names o (names.word_of m.name) + m.plus) l.address in
       omega arith
 
-  -- ---- all that an instruction looks at ----
+  -- ---- all surroundings that an instruction depends on ----
 
   low : (before after : List ListingLine) → all ≡ before ++ after → end_of base before ≤ 2 ^ 29
   low before after e =
@@ -259,7 +259,7 @@ module _ (base : ℕ) (set : Name → ℕ) (all : List ListingLine) (bytes : Lis
   lands : (word : ℕ) → LandingLoose ArrivesAt (landing names word (point_among word (points names code))) (lands_at image word)
   lands = lands_tied base set all bytes made given fits
 
-  -- all that an instruction looks at is tied
+  -- all surroundings that an instruction depends on correspond
   pub looks : (before after : List ListingLine) (l : ListingLine) (i : Instr) (mention : Option Mention) (e : all ≡ before ++ l ∷ after) (s : l.statement ≡ Instruction i mention) (j : Instr) → Coded base set all bytes made given (end_of base before) i mention j
       → LooksLoose ArrivesAt (around_of names code (length (places_of before)) i mention) (around_in image (end_of base before) j) i
   looks before after l (instr.Bx r) mention e s j c = lands

@@ -1,4 +1,4 @@
--- The loop that appends the bytes of lines, one line after the other.
+-- The invariant of the loop over a listing's lines.
 use Rattle.std.proofs.Common.{◌≡◌, ◌∙◌, ℕ, ◌+◌, ◌%◌, ◌<◌, ◌≤◌, true, List, [], ◌∷◌, ◌++◌, length, map, drop, get_or, refl, sym, ap, subst, arith, Option, Some, None, append_assoc, append-nil}
 use Rattle.std.proofs.lemmas.Bool.{and_parts}
 use Rattle.thumb_model.specs.Listing.{Name, ListingLine}
@@ -15,11 +15,11 @@ use Rattle.thumb_assembler.specs.Pushes.{placed, PushedLaid}
 use Rattle.thumb_assembler.proofs.Places.{size_even}
 use Rattle.listing_parser.proofs.Shared.{next_line}
 
--- what completes the lines that are left completes all, behind these bytes
+-- the bytes so far, followed by those of the lines that are left, are the bytes of all lines
 pub Completes : ℕ → List ListingLine → ℕ → List ListingLine → List ℕ → Type 0
 Completes base all at left bytes = (set : Name → ℕ) → IsSetBy all set → (rest : List ℕ) → AreLineBytes (placed base set all) at left rest → AreLineBytes (placed base set all) base all (bytes ++ rest)
 
--- the bytes of the lines before number came, and those that are left begin at an address
+-- the lines up to this number have these bytes, and those that are left begin at this address
 pub record Progress (base : ℕ) (all : List ListingLine) (number at : ℕ) (left : List ListingLine) (bytes : List ℕ) : Type 0 where
   pub end : end_of at left ≡ end_of base all
   pub flaws : flaws_from base all (number + 1) left ≡ first_flaw base all
@@ -77,7 +77,7 @@ pub progress_ends : (base : ℕ) (all : List ListingLine) (number at : ℕ) (byt
 unfolding Completes
 progress_ends base all number at bytes p set h = subst (AreLineBytes (placed base set all) base all) (append-nil bytes) (p.done set h [] refl)
 
--- ---- as the loop over the lines has it ----
+-- ---- as the loop over the lines needs it ----
 
 pub progress_first : (base first : ℕ) (all ls : List ListingLine) (bytes : List ℕ) → first ≡ base → ls ≡ all → bytes ≡ [] → Layable base all → are_fair all all ≡ true → base % 2 ≡ 0 → Progress first all 0 (first + length bytes) ls bytes
 progress_first base first all ls bytes e f g layable fair even =

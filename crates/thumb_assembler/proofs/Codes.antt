@@ -1,4 +1,4 @@
--- The bytes of codes and of padding.
+-- The bytes of codes and of padding, for the contracts of the functions that append them.
 use Rattle.std.proofs.Common.{◌≡◌, ◌∙◌, ◌<◌, ◌≤◌, ℕ, zero, suc, ◌-◌, ◌*◌, List, [], ◌∷◌, ◌++◌, length, sym, refl, ap, arith, append_assoc, append-nil}
 use Rattle.thumb_instr.specs.declared.instr.Instr.{Instr}
 use Rattle.thumb_instr.specs.declared.instr.Instr.TheVariants as instr
@@ -43,7 +43,7 @@ two_codes i first second old mid new l k c e f =
       long = sym size;
     }
 
--- a `nop`, and those that are left
+-- one `nop`, and those that are left
 pub nops_step : (k : ℕ) → 1 < k → nops k ≡ half_bytes 48896 ++ nops (k - 2)
 nops_step zero h = absurd (omega arith)
 nops_step (suc zero) h = absurd (omega arith)

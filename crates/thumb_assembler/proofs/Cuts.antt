@@ -1,4 +1,4 @@
--- Lines in two parts: places, addresses and bytes of the second begin where the first end.
+-- Lines cut in two parts: places, addresses and bytes of the second part follow those of the first.
 use Rattle.std.proofs.Common.{◌≡◌, ◌∙◌, ◌⊎◌, inl, inr, ℕ, zero, suc, ◌+◌, ◌*◌, ◌/◌, ◌%◌, true, List, [], ◌∷◌, ◌++◌, length, take, refl, sym, ap, subst, arith, true≢false, Option, Some, None, append_assoc, append-nil, length-append}
 use Rattle.std.specs.Prelude.{slice_get, slice_index}
 use Rattle.std.proofs.lemmas.Bool.{cases_Bool, and_from, and_parts, or_right}
@@ -35,7 +35,7 @@ addresses_append a (x ∷ xs) ys =
     ap (λ (ps : List ℕ). addresses_in a x.statement ++ ps) (addresses_append (a + size_at x.statement a) xs ys)
     ∙ sym (append_assoc (addresses_in a x.statement) (addresses_from (a + size_at x.statement a) xs) (addresses_from (end_of (a + size_at x.statement a) xs) ys))
 
--- the lines up to and with the next one
+-- the lines up to and including the next one
 pub next_end : (a : ℕ) (xs : List ListingLine) (l : ListingLine) → end_of a (xs ++ l ∷ []) ≡ end_of a xs + size_at l.statement (end_of a xs)
 next_end a xs l = end_append a xs (l ∷ [])
 
@@ -47,14 +47,14 @@ next_places xs l =
 pub next_cut : (all before after : List ListingLine) (l : ListingLine) → all ≡ before ++ l ∷ after → all ≡ (before ++ l ∷ []) ++ after
 next_cut all before after l e = e ∙ sym (append_assoc before (l ∷ []) after)
 
--- the place behind lines
+-- the places of the second part follow those of the first
 pub place_behind : (before after : List ListingLine) (n : ℕ) → slice_get (places_of (before ++ after)) (length (places_of before) + n) ≡ slice_get (places_of after) n
 place_behind before after n = ap (λ (ps : List Place). slice_get ps (length (places_of before) + n)) (places_append before after) ∙ get_back (places_of before) (places_of after) n (length (places_of before) + n) refl
 
 pub first_behind : (before after : List ListingLine) → slice_get (places_of (before ++ after)) (length (places_of before)) ≡ slice_get (places_of after) 0
 first_behind before after = ap (slice_get (places_of (before ++ after))) (let e : length (places_of before) ≡ length (places_of before) + 0 = omega arith in e) ∙ place_behind before after 0
 
--- the address of the first place of a line that has one
+-- the address of the second part's first place
 pub address_behind : (a : ℕ) (before after : List ListingLine) → slice_get (addresses_from a (before ++ after)) (length (places_of before)) ≡ slice_get (addresses_from (end_of a before) after) 0
 address_behind a before after =
     ap (λ (ps : List ℕ). slice_get ps (length (places_of before))) (addresses_append a before after)
@@ -198,7 +198,7 @@ no_label name base p (l ∷ ls) e = elim (cases_Bool (is_among name l.names)) [
   | inr t ↦ label_at name p l.names _ ∙ rw t (no_label name (base + size_at l.statement base) (p + length (places_in l.statement)) ls (rw t at e))
 ]
 
--- ---- a label of a line is on no line before ----
+-- ---- the label of a line is on no line before it ----
 
 known_label : (name : Name) (n : ℕ) (known : List Name) (before after : List ListingLine) (l : ListingLine) → first_twice n known (before ++ l ∷ after) ≡ None → is_among name known ≡ true → is_among name l.names ≡ true → ⊥
 known_label name n known [] after l e k t = elim (cases_Bool (is_again known (defined_in l))) [
@@ -221,7 +221,7 @@ first_label name n base known (b ∷ bs) after l e t = elim (cases_Bool (is_agai
   ]
 ]
 
--- and the place that stands behind it
+-- and the place that comes after those of the lines before it
 pub first_place : (name : Name) (n p : ℕ) (known : List Name) (before after : List ListingLine) (l : ListingLine) → first_twice n known (before ++ l ∷ after) ≡ None → is_among name l.names ≡ true
     → label_place name (labels_from p (before ++ l ∷ after)) ≡ Some (p + length (places_of before))
 first_place name n p known [] after l e t = label_at name p l.names _ ∙ rw t (ap (λ (k : ℕ). Some k) (let h : p ≡ p + 0 = omega arith in h))

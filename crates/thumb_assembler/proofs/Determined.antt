@@ -1,4 +1,4 @@
--- An image has one run from a state.
+-- An image has exactly one run from each state.
 use Rattle.std.proofs.Common.{◌≡◌, ℕ, ◌+◌, ◌<◌, ap, subst, refl, arith}
 use Rattle.thumb_instr.specs.declared.instr.Instr.{Instr}
 use Rattle.thumb_table.proofs.Codes.{one_instr}

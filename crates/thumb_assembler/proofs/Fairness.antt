@@ -1,4 +1,4 @@
--- Each statement of a parsed text is fair (`is_fair`), and its lines are few.
+-- The lines that were read from a text are fair, and their number is bounded.
 use Rattle.std.proofs.Common.{◌≡◌, ◌∙◌, inl, inr, ℕ, zero, suc, ◌+◌, ◌*◌, ◌%◌, ◌^◌, ◌≤◌, ◌==◌, ◌&&◌, Bool, true, false, List, [], ◌∷◌, map, length, refl, sym, ap, subst, arith, Option, Some, None, Ok, option_map}
 use Rattle.std.specs.Prelude.{nat_lt, if◌then◌else◌, codes, option_and_then}
 use Rattle.std.specs.Str.{bytes_eq}
@@ -25,12 +25,12 @@ use Rattle.listing_parser.proofs.PrintLemmas.{of_checked, cut, none_read}
 use Rattle.listing_parser.proofs.FewLemmas.{all_few}
 use Rattle.thumb_assembler.specs.Fair.{label_in, keeps_even, is_fair, are_fair}
 
--- ---- what is said ----
+-- ---- what a line's reader ensures ----
 
 data IsRead (s : Shown) : Type 0 where
   read_as : (bytes : List ℕ) → reading bytes ≡ Some s → IsRead s
 
--- an alignment keeps addresses even, and an instruction was read
+-- an alignment keeps addresses even, and an instruction comes from `reading`
 WellSaid : Said → Type 0
 WellSaid (Plain (Aligns size most)) = keeps_even size ≡ true
 WellSaid (ByKind s) = IsRead s

@@ -1,4 +1,4 @@
--- What the image's machine finds where a line lies.
+-- What the image's machine finds at the address of a line: instructions, padding and data words.
 use Rattle.std.proofs.Common.{◌≡◌, ◌∙◌, ◌⊎◌, inl, inr, ℕ, zero, suc, ◌+◌, ◌-◌, ◌*◌, ◌/◌, ◌%◌, ◌^◌, ◌<◌, ◌≤◌, ◌&&◌, true, List, [], ◌∷◌, ◌++◌, length, map, take, refl, sym, ap, subst, arith, true≢false, Option, Some, None, append_assoc}
 use Rattle.std.specs.Prelude.{slice_index, slice_get, nat_lt, nat_le}
 use Rattle.std.proofs.lemmas.Bool.{cases_lt, and_from, and_parts, le-leb, lt-ltb, le-ltb, ltb-true, leb-true}
@@ -27,7 +27,7 @@ nops_at (suc (suc p)) j zero rest e is l = (refl, refl)
 nops_at (suc (suc p)) j (suc (suc k)) rest e is l = nops_at p (j - 1) k rest (omega arith) (omega arith) (omega arith)
 nops_at p j k rest e is l = absurd (omega arith)
 
--- what a short code is followed by doesn't matter
+-- what follows a short code doesn't matter
 short_code : (i : Instr) (first second k : ℕ) → instr_size i ≡ 2 → Encodes i first second → Encodes i first k
 short_code i first second k size e =
     let bits = eight_bits i in
@@ -71,7 +71,7 @@ module _ (base : ℕ) (set : Name → ℕ) (all : List ListingLine) (bytes : Lis
   pub even_here : (before after : List ListingLine) → all ≡ before ++ after → end_of base before % 2 ≡ 0
   even_here before after e = end_even all base before (fair_before before after e) made.even
 
-  -- the bytes from the end of the first lines on are those of the others
+  -- the bytes after those of the first lines are the bytes of the other lines
   record Back (before after : List ListingLine) : Type 0 where
     back : List ℕ
     are : AreLineBytes site (end_of base before) after back
@@ -133,7 +133,7 @@ module _ (base : ℕ) (set : Name → ℕ) (all : List ListingLine) (bytes : Lis
   at_start : (a : ℕ) → half_at image (a + 0) ≡ half_at image a
   at_start a = ap (half_at image) (let s : a + 0 ≡ a = omega arith in s)
 
-  -- where an instruction's bytes lie, it is fetched
+  -- an instruction is fetched where its bytes lie
   pub fetched_at : (a : ℕ) (i : Instr) (here rest : List ℕ) → base ≤ a → a < end_of base all → IsInstrBytes i here → ((k : ℕ) → byte_at image (a + k) ≡ slice_index (here ++ rest) k) → IsFetched image a i
   fetched_at a i here rest l h b bytes_are = go (two_or_four i) where
     first : ℕ
@@ -160,7 +160,7 @@ module _ (base : ℕ) (set : Name → ℕ) (all : List ListingLine) (bytes : Lis
           encoded = subst (λ (x : ℕ). Encodes i x (half_at image (a + 2))) (sym low) (subst (λ (y : ℕ). Encodes i b.0 y) (sym high) b.2);
         }
 
-  -- an instruction as it is encoded at its place
+  -- an instruction is fetched as it is encoded at its address
   pub record Coded (at : ℕ) (i : Instr) (mention : Option Mention) (j : Instr) : Type 0 where
     pub plain : mention ≡ None → j ≡ i
     pub aims : (m : Mention) → mention ≡ Some m → Aims at (mention_lies base names all m) i j
@@ -224,7 +224,7 @@ module _ (base : ℕ) (set : Name → ℕ) (all : List ListingLine) (bytes : Lis
   value_small (Number n) = omega arith
   value_small (OfName m) = omega arith
 
-  -- the words of a list, one behind the other
+  -- the words of a list are one after the other
   value_at : (a : ℕ) (vs : List Value) (rest bs : List ℕ) (n : ℕ) → bs ≡ words_bytes names vs ++ rest → ((k : ℕ) → byte_at image (a + k) ≡ slice_index bs k) → (v : Value) → slice_get vs n ≡ Some v → word_at image (a + 4 * n) ≡ word_of_value names v
   value_at a [] rest bs n e b v g = absurd (let bad : None ≡ Some v = g in cc)
   value_at a (u ∷ vs) rest bs zero e b v g =
@@ -242,7 +242,7 @@ module _ (base : ℕ) (set : Name → ℕ) (all : List ListingLine) (bytes : Lis
       ∙ index_back (word_bytes w) (words_bytes names vs ++ rest) k (4 + k) refl)
       v g
 
-  -- the words that stand behind a cut, before anything else
+  -- the words at the beginning of the second part of a cut
   pub record DataAt (before after : List ListingLine) (n : ℕ) : Type 0 where
     pub value : Value
     pub place : slice_get (places_of all) (length (places_of before) + n) ≡ Some (Word value)

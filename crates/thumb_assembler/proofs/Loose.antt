@@ -1,4 +1,4 @@
--- One instruction in two surroundings, of which the first may lead nowhere where the second goes on: it is lost, or does the same.
+-- One instruction in two surroundings, where a word that leads nowhere in the first may lead on in the second: it is lost in the first, or acts alike.
 use Rattle.std.proofs.Common.{◌≡◌, ◌⊎◌, inl, inr, ℕ, ◌%◌, ◌==◌, true, List, [], ◌∷◌, ◌++◌, length, refl, sym, subst, true≢false}
 use Rattle.std.specs.Prelude.{nat_le}
 use Rattle.std.proofs.lemmas.Bool.{cases_Bool}
@@ -13,7 +13,7 @@ use Rattle.thumb_model.specs.Acts.{branches, with_pc, pops, calls_by, popped_wor
 use Rattle.thumb_model.proofs.Tied.{TargetTied, LandingTied, ActTied, act_tied}
 use Rattle.thumb_assembler.specs.Runs.{ends_in_loss}
 
--- the run ends where no code is
+-- the run ends by an event that is a loss
 pub record IsLostAct (a : Act) : Type 0 where
   pub next : a.next ≡ Over
   pub last : ends_in_loss a.events ≡ true
@@ -24,14 +24,14 @@ ends_behind (x ∷ []) [] h = absurd (true≢false (sym h))
 ends_behind (x ∷ []) (y ∷ ys) h = h
 ends_behind (x ∷ (z ∷ xs)) ys h = ends_behind (z ∷ xs) ys h
 
--- what strays is tied to everything
+-- landing nowhere corresponds to every landing
 abbrev pub LandingLoose : (ℕ → ℕ → Type 0) → Landing → Landing → Type 0
 LandingLoose R Strays l = Unit {0}
 LandingLoose R (Goes p) (Goes q) = R p q
 LandingLoose R Leaves Leaves = Unit {0}
 LandingLoose R k l = ⊥
 
--- a row: what the instruction looks at around it is tied
+-- by instruction: the surroundings that it depends on correspond
 abbrev pub LooksLoose : (ℕ → ℕ → Type 0) → Around → Around → Instr → Type 0
 LooksLoose R a b (instr.Bx m) = (word : ℕ) → LandingLoose R (a.lands word) (b.lands word)
 LooksLoose R a b (instr.Blx m) = ((word : ℕ) → LandingLoose R (a.lands word) (b.lands word)) × (a.link ≡ b.link)
@@ -50,7 +50,7 @@ module _ (R : ℕ → ℕ → Type 0) where
   tighten Leaves Leaves h = inr tt
   tighten k l h = absurd h
 
-  -- lands at one place, whatever the word
+  -- the surroundings in which every word lands at this place
   abbrev landing_at : Around → Landing → Around
   landing_at a l = record { target = a.target; literal = a.literal; link = a.link; lands = λ word. l }
 
@@ -63,7 +63,7 @@ module _ (R : ℕ → ℕ → Type 0) where
     ]
   ]
 
-  -- a row: an instruction is lost, or does the same in both
+  -- by instruction: it is lost in the first, or acts alike in both
   pub act_loose : (a b : Around) (i : Instr) (w : World) → LooksLoose R a b i → IsLostAct (act a i w) ⊎ ActTied R (act a i w) (act b i w)
   act_loose a b (instr.Bx m) w h = elim (tighten (a.lands (w.values m.number)) (b.lands (w.values m.number)) (h (w.values m.number))) [
     | inl e ↦ inl (subst (λ (l : Landing). IsLostAct (branches l (w.values m.number) w)) (sym e) (record { next = refl; last = refl }))

@@ -1,4 +1,4 @@
--- The image's run meets the listing's.
+-- The image's run does what the listing's does: the proof of the promise, one step at a time.
 use Rattle.std.proofs.Common.{◌≡◌, ◌∙◌, ◌⊎◌, inl, inr, ℕ, zero, suc, ◌+◌, ◌%◌, ◌^◌, ◌≤◌, true, false, List, [], ◌∷◌, ◌++◌, length, refl, sym, ap, subst, arith, true≢false, Option, Some, None, IsSome, append-nil}
 use Rattle.std.specs.Prelude.{slice_get}
 use Rattle.thumb_model.proofs.Follow.{alike_on}
@@ -34,7 +34,7 @@ no_wrap : (a size : ℕ) → a ≤ 2 ^ 29 → (size ≡ 2) ⊎ (size ≡ 4) → 
 no_wrap a size h (inl e) = omega arith
 no_wrap a size h (inr e) = omega arith
 
--- where a run ended by its last event
+-- a run is lost after an act that is lost
 lost_by : (q y : ℕ) (a : Act) (s : State) → IsLostAct a → IsLost (does q y a s)
 lost_by q y a s l = record { ended = ap (arrives q y) l.next; last = ends_behind s.events a.events l.last }
 
@@ -65,7 +65,7 @@ module _ (base : ℕ) (set : Name → ℕ) (all : List ListingLine) (bytes : Lis
     events : s.events ≡ t.events
     at : AtTied s.at t.at
 
-  -- the listing's run is lost, or the image's comes there
+  -- the listing's run is lost, or the image's run reaches a corresponding state
   record Comes (s t : State) : Type 0 where
     steps : ℕ
     to : State
@@ -145,7 +145,7 @@ module _ (base : ℕ) (set : Name → ℕ) (all : List ListingLine) (bytes : Lis
         tied = r.tied;
       }
 
-  -- where no instruction is, the listing's run is lost
+  -- where there is no instruction, the listing's run is lost
   doomed : (q : ℕ) → is_op_place (slice_get (places_of all) q) ≡ false → (w : World) (es : List Event) → IsLost (step names code (state w (Here q) es))
   doomed q d w es = by (slice_get (places_of all) q) refl where
     by : (o : Option Place) → slice_get (places_of all) q ≡ o → IsLost (step_on (laid base set all) (code_of all) q o (record { world = w; at = Here q; events = es }))
@@ -209,7 +209,7 @@ module _ (base : ℕ) (set : Name → ℕ) (all : List ListingLine) (bytes : Lis
 pub images_follow : ImagesFollow
 images_follow base set lines bytes made given fits = follows base set lines bytes made given fits
 
--- ---- the image of a rewritten listing against the given one ----
+-- ---- the image of a rewritten listing, compared with the given listing ----
 
 is_ended : (a : Position) → has_ended a ≡ true → a ≡ Ended
 is_ended Ended e = refl

@@ -1,4 +1,4 @@
--- Where names lie, what words they stand for, and that what a fair instruction mentions lies within reach.
+-- The addresses of names, and the words that names stand for.
 use Rattle.std.proofs.Common.{◌≡◌, ◌∙◌, inl, inr, ℕ, ◌+◌, ◌-◌, ◌*◌, ◌/◌, ◌%◌, ◌^◌, ◌<◌, ◌≤◌, ◌==◌, ◌&&◌, Bool, true, false, List, [], ◌∷◌, length, refl, sym, ap, subst, arith, true≢false, Option, Some, None, is_some, eqb-true, if◌then◌else◌}
 use Rattle.std.specs.Prelude.{nat_le, nat_lt}
 use Rattle.std.proofs.lemmas.Bool.{cases_Bool, and_parts, leb-true, ltb-true}
@@ -26,7 +26,7 @@ fixed_is (Some a) (Some p) s x w h e = let same : Some (a + 1) ≡ Some w = e in
 pub word_is : (base : ℕ) (all : List ListingLine) (set : Name → ℕ) (name : Name) (w : ℕ) → IsSetBy all set → fixed_word base all name ≡ Some w → (laid base set all).word_of name ≡ w
 word_is base all set name w h e = fixed_is (label_address name base all) (place_of (code_of all) name) (set_address name all) (set name) w (h name) e
 
--- ---- where names lie ----
+-- ---- addresses of names ----
 
 lies_is : (names : Naming) (a s p : Option ℕ) (x to : ℕ) → ((address : ℕ) → s ≡ Some address → x ≡ address) → or_else a (cleared s) ≡ Some to → lies_at names a (word_by x a p) ≡ to
 lies_is names (Some a) s p x to h e = let same : Some a ≡ Some to = e in cc
@@ -90,7 +90,7 @@ lies_even_by None (Some v) to h e = let same : Some (v / 2 * 2) ≡ Some to = e 
 pub lies_even : (base : ℕ) (all : List ListingLine) (name : Name) (to : ℕ) → are_fair all all ≡ true → base % 2 ≡ 0 → lies_in base all name ≡ Some to → to % 2 ≡ 0
 lies_even base all name to f h e = lies_even_by (label_address name base all) (set_address name all) to (λ n g. label_even all name base n all f h g) e
 
--- ---- what an instruction mentions is there ----
+-- ---- what an instruction mentions has an address ----
 
 pub unlabelled : (name : Name) (at : ℕ) (ls : List ListingLine) → label_address name at ls ≡ None → from_label name ls ≡ []
 unlabelled name at [] e = refl
@@ -120,7 +120,7 @@ literal_found base all m c e =
     let b = and_parts (nat_le m.plus 1020) (reaches (from_label m.name all) (m.plus / 4)) a.1 in
     true≢false (sym b.1 ∙ ap (λ (ls : List ListingLine). reaches ls (m.plus / 4)) none)
 
--- an instruction that mentions a name which lies nowhere is a branch or a call
+-- an instruction that mentions a name without an address is a branch or a call
 pub lost_leaves : (base : ℕ) (all : List ListingLine) (i : Instr) (m : Mention) → is_fair all (Instruction i (Some m)) ≡ true → lies_in base all m.name ≡ None → may_leave i ≡ true
 lost_leaves base all i m f e = by i f where
   by : (j : Instr) → is_fair all (Instruction j (Some m)) ≡ true → may_leave j ≡ true
@@ -131,7 +131,7 @@ lost_leaves base all i m f e = by i f where
   by (instr.Address t d) g = absurd (literal_found base all m (and_parts (is_whole (instr.Address t d) (label_in (Some m))) (is_literal all m) g).1 e)
   by j g = absurd (true≢false (sym g))
 
--- ---- what is mentioned is reached ----
+-- ---- what is mentioned is in reach ----
 
 pub record Reach (at to : ℕ) (i : Instr) : Type 0 where
   pub fault : aim_fault at i (Some to) 0 ≡ None
@@ -186,7 +186,7 @@ branch_reach half at to plus i few low even z e f =
     let limit = branch_limit half at to e in
     record { fault = subst (λ (n : ℕ). aim_fault at i (Some n) 0 ≡ None) same f; even = omega arith; small = omega arith }
 
--- what a fair instruction mentions is within reach, where the layout finds no fault
+-- what a fair instruction mentions is in reach, where the layout has no fault
 reach : (all : List ListingLine) (at to : ℕ) (i : Instr) (m : Mention) → at ≤ 2 ^ 29 → to % 2 ≡ 0 → is_fair all (Instruction i (Some m)) ≡ true → aim_fault at i (Some to) m.plus ≡ None → Reach at (to + m.plus) i
 reach all at to i m low even f e = by i f e where
   by : (j : Instr) → is_fair all (Instruction j (Some m)) ≡ true → aim_fault at j (Some to) m.plus ≡ None → Reach at (to + m.plus) j
@@ -197,7 +197,7 @@ reach all at to i m low even f e = by i f e where
   by (instr.Call d) g h = branch_reach 8388608 at to m.plus (instr.Call d) (omega arith) low even (no_plus (d.field == 0) m.name m.plus (and_parts (is_whole (instr.Call d) (label_in (Some m))) (is_aimed all (instr.Call d) m) g).0) h h
   by j g h = absurd (true≢false (sym g))
 
--- the name's bytes, and where it was found
+-- the mentioned name, given by equal bytes, has the address that was found
 pub found_there : (base : ℕ) (all : List ListingLine) (m : Mention) (name : Name) (o : Option ℕ) → name ≡ m.name → o ≡ lies_in base all name → lies_in base all m.name ≡ o
 found_there base all m name o e f = ap (lies_in base all) (sym e) ∙ sym f
 

@@ -1,4 +1,4 @@
--- The bytes that each statement appends are those that the definition of an image asks for.
+-- What is appended for each kind of statement is the statement's bytes.
 use Rattle.std.proofs.Common.{◌≡◌, ◌∙◌, ℕ, ◌+◌, ◌*◌, ◌/◌, ◌%◌, ◌^◌, ◌<◌, ◌&&◌, ◌||◌, Bool, true, false, not, List, [], ◌∷◌, ◌++◌, length, refl, sym, ap, subst, arith, Option, Some, None, Result, Ok, Err, is_some, append_assoc, length-append, append-nil, if◌then◌else◌}
 use Rattle.std.proofs.Math.Bool.{and-false}
 use Rattle.thumb_instr.specs.declared.instr.Instr.{Instr}
@@ -52,7 +52,7 @@ number_pushed base all n old new l e =
     let same : n ≡ n % 2 ^ 32 = omega arith in
     record { found = refl; pushed = λ set h. e ∙ ap (λ (w : ℕ). old ++ word_bytes w) same; long = grown old new (word_bytes n) e }
 
--- the first words were appended
+-- the words so far were appended
 pub record Front (base : ℕ) (all : List ListingLine) (vs : List Value) (old : List ℕ) (left : List Value) (now : List ℕ) : Type 0 where
   pub found : values_lost base all vs ≡ values_lost base all left
   pub pushed : (set : Name → ℕ) → IsSetBy all set → now ++ words_bytes (laid base set all) left ≡ old ++ words_bytes (laid base set all) vs

@@ -1,4 +1,4 @@
--- From an address the image's machine comes to a place of the listing, past padding.
+-- From the address of a place of the listing, the image's machine reaches the place's instruction past padding, which it executes as `nop`.
 use Rattle.std.proofs.Common.{◌≡◌, ◌∙◌, ◌⊎◌, inl, inr, ℕ, zero, suc, ◌+◌, ◌-◌, ◌*◌, ◌/◌, ◌%◌, ◌<◌, ◌≤◌, ◌==◌, ◌&&◌, not, Bool, true, false, List, [], ◌∷◌, ◌++◌, length, map, take, refl, sym, ap, subst, arith, true≢false, Option, Some, None, append_assoc, append-nil, eqb-true, min}
 use Rattle.std.specs.Prelude.{slice_get, nat_lt, nat_le, if◌then◌else◌}
 use Rattle.std.specs.Str.{bytes_eq}
@@ -42,7 +42,7 @@ module _ (base : ℕ) (set : Name → ℕ) (all : List ListingLine) (bytes : Lis
     there : (before after : List ListingLine) (l : ListingLine) (i : Instr) (mention : Option Mention) (x : ℕ) → all ≡ before ++ l ∷ after → l.statement ≡ Instruction i mention → length (places_of before) ≡ q → end_of base before ≡ x → Slides q x
     slid : (x : ℕ) → IsFetched image x (instr.Hint hint.Nop) → Slides q (x + 2) → Slides q x
 
-  -- or no instruction is at the place
+  -- or the place has no instruction
   abbrev pub Arrives : ℕ → ℕ → Type 0
   Arrives q x = (is_op_place (slice_get (places_of all) q) ≡ false) ⊎ Slides q x
 
@@ -79,12 +79,12 @@ module _ (base : ℕ) (set : Name → ℕ) (all : List ListingLine) (bytes : Lis
       (subst (λ (q : ℕ). Arrives q (end_of base (before ++ l ∷ []))) (let e : length (places_of (before ++ l ∷ [])) ≡ length (places_of before) = omega arith in e) next)
   slides_by before after l e next s is = pass before l (ap (λ (t : Statement). length (places_in t)) is) (ap (λ (t : Statement). size_at t (end_of base before)) is) next
 
-  -- a cut of the lines is one of the places and one of the addresses
+  -- the address where the second part of a cut begins leads to the place where it begins
   pub slides_from : (after before : List ListingLine) → all ≡ before ++ after → Arrives (length (places_of before)) (end_of base before)
   slides_from [] before e = inl (ap is_op_place (ap (λ (ls : List ListingLine). slice_get (places_of ls) (length (places_of before))) e ∙ first_behind before []))
   slides_from (l ∷ after) before e = slides_by before after l e (slides_from after (before ++ l ∷ []) (next_cut all before after l e)) l.statement refl
 
-  -- where an instruction is to come, the address is one of the image
+  -- an address that leads to an instruction is in the image
   slides_within : (q x : ℕ) → Slides q x → (base ≤ x) × (x < end_of base all)
   slides_within q _ (there before after l i mention x e s p a) =
       let f = fetched_here base set all bytes made given before after l i mention e s in
@@ -96,7 +96,7 @@ module _ (base : ℕ) (set : Name → ℕ) (all : List ListingLine) (bytes : Lis
   arrives_within q x o (inl h) = absurd (true≢false (sym o ∙ h))
   arrives_within q x o (inr s) = slides_within q x s
 
-  -- the range of code reaches from the base past the end
+  -- the range of code extends from the base to at least the end
   high_past : end_of base all ≤ names.high
   high_past = by _ where
     by : (b : Bool) → end_of base all ≤ (if b then end_of base all + 2 else end_of base all)
@@ -123,7 +123,7 @@ module _ (base : ℕ) (set : Name → ℕ) (all : List ListingLine) (bytes : Lis
   pub label_is : (name : Name) → place_of code name ≡ code_place (places_of all) (label_place name (labels_from 0 all))
   label_is name = one_label name (places_of all) 1 0 [] all (once_none all made.listed.once)
 
-  -- a code label has an address, from which the machine comes to its place
+  -- a code label has an address, from which the machine reaches its place
   pub label_found : (name : Name) (p : ℕ) → place_of code name ≡ Some p → (a : ℕ) × (label_address name base all ≡ Some a) × CodeLabel name p a
   label_found name p e = by (label_address name base all) refl where
     at : (label_place name (labels_from 0 all) ≡ Some p) × (is_op_place (slice_get (places_of all) p) ≡ true)
@@ -146,7 +146,7 @@ module _ (base : ℕ) (set : Name → ℕ) (all : List ListingLine) (bytes : Lis
 
   -- ---- code points ----
 
-  -- the word of a point is the address that leads to its place, with bit 0 set
+  -- the word of a code point is the address that leads to its place, with bit 0 set
   abbrev PointIs : ℕ → ℕ → Type 0
   PointIs w p = (x : ℕ) × (w ≡ x + 1) × Arrives p x
 
@@ -215,7 +215,7 @@ module _ (base : ℕ) (set : Name → ℕ) (all : List ListingLine) (bytes : Lis
   pub place_here : (before after : List ListingLine) (l : ListingLine) (i : Instr) (mention : Option Mention) → all ≡ before ++ l ∷ after → l.statement ≡ Instruction i mention → slice_get (places_of all) (length (places_of before)) ≡ Some (Op i mention)
   place_here before after l i mention e s = ap (λ (ls : List ListingLine). slice_get (places_of ls) (length (places_of before))) e ∙ first_behind before (l ∷ after) ∙ first_op l after i mention s
 
-  -- a call's return word is that of the address behind it
+  -- a call's return word is the address after it, with bit 0 set
   pub return_here : (before after : List ListingLine) (l : ListingLine) (i : Instr) (mention : Option Mention) → all ≡ before ++ l ∷ after → l.statement ≡ Instruction i mention → is_call_instr i ≡ true
       → names.return_word (call_count (take (length (places_of before)) (places_of all))) ≡ end_of base before + instr_size i + 1
   return_here before after l i mention e s c =

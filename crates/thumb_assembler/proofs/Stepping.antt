@@ -1,4 +1,4 @@
--- A step at an instruction of an image is the definition's.
+-- The machine's step at an instruction of an image is the model's step.
 use Rattle.std.proofs.Common.{◌≡◌, ℕ, ◌∙◌, List, [], ◌∷◌, ◌++◌, Some, Result, Ok, Err, refl, sym, ap, subst, append_assoc}
 use Rattle.std.specs.Prelude.{IfOk, OnErr}
 use Rattle.thumb_instr.specs.declared.instr.Instr.{Instr}
@@ -26,11 +26,11 @@ use Rattle.thumb_assembler.specs.declared.machine.ImageMachine.{ImageMachine}
 use Rattle.thumb_assembler.specs.Machines.{EndedBy, IsStage, LeadsTo, Stepped, Steps, at_of, loaded_of, state_of}
 use Rattle.thumb_assembler.specs.Runs.{Loaded, stays, acts, falls_out, IsFetched, act_in, around_in, following, literal_in, lands_at, target_in}
 
--- what is around an instruction, as the code has it
+-- the surroundings of an instruction that the code computes are the model's
 pub around_is : (m : Loaded) (a : ℕ) (i : Instr) (around : Around) → target_of around.target ≡ target_in m a i → around.literal ≡ literal_in m a i → around.link ≡ set_bit (following a i) → around_of around (lands_at m) ≡ around_in m a i
 around_is m a i around t l k = λ n. record { target = t n; literal = l n; link = k n; lands = lands_at m }
 
--- a run that is over after an instruction ended by its last event
+-- a run that ended at an instruction has the event of its end as its last
 ended_by : (n : Continuation) (old new : Position) (a b : ℕ) (before es all : List model.Event) → old ≡ at.Here a → at_of new ≡ arrives a b (next_of n) → LeadsTo n new → EndsBy n es → all ≡ before ++ es → EndedBy old new all
 ended_by n old (at.Here q) a b before es all here arrived leads ends told = tt
 ended_by next.On old (at.Ended e) a b before es all here arrived leads ends told = absurd (cc)
@@ -41,7 +41,7 @@ ended_by (next.Over d) old (at.Ended e) a b before es all here arrived leads end
     let split : all ≡ (before ++ ends.0) ++ ends.1 ∷ [] = told ∙ ap (λ l. before ++ l) ends.2 ∙ sym (append_assoc before ends.0 (ends.1 ∷ [])) in
     subst (λ (o : Position). EndedBy o (at.Ended e) all) (sym here) (before ++ ends.0, ends.1, split, ends.3 ∙ ap (λ (x : End). Some x) (sym same))
 
--- what is known of a step at an instruction
+-- what the contracts give about a step at an instruction
 pub record Done (old : ImageMachine) (before : List Answer) (a : ℕ) (i : Instr) (n : Continuation) (middle : World) (new : ImageMachine) (left : List Answer) (s : Stage) : Type 0 where
   pub here : old.at ≡ at.Here a
   pub fetched : IsFetched (loaded_of old.image) a i
@@ -78,7 +78,7 @@ ends_again (at.Here a) e es h = absurd (cc)
 stage_again : (here : Position) (e : End) (s : Stage) → here ≡ at.Ended e → s ≡ stage_of e → IsStage s model.Over here
 stage_again here e s h t = subst (λ (x : Position). IsStage s model.Over x) (sym h) t
 
--- an ended machine stays
+-- an ended machine stays ended
 pub ended_step : (m : ImageMachine) (left : List Answer) (e : End) (s : Stage) → m.at ≡ at.Ended e → s ≡ stage_of e → Stepped m left m left s
 ended_step m left e s h t = record {
   next = model.Over;
@@ -92,7 +92,7 @@ ended_step m left e s h t = record {
 fallen_at : (old new : Position) (a : ℕ) (es : List model.Event) → old ≡ at.Here a → new ≡ at.Ended end.Fell → EndedBy old new (es ++ (model.Fell ∷ []))
 fallen_at old new a es h e = subst (λ (x : Position). EndedBy x new (es ++ (model.Fell ∷ []))) (sym h) (subst (λ (y : Position). EndedBy (at.Here a) y (es ++ (model.Fell ∷ []))) (sym e) (es, model.Fell, refl, refl))
 
--- where nothing is fetched, the run falls out
+-- where no instruction is fetched, the run falls out of the code
 pub fall_step : (old new : ImageMachine) (left : List Answer) (a : ℕ) (s : Stage) → old.at ≡ at.Here a → ((i : Instr) → IsFetched (loaded_of old.image) a i → ⊥) → Changed [] (memory_of old.world.memory) (model.Fell ∷ []) old.world new.world → s ≡ stage.Fell
     → new.at ≡ at.Ended end.Fell → Stepped old left new left s
 fall_step old new left a s h none c t e = record {
@@ -104,7 +104,7 @@ fall_step old new left a s h none c t e = record {
   ends = subst (λ (es : List model.Event). EndedBy old.at new.at es) (sym c.events) (fallen_at old.at new.at a (events_of old.world.events.items) h e);
 }
 
--- what comes of a step where nothing is fetched
+-- the machine's step where no instruction is fetched
 pub fall_steps : {E : Type 0} (old new : ImageMachine) (left : List Answer) (a : ℕ) (r : Result Stage E) → old.at ≡ at.Here a → ((i : Instr) → IsFetched (loaded_of old.image) a i → ⊥) → Changes [] (memory_of old.world.memory) (model.Fell ∷ []) old.world new.world r
     → IfOk r (λ s. (s ≡ stage.Fell) × (new.at ≡ at.Ended end.Fell)) → OnErr r (new.at ≡ old.at) → Steps old left new left r
 fall_steps old new left a (Ok s) h none c t k = fall_step old new left a s h none c t.0 t.1

@@ -1,4 +1,4 @@
--- What the image of a listing is, byte by byte, and the first line by which there is none.
+-- The bytes of a listing's image, and the first line that prevents an image.
 use Rattle.std.specs.Prelude.{◌≡◌, ℕ, zero, suc, ◌+◌, ◌*◌, ◌/◌, ◌%◌, ◌<◌, List, [], ◌∷◌, ◌++◌, take, Option, Some, None, ◌&&◌, ◌||◌, not, nat_le, nat_lt, Bool, true, false, is_some, if◌then◌else◌}
 use Rattle.thumb_instr.specs.declared.instr.Instr.{Instr}
 use Rattle.thumb_instr.specs.declared.instr.Instr.TheVariants as instr
@@ -30,7 +30,7 @@ nops zero = []
 nops (suc zero) = []
 nops (suc (suc n)) = 0 ∷ 191 ∷ nops n
 
--- an instruction as it is encoded at an address: its distance is that to where what it mentions lies
+-- an instruction as it is encoded at an address: its distance leads to the address of what it mentions
 abbrev pub Aims : ℕ → ℕ → Instr → Instr → Type 0
 Aims at to (instr.Literal t d) j = (e : Within 0 256) × (to ≡ literal_base at + 4 * e.number) × (j ≡ instr.Literal t e)
 Aims at to (instr.Address t d) j = (e : Within 0 256) × (to ≡ literal_base at + 4 * e.number) × (j ≡ instr.Address t e)
@@ -39,7 +39,7 @@ Aims at to (instr.Branch d) j = (e : Distance 1024) × (distance at to ≡ bytes
 Aims at to (instr.Call d) j = (e : Distance 8388608) × (distance at to ≡ bytes_of 8388608 e.field) × (j ≡ instr.Call e)
 Aims at to i j = j ≡ i
 
--- where what is mentioned lies
+-- the address of what is mentioned
 abbrev pub lies_at : Naming → Option ℕ → ℕ → ℕ
 lies_at names (Some a) word = a
 lies_at names None word = word / 2 * 2
@@ -56,13 +56,13 @@ words_bytes names (v ∷ vs) = word_bytes (word_of_value names v) ++ words_bytes
 abbrev pub IsInstrBytes : Instr → List ℕ → Type 0
 IsInstrBytes i bytes = (first : ℕ) × (second : ℕ) × Encodes i first second × (first < 65536) × (second < 65536) × (bytes ≡ take (instr_size i) (half_bytes first ++ half_bytes second))
 
--- the base, naming and lines of a listing that is laid out, which decide where names lie
+-- a listing that is laid out at a base, with what its names stand for
 pub record Laid : Type 0 where
   pub base : ℕ
   pub names : Naming
   pub lines : List ListingLine
 
--- the bytes of an instruction at an address: as it stands where it mentions nothing
+-- the bytes of an instruction at an address: unchanged where it mentions nothing
 abbrev pub IsEncoded : Laid → ℕ → Instr → Option Mention → List ℕ → Type 0
 IsEncoded laid at i None bytes = IsInstrBytes i bytes
 IsEncoded laid at i (Some m) bytes = (j : Instr) × Aims at (mention_lies laid.base laid.names laid.lines m) i j × IsInstrBytes j bytes
@@ -84,7 +84,7 @@ AreLineBytes laid at (l ∷ ls) bytes = (here : List ℕ) × (rest : List ℕ) �
 abbrev pub IsImage : ℕ → (Name → ℕ) → List ListingLine → List ℕ → Type 0
 IsImage base set all bytes = AreLineBytes (record { base = base; names = laid base set all; lines = all }) base all bytes
 
--- what stands for external names is what the lines set for them, where they set it
+-- external names stand for the addresses that the lines set, where they set them
 abbrev pub IsSetBy : List ListingLine → (Name → ℕ) → Type 0
 IsSetBy lines set = (name : Name) (address : ℕ) → set_address name lines ≡ Some address → set name ≡ address
 
@@ -92,13 +92,13 @@ IsSetBy lines set = (name : Name) (address : ℕ) → set_address name lines ≡
 abbrev pub AreImage : ℕ → List ListingLine → List ℕ → Type 0
 AreImage base lines bytes = (set : Name → ℕ) → IsSetBy lines set → IsImage base set lines bytes
 
--- The first line by which a listing has no image.
+-- The first line because of which a listing has no image.
 
--- a name lies nowhere where no label has it and no line sets its address
+-- a name has no address where no label has it and no line sets its address
 abbrev pub lies_nowhere : ℕ → List ListingLine → Name → Bool
 lies_nowhere base all name = not (is_some (lies_in base all name))
 
--- B and BL: they go to a name that may be external
+-- B and BL: their name may be external
 abbrev pub may_leave : Instr → Bool
 may_leave (instr.Branch d) = true
 may_leave (instr.Call d) = true
@@ -116,11 +116,11 @@ abbrev pub values_lost : ℕ → List ListingLine → List Value → Bool
 values_lost base all [] = false
 values_lost base all (v ∷ vs) = value_lost base all v || values_lost base all vs
 
--- an address lies in the image where it lies from the base up to and not including the end
+-- an address lies in the image: it is at least the base and below the end
 abbrev pub lies_inside : ℕ → List ListingLine → ℕ → Bool
 lies_inside base all address = nat_le base address && nat_lt address (end_of base all)
 
--- why a statement has no place in the image: it mentions in `b`, `bl` or `.word` a name that lies nowhere, or sets an address in the image
+-- why a statement has no bytes: it mentions in `b`, `bl` or `.word` a name without an address, or sets an address in the image
 abbrev pub flaw_of : ℕ → List ListingLine → Statement → Option Flaw
 flaw_of base all Nothing = None
 flaw_of base all (Instruction i mention) = if branch_lost base all i mention then Some flaw.NoAddress else None
@@ -128,7 +128,7 @@ flaw_of base all (Words vs) = if values_lost base all vs then Some flaw.NoAddres
 flaw_of base all (Aligns size most) = None
 flaw_of base all (Sets name address) = if lies_inside base all address then Some flaw.Inside else None
 
--- the first line with a flaw, by its number
+-- the flaw of line n where it has one, else the first flaw of the lines after it
 abbrev pub or_first : ℕ → Option Flaw → Option (ℕ × Flaw) → Option (ℕ × Flaw)
 or_first n None rest = rest
 or_first n (Some f) rest = Some (n, f)
@@ -137,11 +137,11 @@ abbrev pub flaws_from : ℕ → List ListingLine → ℕ → List ListingLine �
 flaws_from base all n [] = None
 flaws_from base all n (l ∷ ls) = or_first n (flaw_of base all l.statement) (flaws_from base all (n + 1) ls)
 
--- the first of all, lines counting from 1
+-- the first flaw of all lines, counted from 1
 abbrev pub first_flaw : ℕ → List ListingLine → Option (ℕ × Flaw)
 first_flaw base all = flaws_from base all 1 all
 
--- the error that is reported: the flaw of the first line that has one, and that line's number
+-- the error is that of the first line with a flaw; memory may run out anywhere
 abbrev pub IsRefusal : ℕ → List ListingLine → ImageError → Type 0
 IsRefusal base all (error.NoAddress line) = first_flaw base all ≡ Some (line, flaw.NoAddress)
 IsRefusal base all (error.Inside line) = first_flaw base all ≡ Some (line, flaw.Inside)

@@ -1,4 +1,4 @@
--- What a machine over an image holds, and what its step does.
+-- The state of the model that a machine over an image is in, and what its step does.
 use Rattle.std.specs.Prelude.{◌≡◌, ℕ, List, ◌∷◌, ◌++◌, [], Some, Result, Ok, Err}
 use Rattle.thumb_machine.specs.declared.answers.Answer.{Answer}
 use Rattle.thumb_machine.specs.declared.machine.Stage.{Stage}
@@ -37,7 +37,7 @@ at_of (at.Ended e) = Ended
 abbrev pub state_of : ImageMachine → List Answer → State
 state_of m left = record { world = world_of m.world left; at = at_of m.at; events = events_of m.world.events.items }
 
--- the machine and the answers that are left are in a state
+-- the machine and the unread answers represent a state
 pub record Stands (s : State) (m : ImageMachine) (left : List Answer) : Type 0 where
   pub values : values_of m.world.registers ≡ s.world.values
   pub memory : memory_of m.world.memory ≡ s.world.memory
@@ -45,7 +45,7 @@ pub record Stands (s : State) (m : ImageMachine) (left : List Answer) : Type 0 w
   pub address : at_of m.at ≡ s.at
   pub events : events_of m.world.events.items ≡ s.events
 
--- the machine is at the beginning: memory is 0 but for the bytes that were given
+-- the machine is at the beginning: memory is 0 except for the bytes that were given
 pub record Starts (s : Start) (first : ℕ) (m : ImageMachine) : Type 0 where
   pub values : values_of m.world.registers ≡ start_values s
   pub memory : memory_of m.world.memory ≡ with_bytes s.bytes (λ a. 0)
@@ -54,7 +54,7 @@ pub record Starts (s : Start) (first : ℕ) (m : ImageMachine) : Type 0 where
 
 -- ---- steps ----
 
--- the stage that a step reports: it goes on, waits for want of answers, or ends the run
+-- the stage that a step reports: going on, waiting for answers, or ended in this way
 abbrev pub IsStage : Stage → model.Continuation → Position → Type 0
 IsStage s model.On here = s ≡ stage.Going
 IsStage s (model.To p) here = s ≡ stage.Going
@@ -62,14 +62,14 @@ IsStage s model.Stay here = s ≡ stage.Wants
 IsStage s model.Over (at.Here a) = ⊥
 IsStage s model.Over (at.Ended e) = s ≡ stage_of e
 
--- where a run is after an instruction that goes on so
+-- where a run is after an instruction with this continuation
 abbrev pub LeadsTo : Continuation → Position → Type 0
 LeadsTo next.On here = Unit {0}
 LeadsTo next.Stay here = Unit {0}
 LeadsTo (next.To a) here = Unit {0}
 LeadsTo (next.Over e) here = here ≡ at.Ended e
 
--- a run that ended just now ended by its last event
+-- a run that has just ended has the event of its end as its last
 abbrev pub EndedBy : Position → Position → List model.Event → Type 0
 EndedBy old (at.Here a) es = Unit {0}
 EndedBy (at.Ended d) (at.Ended e) es = d ≡ e
@@ -83,7 +83,7 @@ pub record Stepped (old : ImageMachine) (before : List Answer) (new : ImageMachi
   pub stage : IsStage s next new.at
   pub ends : EndedBy old.at new.at (events_of new.world.events.items)
 
--- a step as the definition has it, or no change for want of memory
+-- a step as the model defines it, or no change if memory runs out
 abbrev pub Steps : {E : Type 0} → ImageMachine → List Answer → ImageMachine → List Answer → Result Stage E → Type 0
 Steps old before new left (Ok s) = Stepped old before new left s
 Steps old before new left (Err e) = Stands (state_of old before) new left

@@ -1,4 +1,4 @@
--- What it means that the bytes of a statement were appended to those of the lines before.
+-- What appending the bytes of a statement ensures: the contracts of the functions that push.
 use Rattle.std.specs.Prelude.{◌≡◌, ℕ, ◌+◌, ◌*◌, true, false, List, ◌++◌, length, Result, Ok, Err, None, Some}
 use Rattle.thumb_instr.specs.declared.instr.Instr.{Instr}
 use Rattle.thumb_model.specs.Listing.{Name, Value, Statement, ListingLine}
@@ -11,7 +11,7 @@ use Rattle.thumb_assembler.specs.declared.errors.Flaw.TheVariants as flaw
 use Rattle.thumb_assembler.specs.declared.errors.ImageError.{ImageError}
 use Rattle.thumb_assembler.specs.declared.errors.ImageError.TheVariants as error
 
--- lines laid from a base, with what stands for external names
+-- lines laid out at a base, with what external names stand for
 abbrev pub placed : ℕ → (Name → ℕ) → List ListingLine → Laid
 placed base set all = record { base = base; names = laid base set all; lines = all }
 
@@ -28,13 +28,13 @@ pub record Pushed (l : Laid) (at : ℕ) (s : Statement) (old new : List ℕ) : T
   pub are : IsStatementBytes l at s here
   pub pushed : new ≡ old ++ here
 
--- whatever stands for external names, as long as it is what the lines set
+-- so it is for every choice of what external names stand for that agrees with the addresses that the lines set
 pub record PushedLaid (base : ℕ) (all : List ListingLine) (at : ℕ) (s : Statement) (old new : List ℕ) : Type 0 where
   pub sound : flaw_of base all s ≡ None
   pub pushed : (set : Name → ℕ) → IsSetBy all set → Pushed (placed base set all) at s old new
   pub long : length new ≡ length old + size_at s at
 
--- a statement's bytes were appended, or it has a flaw
+-- a statement's bytes were appended, or it has this flaw
 abbrev pub Pushes : {T : Type 0} → ℕ → List ListingLine → ℕ → Statement → List ℕ → List ℕ → Result T Flaw → Type 0
 Pushes base all at s old new (Ok t) = PushedLaid base all at s old new
 Pushes base all at s old new (Err flaw.NoAddress) = flaw_of base all s ≡ Some flaw.NoAddress
@@ -64,7 +64,7 @@ PushesValues base all vs old new (Err flaw.NoAddress) = values_lost base all vs 
 PushesValues base all vs old new (Err flaw.Inside) = ⊥
 PushesValues base all vs old new (Err flaw.Memory) = Unit {0}
 
--- the error that reports a flaw at a line
+-- the error that reports a flaw of a line
 abbrev pub told_at : Flaw → ℕ → ImageError
 told_at flaw.NoAddress line = error.NoAddress line
 told_at flaw.Inside line = error.Inside line

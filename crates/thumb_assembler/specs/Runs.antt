@@ -1,4 +1,4 @@
--- Runs of an image, and which run of the lines each follows.
+-- Runs of an image, and which run of the listing each follows.
 use Rattle.std.specs.Prelude.{◌≡◌, ℕ, zero, suc, ◌+◌, ◌-◌, ◌*◌, ◌%◌, ◌^◌, ◌&&◌, Bool, true, nat_le, nat_lt, List, length, slice_index, ℤ, pos, negsuc, if◌then◌else◌, ◌≤◌, false, [], ◌∷◌, None, IsSome}
 use Rattle.thumb_instr.specs.declared.instr.Instr.{Instr}
 use Rattle.thumb_instr.specs.declared.instr.Instr.TheVariants as instr
@@ -14,7 +14,7 @@ use Rattle.thumb_model.specs.Same.{Alike, here_or_ended, begun}
 use Rattle.listing_parser.specs.Parsing.{IsListing, text_of_lines}
 use Rattle.thumb_assembler.specs.Bytes.{AreImage, first_flaw}
 
--- The machine that runs an image: the listing's acts, with addresses for places.
+-- The machine that runs an image: instructions act as in the listing, with addresses in place of the listing's places.
 
 -- an image in memory, and where its code ends
 pub record Loaded : Type 0 where
@@ -22,7 +22,7 @@ pub record Loaded : Type 0 where
   pub bytes : List ℕ
   pub high : ℕ
 
--- ---- what stands in it: a byte outside is 0 ----
+-- ---- memory: a byte outside the image is 0 ----
 
 abbrev pub byte_at : Loaded → ℕ → ℕ
 byte_at m a = if nat_le m.base a then slice_index m.bytes (a - m.base) else 0
@@ -39,16 +39,16 @@ word_at m a = half_at m a + 65536 * half_at m (a + 2)
 abbrev pub is_code_address : Loaded → ℕ → Bool
 is_code_address m a = nat_le m.base a && nat_lt a m.high
 
--- an indirect branch: an odd word, with bit 0 cleared, goes there if code may stand there, and else out; an even word leads nowhere
+-- a branch to a word from a register or memory: an odd word leads to the even address below it, in the code or outside; an even one leads nowhere
 abbrev pub lands_at : Loaded → ℕ → Landing
 lands_at m word = if is_odd word then (if is_code_address m (word - 1) then Goes (word - 1) else Leaves) else Strays
 
--- where a distance leads from an instruction
+-- the address that is a distance away from an instruction
 abbrev pub aim_from : ℕ → ℤ → ℕ
 aim_from a (pos n) = (a + 4 + n) % 2 ^ 32
 aim_from a (negsuc n) = (a + 4 + (2 ^ 32 - (n + 1))) % 2 ^ 32
 
--- a direct branch goes to its address where code may stand there, else out to the word that is the address with bit 0 set
+-- a direct branch out of the code is an exit with the target's address, with bit 0 set
 abbrev pub goes_to : Loaded → ℕ → Target
 goes_to m a = if is_code_address m a then Inside a else External (set_bit a)
 
@@ -66,36 +66,36 @@ literal_in m a (instr.Literal t d) = word_at m (literal_base a + 4 * d.number)
 literal_in m a (instr.Address t d) = (literal_base a + 4 * d.number) % 2 ^ 32
 literal_in m a i = 0
 
--- the address behind an instruction
+-- the address after an instruction
 abbrev pub following : ℕ → Instr → ℕ
 following a i = (a + instr_size i) % 2 ^ 32
 
 abbrev pub around_in : Loaded → ℕ → Instr → Around
 around_in m a i = record { target = target_in m a i; literal = literal_in m a i; link = set_bit (following a i); lands = lands_at m }
 
--- an instruction's code stands at an address of the image
+-- an instruction is encoded at an address of the image
 pub record IsFetched (m : Loaded) (a : ℕ) (i : Instr) : Type 0 where
   pub within : (nat_le m.base a && nat_lt a (m.base + length m.bytes)) ≡ true
   pub encoded : Encodes i (half_at m a) (half_at m (a + 2))
 
--- what an instruction does at an address
+-- the effect of an instruction at an address
 abbrev pub act_in : Loaded → ℕ → Instr → State → Act
 act_in m a i s = act (around_in m a i) i s.world
 
--- one step, and how it goes on: an instruction acts, or there is none
+-- one step, with its continuation: an instruction acts, there is none at the address, or the run had ended already
 pub data ImageStep (m : Loaded) (s : State) : Continuation → State → Type 0 where
   stays : s.at ≡ Ended → ImageStep m s Over s
   acts : (a : ℕ) (i : Instr) → s.at ≡ Here a → IsFetched m a i → ImageStep m s (act_in m a i s).next (does a (following a i) (act_in m a i s) s)
   falls_out : (a : ℕ) → s.at ≡ Here a → ((i : Instr) → IsFetched m a i → ⊥) → ImageStep m s Over (falls s)
 
--- n steps in a row
+-- a number of steps, whatever their continuations
 pub data ImageSteps (m : Loaded) : ℕ → State → State → Type 0 where
   none : (s : State) → ImageSteps m zero s s
   more : (n : ℕ) (next : Continuation) (r s t : State) → ImageStep m r next s → ImageSteps m n s t → ImageSteps m (suc n) r t
 
--- The image's run meets the listing's.
+-- The image's run does what the listing's does.
 
--- a listing was assembled at a base: it is laid out without a fault, and these bytes are its image
+-- a listing was assembled at a base: its layout has no fault, and these bytes are its image
 pub record IsAssembled (base : ℕ) (lines : List ListingLine) (bytes : List ℕ) : Type 0 where
   pub listed : IsListing (text_of_lines lines) lines
   pub layable : Layable base lines
@@ -104,7 +104,7 @@ pub record IsAssembled (base : ℕ) (lines : List ListingLine) (bytes : List ℕ
   pub sound : first_flaw base lines ≡ None
   pub image : AreImage base lines bytes
 
--- the image in memory, whose code ends where the laid naming's does
+-- the image in memory, whose code ends where the laid naming says
 abbrev pub loaded : ℕ → (Name → ℕ) → List ListingLine → List ℕ → Loaded
 loaded base set lines bytes = record { base = base; bytes = bytes; high = (laid base set lines).high }
 
@@ -132,7 +132,7 @@ pub record IsLost (s : State) : Type 0 where
 
 -- ---- the two runs ----
 
--- begun at the label's address, the image's run comes after some steps to a state that is observably equal
+-- the image's run reaches, after some number of steps from `start`, a state that is observably the same as s
 pub record Meets (image : Loaded) (start s : State) : Type 0 where
   pub steps : ℕ
   pub state : State
@@ -142,7 +142,7 @@ pub record Meets (image : Loaded) (start s : State) : Type 0 where
 abbrev pub begun_in : ℕ → List ListingLine → Name → World → List Event → State
 begun_in base lines label w es = record { world = w; at = here_or_ended (label_address label base lines); events = es }
 
--- under the laid naming, the run from a code label is met by the image's until it is lost
+-- under the laid naming: while the listing's run from a code label isn't lost, the image's run reaches each of its states
 abbrev pub ImageFollows : ℕ → (Name → ℕ) → List ListingLine → List ℕ → List ListingLine → Type 0
 ImageFollows base set lines bytes given =
     (label : Name) → IsSome (place_of (code_of given) label) → (w : World) → IsWorld w → (es : List Event) → (n : ℕ) → (IsLost (times (step (laid base set lines) (code_of given)) n (begun (code_of given) label w es)) → ⊥)

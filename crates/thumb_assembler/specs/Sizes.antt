@@ -1,4 +1,4 @@
--- The bytes by which an instruction is laid out are those of its encoding.
+-- The number of bytes that the layout gives an instruction is that of its encoding.
 use Rattle.std.specs.Prelude.{◌≡◌, ◌*◌}
 use Rattle.thumb_instr.specs.declared.instr.Instr.{Instr}
 use Rattle.thumb_table.specs.Table.{width, row_of}

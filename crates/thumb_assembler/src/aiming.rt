@@ -1,4 +1,4 @@
-//! A parsed instruction has no distance yet: here it gets the one to what it mentions, from its own address.
+//! Sets the distances of branches and literal loads, which a listing gives as names.
 ghost use Rattle.std.specs.Prelude.{◌≡◌, ◌+◌, ◌*◌, ◌%◌, ◌<◌, ◌≤◌, ◌^◌, Some, None};
 ghost use Rattle.thumb_model.specs.Layout.{aim_fault, branch_fault, distance as distance_of, literal_base, literal_fault};
 ghost use Rattle.thumb_assembler.specs.Bytes.{Aims};
@@ -6,7 +6,7 @@ ghost use Rattle.thumb_instr.specs.Items.{bytes_of};
 
 use thumb_instr::{Byte, Distance, Instr};
 
-/// How many words a literal at `to` lies behind the instruction's address plus 4, rounded down to a multiple of 4.
+/// The distance of a literal in words, from the instruction's address + 4, rounded down to a multiple of 4.
 fn words_to(at: u32, to: u32) -> Byte
     requires reached { literal_fault at (Some to) 0 ≡ None }
     requires in_code { at ≤ 2 ^ 29 }
@@ -15,7 +15,7 @@ fn words_to(at: u32, to: u32) -> Byte
     Byte::of((to - (at + 4) / 4 * 4) / 4)
 }
 
-/// The distance of a branch from its address plus 4 to `to`, which its encoding can hold.
+/// The distance of a branch from its address + 4 to its target, which its encoding can reach.
 fn distance_to<const HALF: u32>(at: u32, to: u32) -> Distance<HALF>
     requires reached { branch_fault HALF at (Some to) ≡ None }
     requires at_even { at % 2 ≡ 0 }
@@ -30,7 +30,7 @@ fn distance_to<const HALF: u32>(at: u32, to: u32) -> Distance<HALF>
     }
 }
 
-/// The instruction at the address `at` with its distance to `to`, which its encoding reaches. An instruction without a distance stays as it is.
+/// The instruction at an address with its distance to what it mentions, which must be in reach. An instruction without a distance stays as it is.
 pub(crate) fn aimed(instr: &Instr, at: u32, to: u32) -> Instr
     requires reached { aim_fault at instr.now (Some to) 0 ≡ None }
     requires at_even { at % 2 ≡ 0 }

@@ -1,4 +1,4 @@
-//! The image of a listing: codes, data and padding, each line's bytes where the layout has that line.
+//! Assembles a listing: the codes, data and padding of each line, where the layout places that line.
 ghost use Rattle.std.specs.Prelude.{◌≡◌, ◌+◌, ◌%◌, IfOk, MatchResult, None, length};
 ghost use Rattle.thumb_model.specs.Layout.{Layable};
 ghost use Rattle.listing_parser.specs.Parsing.{IsListing, text_of_lines};
@@ -14,10 +14,10 @@ use std::alloc::Global;
 
 /// The image of a listing: its bytes from the layout's base to its end. The layout is the listing's, and its base is even.
 ///
-/// Instructions and data words stand where the layout has them, lowest byte first, each branch and literal load with its distance; padding is `nop`
-/// (BF00) for each two bytes. A word of a name is a code label's address and 1, another label's address, or the address that the listing sets, with the
-/// number added. A listing has no image where a name in `b`, `bl` or `.word` has no address, or where a `.set` gives one that lies in the image; the
-/// first such line is reported. Time is linear in the listing's length.
+/// Instructions and data words are at the layout's addresses, lowest byte first, each branch and literal load with its distance; padding is `nop`
+/// (BF00) for each two bytes. A word with a name holds a code label's address + 1, another label's address, or the address that the listing sets, plus the
+/// added number. A listing has no image where a name in `b`, `bl` or `.word` has no address, or where a `.set` gives one that lies in the image; the
+/// error names the first such line. Time is linear in the listing's length.
 pub fn assemble(alloc: Global, listing: &Listing, layout: &Layout) -> Result<Vec<u8>, ImageError>
     requires listed { IsListing (text_of_lines listing.now) listing.now }
     requires laid { AreAddresses listing.now layout.now }

@@ -1,17 +1,17 @@
-//! A line of a listing that was laid out has no bytes for two reasons alone: an address that it needs isn't set, or one that it sets lies in the image.
+//! Why a listing has no image. Branches and loads reach once the layout exists, so an address is missing, or a set address lies inside the image.
 use std::alloc::AllocError;
 use thiserror::Error;
 
 /// Why a listing has no image.
 #[derive(Clone, Copy, Debug, PartialEq, Eq, Error)]
 pub enum ImageError {
-    /// The first line that can't be assembled, by its number from 1, mentions in `b`, `bl` or `.word` a name that no label has and no line sets.
+    /// A line mentions in `b`, `bl` or `.word` a name that no label has and no line sets. It is the first line with an error, counted from 1.
     #[error("line {0}: a name has no address")]
     NoAddress(u32),
-    /// The first line that can't be assembled, by its number from 1, sets an address from the base up to and not including the image's end.
+    /// A line sets an address that lies in the image, from the base up to but not including the end. It is the first line with an error, counted from 1.
     #[error("line {0}: the address lies in the image")]
     Inside(u32),
-    /// Want of memory.
+    /// Memory ran out.
     #[error("out of memory")]
     Memory,
 }
@@ -23,7 +23,7 @@ pub(crate) enum Flaw {
     NoAddress,
     /// It sets an address that lies in the image.
     Inside,
-    /// Want of memory.
+    /// Memory ran out.
     Memory,
 }
 
@@ -42,7 +42,7 @@ impl Flaw {
     ghost use Rattle.thumb_assembler.specs.Pushes.{told_at};
     ghost use Rattle.std.specs.Prelude.{◌≡◌};
 
-    /// The error that reports it for a line, by its number from 1.
+    /// The error that reports this flaw of the line with this number.
     pub(crate) fn at(self, line: u32) -> ImageError
         ensures { result ≡ told_at self line }
     {

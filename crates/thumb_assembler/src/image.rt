@@ -1,4 +1,4 @@
-//! An image in memory, from which instructions and literals are read, and what it decides for an instruction at an address.
+//! An image in memory, and the surroundings of an instruction in it (its target, literal and return address), which the model of a step takes.
 ghost use Rattle.std.specs.Prelude.{◌≡◌, ◌+◌, ◌*◌, ◌<◌, ◌^◌, MatchOption};
 ghost use Rattle.thumb_instr.specs.declared.instr.Instr.{Instr};
 ghost use Rattle.thumb_model.specs.Layout.{literal_base};
@@ -11,7 +11,7 @@ use thumb_instr::{Byte, Instr};
 use thumb_machine::{Around, Landing, Lands, Target};
 use thumb_table::decode;
 
-/// The bytes of an image from the address `base` on, and the address `high` where its code ends.
+/// The bytes of an image from a base on, and where its code ends, in byte addresses.
 #[derive(Drop)]
 pub(crate) struct Image {
     pub(crate) bytes: Vec<u8>,
@@ -46,7 +46,7 @@ impl Image {
         u32::from(self.half(address)) + 65536 * u32::from(self.half(address + 2))
     }
 
-    /// The instruction whose code stands at an address of the image, if there is one.
+    /// The instruction that is encoded at an address of the image, if any.
     pub(crate) fn fetch(&self, address: u32) -> Option<Instr>
         ensures { MatchOption result ((i : Instr) → IsFetched (loaded_of self.now) address i → ⊥) (IsFetched (loaded_of self.now) address) }
     {
@@ -78,7 +78,7 @@ impl Image {
         }
     }
 
-    /// Where the branch at an address goes. Another instruction has none.
+    /// Where the branch at an address goes. Another instruction gets the external target 0.
     fn target(&self, address: u32, instr: &Instr) -> Target
         ensures { target_of result ≡ target_in (loaded_of self.now) address instr.now }
     {
@@ -90,7 +90,7 @@ impl Image {
         }
     }
 
-    /// What a literal load at an address reads, or the address that ADR gives. Another instruction has 0.
+    /// The word that a literal load at an address reads, or the address that ADR gives; 0 for another instruction.
     fn literal(&self, address: u32, instr: &Instr) -> u32
         ensures { result ≡ literal_in (loaded_of self.now) address instr.now }
     {
@@ -103,7 +103,7 @@ impl Image {
         }
     }
 
-    /// What its address decides for an instruction.
+    /// The surroundings of an instruction at an address.
     pub(crate) fn around(&self, address: u32, instr: &Instr) -> Around
         ensures target { target_of result.target ≡ target_in (loaded_of self.now) address instr.now }
         ensures literal { result.literal ≡ literal_in (loaded_of self.now) address instr.now }
@@ -117,21 +117,21 @@ impl Image {
     }
 }
 
-/// The address behind an instruction.
+/// The address after an instruction.
 pub(crate) fn behind(address: u32, instr: &Instr) -> u32
     ensures { result ≡ following address instr.now }
 {
     address.wrapping_add(instr_size(instr))
 }
 
-/// The address that a branch at an address leads to, by its distance in bytes.
+/// The target address of a branch, from its own address and its distance in bytes.
 fn aim(address: u32, bytes: i32) -> u32
     ensures { result ≡ aim_from address bytes }
 {
     ((i64::from(address) + 4 + i64::from(bytes) + (1 << 32)) % (1 << 32)) as u32
 }
 
-/// The address of a literal: `distance` words behind the instruction's address plus 4, rounded down to a multiple of 4.
+/// The address of a literal: a distance in words from the instruction's address + 4, rounded down to a multiple of 4.
 fn literal_address(address: u32, distance: Byte) -> u64
     ensures { result ≡ literal_base address + 4 * distance.number }
 {

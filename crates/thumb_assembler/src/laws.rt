@@ -1,24 +1,24 @@
-//! Laws of images. Each is stated as the contract of a function with an empty body.
+//! What is proved of images. Each law is the contract of a function that does nothing.
 
 ghost use Rattle.thumb_assembler.specs.Promises.{ImagesFollow, ImagesFollowGiven, RunsAreDetermined};
 ghost use Rattle.thumb_assembler.specs.Sizes.{SizesAreWidths};
 
-/// From a code label's address an image's run has the same events, memory and answers left as its listing's, and ends where that does.
+/// From a code label's address, an image's run reaches the events, memory and unread answers of its listing's run, as long as that isn't lost (`IsLost`).
 pub fn images_follow_listings()
     ensures { ImagesFollow }
 {}
 
-/// The same holds of the listing from which the image's listing was rewritten, where the laid naming fits that too.
+/// The same for the listing that the image's listing was rewritten from.
 pub fn images_follow_given_listings()
     ensures { ImagesFollowGiven }
 {}
 
-/// An image's run is deterministic: after a number of steps from a state it is in one state.
+/// After a given number of steps from a state, an image's run is in exactly one state.
 pub fn image_runs_are_determined()
     ensures { RunsAreDetermined }
 {}
 
-/// An instruction is laid out with as many bytes as its encoding has.
+/// The layout gives an instruction as many bytes as its encoding has.
 pub fn sizes_are_widths()
     ensures { SizesAreWidths }
 {}

@@ -1,4 +1,4 @@
-//! The image of a listing: the bytes of its instructions and data words where they lie, with padding between them.
+//! Assembles a listing into its image: the bytes of its instructions and data words at their addresses, with padding between them.
 #![tactic(auto)]
 
 mod aiming;

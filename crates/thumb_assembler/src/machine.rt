@@ -19,7 +19,7 @@ use thumb_machine::{
     World, registers_of, stage_of,
 };
 
-/// Where a machine over an image is.
+/// Where a machine that runs an image is.
 #[derive(Clone, Copy, Debug, PartialEq, Eq)]
 pub enum Position {
     /// At an address.
@@ -28,7 +28,7 @@ pub enum Position {
     Ended { end: End },
 }
 
-/// A machine that runs an image: it reads code and literals there, and data in a memory of its own.
+/// A machine that runs an image: it reads code and literals from the image, and data from a memory of its own.
 #[derive(Drop)]
 pub struct ImageMachine {
     pub(crate) image: Image,
@@ -36,7 +36,7 @@ pub struct ImageMachine {
     pub(crate) at: Position,
 }
 
-/// The world at the start of a run. Only stores and answers write to a memory, so the first bytes are put there as the answer to a call.
+/// The registers and memory at the beginning. Only stores and calls to outside can write a memory, so its first bytes come as the answer to a call.
 fn first_world(alloc: Global, image: &Image, state: State) -> Result<World, AllocError>
     ensures values { IfOk result (λ w. values_of w.registers ≡ start_values state) }
     ensures memory { IfOk result (λ w. memory_of w.memory ≡ with_bytes state.bytes (λ (a : ℕ). 0)) }
@@ -73,8 +73,8 @@ fn first_world(alloc: Global, image: &Image, state: State) -> Result<World, Allo
 }
 
 impl ImageMachine {
-    /// A machine that runs an image from an address on, where the run of a code label begins. The image lies from `base` on, and its code ends at `hi`,
-    /// which for the image of a listing is its naming's. The state's place isn't looked at.
+    /// A machine that runs an image from an address on, such as a code label's. The image begins at `base`, and its code ends at `hi`,
+    /// which for a listing's image is that of its laid naming. The place in `start` is ignored.
     pub fn new(
         alloc: Global,
         image: &[u8],
@@ -99,7 +99,7 @@ impl ImageMachine {
         })
     }
 
-    /// Takes a step. Where memory is refused, or more answers are needed than are left, nothing changes; an ended machine reports its end again.
+    /// Takes a step. If memory runs out, or more answers are needed than are left, nothing changes; an ended machine reports its end again.
     pub fn step(&mut self, answers: &mut Answers) -> Result<Stage, AllocError>
         ensures image { self.new.image ≡ self.old.image }
         ensures kept { OnErr result (self.new.at ≡ self.old.at) }
@@ -115,7 +115,7 @@ impl ImageMachine {
         }
     }
 
-    /// Takes a step at an instruction.
+    /// Executes the instruction at an address.
     fn run(
         &mut self,
         answers: &mut Answers,
@@ -134,7 +134,7 @@ impl ImageMachine {
         Ok(self.arrive(address, behind(address, &instr), next))
     }
 
-    /// Ends the run where no instruction is.
+    /// Ends the run where there is no instruction.
     fn fall(&mut self) -> Result<Stage, AllocError>
         ensures image { self.new.image ≡ self.old.image }
         ensures told { Changes [] (memory_of self.old.world.memory) (Fell ∷ []) self.old.world self.new.world result }
@@ -146,7 +146,7 @@ impl ImageMachine {
         Ok(Stage::Fell)
     }
 
-    /// Goes on after an instruction at `address`, where the next one is at `following`.
+    /// Continues after an instruction at an address; `following` is the address after it.
     fn arrive(&mut self, address: u32, following: u32, next: Continuation) -> Stage
         requires { self.old.at ≡ Position.Here address }
         ensures image { self.new.image ≡ self.old.image }

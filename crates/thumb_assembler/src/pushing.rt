@@ -1,4 +1,4 @@
-//! The bytes of each statement, appended to those of the lines before.
+//! Appends the bytes of each statement to the image: codes, words and padding.
 ghost use Rattle.std.specs.Prelude.{◌≡◌, ◌+◌, ◌*◌, ◌%◌, ◌≤◌, ◌^◌, ◌++◌, true, None, OnOk, map};
 ghost use Rattle.thumb_model.specs.Listing.{Instruction};
 ghost use Rattle.thumb_model.specs.Layout.{fault_at, instr_fault, lies_in};
@@ -19,7 +19,7 @@ use thumb_table::{Code, encode};
 /// BF00, the code of `nop`.
 const NOP: u16 = 0xBF00;
 
-/// Appends a halfword to the bytes, its lower byte first.
+/// Appends a halfword, its lower byte first.
 fn push_half(bytes: &mut Vec<u8>, half: u16) -> Result<(), AllocError>
     ensures { OnOk result (bytes.new.items ≡ bytes.old.items ++ half_bytes half) }
 {
@@ -29,7 +29,7 @@ fn push_half(bytes: &mut Vec<u8>, half: u16) -> Result<(), AllocError>
     Ok(())
 }
 
-/// Appends a word to the bytes, its lowest byte first.
+/// Appends a word, its lowest byte first.
 fn push_word(bytes: &mut Vec<u8>, word: u32) -> Result<(), AllocError>
     ensures { OnOk result (bytes.new.items ≡ bytes.old.items ++ word_bytes word) }
 {
@@ -38,7 +38,7 @@ fn push_word(bytes: &mut Vec<u8>, word: u32) -> Result<(), AllocError>
     Ok(())
 }
 
-/// Appends the code of an instruction to the bytes.
+/// Appends the code of an instruction.
 #[tactic(auto, using(crate::proofs::Codes::one_code, crate::proofs::Codes::two_codes))]
 fn push_code(bytes: &mut Vec<u8>, instr: &Instr) -> Result<(), AllocError>
     ensures { OnOk result (PushedCode instr.now bytes.old.items bytes.new.items) }
@@ -56,7 +56,7 @@ fn push_code(bytes: &mut Vec<u8>, instr: &Instr) -> Result<(), AllocError>
     }
 }
 
-/// Appends `nop` to the bytes for each two bytes of padding.
+/// Appends a `nop` for each two bytes of padding.
 #[tactic(auto, using(crate::proofs::Codes::nops_more, crate::proofs::Codes::nops_end))]
 fn push_nops(bytes: &mut Vec<u8>, padding: u32) -> Result<(), AllocError>
     ensures { OnOk result (bytes.new.items ≡ bytes.old.items ++ nops padding) }
@@ -69,7 +69,7 @@ fn push_nops(bytes: &mut Vec<u8>, padding: u32) -> Result<(), AllocError>
     Ok(())
 }
 
-/// Appends a data word to the bytes. The layout is the listing's.
+/// Appends a data word. The layout is the listing's.
 fn push_value(
     bytes: &mut Vec<u8>,
     listing: &Listing,
@@ -94,7 +94,7 @@ fn push_value(
     }
 }
 
-/// Appends data words to the bytes. The layout is the listing's.
+/// Appends data words. The layout is the listing's.
 fn push_values(
     bytes: &mut Vec<u8>,
     listing: &Listing,
@@ -110,7 +110,7 @@ fn push_values(
     Ok(())
 }
 
-/// Appends an instruction that mentions a name to the bytes, at the address where they end. The layout is the listing's, and finds no fault there.
+/// Appends an instruction that mentions a name, at the address where the bytes end. The layout is the listing's, and has no fault there.
 fn push_aimed(
     bytes: &mut Vec<u8>,
     listing: &Listing,
@@ -144,7 +144,7 @@ fn is_inside(listing: &Listing, layout: &Layout, address: u32) -> bool
     layout.base() <= address && address < layout.end()
 }
 
-/// Appends the bytes of a statement to those of the lines before, at the address where they end. The layout is the listing's, and finds no fault there.
+/// Appends the bytes of a statement, at the address where the bytes of the lines before end. The layout is the listing's, and has no fault there.
 pub(crate) fn push_statement(
     bytes: &mut Vec<u8>,
     listing: &Listing,

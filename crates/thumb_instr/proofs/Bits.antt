@@ -1,4 +1,4 @@
--- Words of bits as sets.
+-- Sets of items as bits of a word: the lemmas behind the contracts of `Items` and `Mask`.
 use Rattle.std.proofs.Common.{◌≡◌, ℕ, zero, suc, ◌+◌, ◌*◌, ◌<◌, ◌≤◌, ◌%◌, ◌^◌, ◌==◌, ◌&&◌, ◌||◌, not, Bool, true, false, min, max, refl, sym, ap, ◌∙◌, inl, inr, arith, eq-eqb, ne_eqb}
 use Rattle.std.specs.Int.{bit_at}
 use Rattle.std.specs.Prelude.{bit_or, bit_and, bit_xor}
@@ -44,13 +44,13 @@ has_one i x h =
       | inr d ↦ ap (λ n. n == 1) (bit_at-pow_other i x d) ∙ sym (ne_eqb x i d)
     ]
 
--- nothing from 19 on
+-- no item from 19 on is in a set
 pub has_none : (a x : ℕ) → a < 524288 → 19 ≤ x → has a x ≡ false
 has_none a x h k = ap (λ n. n == 1) (bit_at_above a 19 x h k)
 
 -- ---- masks ----
 
--- two tests that agree below n
+-- two predicates agree below n
 unfoldable agree : ℕ → (ℕ → Bool) → (ℕ → Bool) → Bool
 agree zero p q = true
 agree (suc n) p q = (if p n then q n else not (q n)) && agree n p q
@@ -77,7 +77,7 @@ mask_agrees = refl
 above : (x : ℕ) → 19 ≤ x → is_in_masks x ≡ false
 above x l = grind (arith, nat_tests)
 
--- the items of masks, as a word
+-- the items that may be in masks, as a word
 mask_bits : (x : ℕ) → has 491535 x ≡ is_in_masks x
 mask_bits x = elim (cases_lt x 19) [
   | inl l ↦ same_below 19 (has 491535) is_in_masks mask_agrees x l

@@ -1,4 +1,4 @@
--- The normal form of the instructions that have two encodings.
+-- The normal form that represents both encodings of one effect.
 use Rattle.std.proofs.Common.{◌≡◌, sym, ap, ◌∙◌, eq-eqb}
 use Rattle.std.specs.Prelude.{if◌then◌else◌}
 use Rattle.thumb_instr.specs.declared.instr.Instr.{Instr}

@@ -1,4 +1,4 @@
--- The items that a list of registers has are those whose bits its number has.
+-- Register lists in encodings, as lists of items and as sets of them: the lemmas behind what PUSH, POP, LDM and STM read and write.
 use Rattle.std.proofs.Common.{◌≡◌, ◌∙◌, inl, inr, ℕ, ◌+◌, ◌*◌, ◌/◌, ◌%◌, ◌<◌, ◌≤◌, ◌==◌, ◌&&◌, ◌||◌, Bool, true, false, List, [], ◌∷◌, ◌++◌, refl, sym, ap, arith, eqb-true}
 use Rattle.std.specs.Prelude.{nat_lt, filter}
 use Rattle.std.specs.Int.{bit_at}
@@ -42,7 +42,7 @@ has_low n x = elim (cases_lt x 8) [
 low_registers : (x : ℕ) → one_of x (0 ∷ 1 ∷ 2 ∷ 3 ∷ 4 ∷ 5 ∷ 6 ∷ 7 ∷ []) ≡ nat_lt x 8
 low_registers x = grind (arith, nat_tests)
 
--- the low byte of a list has its registers
+-- the low byte of a register list has the same low registers
 pub has_registers : (n x : ℕ) → has (n % 256) x ≡ one_of x (registers_in n)
 unfolding registers_in
 has_registers n x = has_low n x ∙ (ap (λ b. b && has n x) (sym (low_registers x)) ∙ sym (one_of_filter x (has n) (0 ∷ 1 ∷ 2 ∷ 3 ∷ 4 ∷ 5 ∷ 6 ∷ 7 ∷ [])))

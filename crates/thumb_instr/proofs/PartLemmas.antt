@@ -17,7 +17,7 @@ use Rattle.thumb_instr.specs.Parts.{parts_of, made, when, is_instr, kept_of, is_
 use Rattle.thumb_instr.specs.Roles.{roles}
 use Rattle.thumb_instr.proofs.Registers.{same_number, same_general, same_distance, same_not_both_sp, same_not_both_low, same_stored}
 
--- ---- each instruction has the parts that its kind has
+-- ---- an instruction's parts fit the roles of its kind
 
 when_true : (b : Bool) (m : Parts) → b ≡ true → when b m ≡ Some m
 when_true b m e = rw e refl
@@ -61,7 +61,7 @@ made_parts (instr.Branch d) = when_true _ _ (near d)
 made_parts (instr.Call d) = when_true _ _ (near d)
 made_parts i = search (when_true, and_from, in_range, general, three_low, not_both_sp, not_both_low, stored)
 
--- the instruction of a kind and numbers has the kind
+-- the instruction made from a kind and numbers has this kind
 pub when_some : (b : Bool) (m n : Parts) → when b m ≡ Some n → (b ≡ true) × (m ≡ n)
 when_some true m n e = (refl, cc)
 when_some false m n e = absurd (cc)
@@ -86,7 +86,7 @@ seconds m n e = ap (λ (x : Parts). x.second) e
 thirds : (m n : Parts) → m ≡ n → m.third ≡ n.third
 thirds m n e = ap (λ (x : Parts). x.third) e
 
--- two instructions of one kind and the same numbers are one
+-- two instructions of the same kind with the same numbers are equal
 pub same_parts : (i j : Instr) → parts_of i ≡ parts_of j → i ≡ j
 same_parts (instr.Mov a b) (instr.Mov x y) e = λ k. instr.Mov (same_number a x (firsts _ _ e) k) (same_number b y (seconds _ _ e) k)
 same_parts (instr.Three o a b c) (instr.Three p x y z) e = let q : kind.Three o ≡ kind.Three p = kinds _ _ e in let s : o ≡ p = cc in λ k. instr.Three (s k) (same_number a x (firsts _ _ e) k) (same_number b y (seconds _ _ e) k) (same_number c z (thirds _ _ e) k)

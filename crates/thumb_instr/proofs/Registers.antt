@@ -1,4 +1,4 @@
--- Registers and numbers of a range: a low register as a register, and that those of one number are one.
+-- Low registers as general registers, and that values of a range type with the same number are equal.
 use Rattle.std.proofs.Common.{refl, ◌≡◌, ◌≢◌, ℕ, ◌<◌, ◌≤◌, ◌*◌, ◌%◌, ◌/◌, ◌^◌}
 use mathlib.Core.HLevel.{is_prop→PathP}
 use native.Mathlib.Bridge.{le_prop}
@@ -11,12 +11,12 @@ use Rattle.thumb_instr.specs.declared.within.NotBothLow.{NotBothLow}
 use Rattle.thumb_instr.specs.declared.within.Stored.{Stored}
 use Rattle.thumb_instr.specs.Window.{widened}
 
--- a low register has the same number as a register
+-- widening a low register keeps its number
 pub widened_number : (r : Within 0 8) → (widened r).number ≡ r.number
 unfolding widened
 widened_number r = refl
 
--- numbers of a range, registers, distances and pairs that hold the same are one
+-- numbers of a range, registers, distances and pairs with the same content are equal
 pub same_number : {a b : ℕ} (x y : Within a b) → x.number ≡ y.number → x ≡ y
 same_number {a} {b} x y e = λ i. record {
   number = e i;

@@ -1,4 +1,4 @@
--- The registers of instructions of a window, and their renaming.
+-- Renaming the registers of a window's instructions: what is named afterwards, and that windows stay windows.
 use Rattle.std.proofs.Common.{◌≡◌, ℕ, ◌<◌, true, List, [], ◌∷◌, ◌++◌, map, Some, None, refl, sym, ap, ◌∙◌, subst, arith, lt-ltb}
 use Rattle.std.specs.Prelude.{nat_lt, slice_get, unwrap_or}
 use Rattle.std.proofs.lemmas.Bool.{and_parts, and_from, ltb-true}
@@ -14,7 +14,7 @@ use Rattle.thumb_instr.proofs.Registers.{widened_number}
 low_below : (d : Low) → d.number < 8
 low_below d = d.below
 
--- what may stand in a window names low registers alone
+-- an instruction of a window names only low registers
 pub named_low : (i : Instr) → is_in_window i ≡ true → AreBelow 8 (named i)
 named_low (instr.Mov d m) w = let p = and_parts (nat_lt d.number 8) (nat_lt m.number 8) w in (ltb-true d.number 8 p.0, (ltb-true m.number 8 p.1, tt))
 named_low (instr.Add r) w = let p = and_parts (nat_lt r.target.number 8) (nat_lt r.source.number 8) w in (ltb-true r.target.number 8 p.0, (ltb-true r.source.number 8 p.1, tt))
@@ -49,7 +49,7 @@ named_renamed f i w = first_of (simp (reg_number f, low_number f), cc)
 low_stays : (registers : List Low) (d : Reg) → nat_lt d.number 8 ≡ true → nat_lt (reg_under registers d).number 8 ≡ true
 low_stays registers d h = elim (slice_get registers d.number) as (λ o. nat_lt (wide_or o d).number 8 ≡ true) [ None ↦ h | Some r ↦ ap (λ n. nat_lt n 8) (widened_number r) ∙ lt-ltb r.number 8 (omega arith) ]
 
--- a renamed instruction may stand in a window where it may itself
+-- a renamed instruction may be in a window if the original may
 pub window_renamed : (registers : List Low) (i : Instr) → is_in_window i ≡ true → is_in_window (renamed registers i) ≡ true
 window_renamed registers (instr.Mov d m) h =
     let both = and_parts (nat_lt d.number 8) (nat_lt m.number 8) h in

@@ -1,4 +1,4 @@
--- Lemmas on this crate's definitions that several crates above need.
+-- Lemmas about windows and renaming that other crates use.
 use Rattle.std.proofs.Common.{List, [], ap, arith, map, nat_lt, refl, sym, true, ℕ, ◌++◌, ◌∙◌, ◌∷◌, ◌≡◌, ◌≤◌}
 use Rattle.std.proofs.lemmas.Bool.{and_from, and_parts, lt-ltb}
 use Rattle.std.proofs.lemmas.List.{map-append}

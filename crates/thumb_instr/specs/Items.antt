@@ -1,4 +1,4 @@
--- The items by number, sets of them as the bits of a word, and how far branches and loads reach.
+-- The items (registers and flags) by number, sets of them as the bits of a word, and the distances that branches can encode.
 use Rattle.std.specs.Prelude.{ℕ, ◌<◌, ◌==◌, ◌&&◌, ◌||◌, nat_lt, nat_le, Bool, false, List, [], ◌∷◌, ◌≡◌, ◌+◌, ◌-◌, ◌*◌, ◌%◌, ℤ, pos, negsuc, if◌then◌else◌}
 use Rattle.std.specs.Int.{bit_at}
 
@@ -22,7 +22,7 @@ c_flag = 17
 abbrev pub v_flag : ℕ
 v_flag = 18
 
--- each is the number of an item
+-- every number of the list is an item's
 abbrev pub AreItems : List ℕ → Type 0
 AreItems [] = Unit {0}
 AreItems (x ∷ xs) = (x < 19) × AreItems xs
@@ -36,13 +36,13 @@ one_of x (y ∷ ys) = (x == y) || one_of x ys
 abbrev pub has : ℕ → ℕ → Bool
 has w x = bit_at w x == 1
 
--- r0 to r3 and the flags
+-- whether an item may be in masks: r0 to r3 and the flags
 abbrev pub is_in_masks : ℕ → Bool
 is_in_masks x = nat_lt x 4 || (nat_le 15 x && nat_lt x 19)
 
 -- The distance of a branch, and the field of its encoding.
 
--- SignExtend(field:'0'): twice the field, read in two's complement below 2 * half
+-- SignExtend(field:'0'): twice the field, which is read in two's complement modulo 2 * half
 abbrev pub bytes_of : ℕ → ℕ → ℤ
 bytes_of half field = if nat_lt field half then pos (field * 2) else negsuc ((2 * half - 1 - field) * 2 + 1)
 

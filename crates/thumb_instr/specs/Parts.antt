@@ -1,4 +1,4 @@
--- Instructions by their kind and their registers and numbers, in the order of the canonical text.
+-- Instructions as their kind with their registers and numbers, in the order of the canonical text, and which such combinations are instructions.
 use Rattle.std.specs.Prelude.{ℕ, ◌^◌, ◌/◌, ◌%◌, ◌==◌, ◌&&◌, ◌||◌, not, Bool, true, Option, Some, None, if◌then◌else◌, nat_lt, nat_le}
 use Rattle.thumb_instr.specs.declared.instr.Instr.{Instr}
 use Rattle.thumb_instr.specs.declared.instr.Instr.TheVariants as instr
@@ -12,7 +12,7 @@ use Rattle.thumb_instr.specs.declared.role.Role.TheVariants.{Register, Number, L
 use Rattle.thumb_instr.specs.declared.role.Operands.{Operands}
 use Rattle.thumb_instr.specs.Roles.{roles}
 
--- a number that the kind doesn't have is 0
+-- the parts of a kind; 0 stands for a number that the kind doesn't have
 abbrev pub of : Kind → ℕ → ℕ → ℕ → Parts
 of k a b c = record { kind = k; first = a; second = b; third = c }
 
@@ -57,7 +57,7 @@ parts_of (instr.WriteMask m) = of kind.WriteMask m.number 0 0
 abbrev pub is_within : ℕ → ℕ → ℕ → Bool
 is_within least end n = nat_le least n && nat_lt n end
 
--- r0 to r7; r0 to r12, sp and lr; those but sp
+-- the three classes: r0 to r7; r0 to r12, sp and lr; the same without sp
 abbrev pub is_low : ℕ → Bool
 is_low n = is_within 0 8 n
 
@@ -76,7 +76,7 @@ are_registers a b = is_register a && is_register b
 abbrev pub are_three_low : ℕ → ℕ → ℕ → Bool
 are_three_low a b c = is_low a && are_low b c
 
--- a low register and a number; two of them and a number
+-- a low register and a number below an end; two low registers and a number
 abbrev pub low_and : ℕ → ℕ → ℕ → ℕ → Bool
 low_and least end a n = is_low a && is_within least end n
 
@@ -87,7 +87,7 @@ two_low_and least end a b n = is_low a && low_and least end b n
 abbrev pub is_stored : ℕ → ℕ → Bool
 is_stored base list = not (list / 2 ^ base % 2 == 1) || list % 2 ^ base == 0
 
--- whether a register or number has the role
+-- whether a register is in the class, and a register or number fits the role
 abbrev pub is_of : Class → ℕ → Bool
 is_of class.Low n = is_low n
 is_of class.Any n = is_register n
@@ -100,7 +100,7 @@ has_role (List end) n = is_within 1 end n
 has_role (Distance end) n = is_within 0 end n
 has_role Nothing n = true
 
--- whether each has its role
+-- whether each of the three numbers fits its role
 abbrev pub have_roles : Role → Role → Role → ℕ → ℕ → ℕ → Bool
 have_roles Nothing s t a b c = true
 have_roles r Nothing t a b c = has_role r a
@@ -110,14 +110,14 @@ have_roles r s t a b c = has_role r a && (has_role s b && has_role t c)
 abbrev pub are_of : Operands → ℕ → ℕ → ℕ → Bool
 are_of r a b c = have_roles r.first r.second r.third a b c
 
--- whether a kind has an instruction with these numbers: a sum not of sp twice, a comparison not of two low registers, STM's base, if listed, the lowest
+-- whether a kind has an instruction with these numbers: not both sp in ADD, not both low in CMP, and STM's base isn't in its list or is its lowest
 abbrev pub is_instr : Kind → ℕ → ℕ → ℕ → Bool
 is_instr kind.Add a b c = are_of (roles kind.Add) a b c && not (a == 13 && b == 13)
 is_instr kind.Compare a b c = are_of (roles kind.Compare) a b c && not (nat_lt a 8 && nat_lt b 8)
 is_instr kind.StoreMany a b c = are_of (roles kind.StoreMany) a b c && is_stored a b
 is_instr k a b c = are_of (roles k) a b c
 
--- the number, or 0 where the role says that there is none
+-- the number where the role has one, else 0
 abbrev pub kept : Role → ℕ → ℕ
 kept Nothing n = 0
 kept r n = n

@@ -1,4 +1,4 @@
--- What the registers and numbers of each kind of instruction are, in the order of the canonical text.
+-- The role of each kind's registers and numbers, in the order of the canonical text.
 use Rattle.thumb_instr.specs.declared.kind.Kind.{Kind}
 use Rattle.thumb_instr.specs.declared.kind.Kind.TheVariants as kind
 use Rattle.thumb_instr.specs.declared.operation.Operation.{Operation}
@@ -68,7 +68,7 @@ one r = three r Nothing Nothing
 abbrev pub none : Operands
 none = three Nothing Nothing Nothing
 
--- LDM writes its base back, or loads it
+-- LDM writes its base back, or loads it: either way the base is read and written
 abbrev pub roles : Kind → Operands
 roles kind.Mov = two (Register usage.Written class.Any) (Register usage.Read class.Any)
 roles (kind.Three s) = three target low low

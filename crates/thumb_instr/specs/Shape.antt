@@ -1,4 +1,4 @@
--- The items that an instruction reads and writes. Where control can go on in several ways, those of the first: to a label or a code point of the listing.
+-- The items that an instruction reads and writes. For one that can continue in several ways, those of the first: to a label or a code point of the listing.
 use Rattle.std.specs.Prelude.{ℕ, List, [], ◌∷◌, ◌++◌, filter, if◌then◌else◌}
 use Rattle.thumb_instr.specs.declared.instr.Instr.{Instr}
 use Rattle.thumb_instr.specs.declared.instr.Instr.TheVariants.{Mov, Three, Two, Bx, Movs, ShiftLeft, ShiftRight, ThreeNumber, TwoNumber, Add, Compare, Blx, Literal, Indexed, Offset, Stack, Address, StackAddress, StackMove, Extend, Reverse, Push, Pop, StoreMany, LoadMany, Service, BranchIf, Call, ReadSpecial, WriteMask}
@@ -26,7 +26,7 @@ nzc = n_flag ∷ z_flag ∷ c_flag ∷ []
 abbrev pub nzcv : List ℕ
 nzcv = n_flag ∷ z_flag ∷ c_flag ∷ v_flag ∷ []
 
--- the low registers of a list, ascending
+-- the low registers of a list, in ascending order
 unfoldable pub registers_in : ℕ → List ℕ
 registers_in list = filter (has list) (0 ∷ 1 ∷ 2 ∷ 3 ∷ 4 ∷ 5 ∷ 6 ∷ 7 ∷ [])
 
@@ -34,7 +34,7 @@ registers_in list = filter (has list) (0 ∷ 1 ∷ 2 ∷ 3 ∷ 4 ∷ 5 ∷ 6 ∷
 abbrev pub pushed : ℕ → List ℕ
 pushed list = registers_in list ++ (if has list 8 then lr ∷ [] else [])
 
--- what an operation on its target d and the other register m reads; a shift reads C too, since by 0 it keeps it
+-- an operation on its target d and the other register m; shifts read C, since a shift by 0 leaves it unchanged
 abbrev pub two_uses : Operation → ℕ → ℕ → List ℕ
 two_uses operation.And d m = d ∷ m ∷ []
 two_uses operation.Eor d m = d ∷ m ∷ []
@@ -83,7 +83,7 @@ byte_writes byte.Cmp d = nzcv
 byte_writes byte.Add d = d ∷ nzcv
 byte_writes byte.Sub d = d ∷ nzcv
 
--- what a store of t uses beside its address, and what a load of t writes
+-- what a store of t reads besides its address, and what a load of t writes
 abbrev pub access_uses : Access → ℕ → List ℕ
 access_uses access.Str t = t ∷ []
 access_uses access.Strh t = t ∷ []
@@ -104,7 +104,7 @@ access_writes access.Ldrh t = t ∷ []
 access_writes access.Ldrb t = t ∷ []
 access_writes access.Ldrsh t = t ∷ []
 
--- the access of the same kind by register
+-- the access by register that loads or stores the same unit
 abbrev pub offset_access : OffsetAccess → Access
 offset_access offset.Str = access.Str
 offset_access offset.Ldr = access.Ldr
@@ -117,7 +117,7 @@ abbrev pub word_access : WordAccess → Access
 word_access word.Str = access.Str
 word_access word.Ldr = access.Ldr
 
--- the flags of a condition
+-- the flags that a condition reads
 abbrev pub condition_uses : Condition → List ℕ
 condition_uses condition.Eq = z_flag ∷ []
 condition_uses condition.Ne = z_flag ∷ []

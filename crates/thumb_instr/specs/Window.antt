@@ -1,4 +1,4 @@
--- Which registers an instruction names, renaming them, which instructions may stand in windows, and the normal form where an effect has two encodings.
+-- Instructions of windows: the registers that they name, renaming them, which may be in a window, and which represents both encodings of one effect.
 use Rattle.std.specs.Prelude.{◌≡◌, ℕ, ◌<◌, List, [], ◌∷◌, ◌++◌, Option, Some, None, slice_get, unwrap_or, ◌==◌, ◌&&◌, nat_lt, Bool, true, false, if◌then◌else◌}
 use Rattle.std.proofs.Common.{lit≤, subst}
 use Rattle.std.proofs.Math.Nat.{lt_of_lt_of_le, lt_irrefl}
@@ -36,7 +36,7 @@ named_by r n = []
 abbrev pub named_in : Operands → Parts → List ℕ
 named_in r p = named_by r.first p.first ++ (named_by r.second p.second ++ named_by r.third p.third)
 
--- the registers that an instruction names one by one, in the order of its canonical text
+-- the registers that an instruction names outside register lists, in the order of its canonical text
 abbrev pub named : Instr → List ℕ
 named i = named_in (roles (parts_of i).kind) (parts_of i)
 
@@ -54,13 +54,13 @@ abbrev pub wide_or : Option Low → Reg → Reg
 wide_or None x = x
 wide_or (Some r) x = widened r
 
--- only sp itself gives sp
+-- the result is sp only where the register is
 pub sp_of : (o : Option Low) (x : Reg) → (wide_or o x).number ≡ 13 → x.number ≡ 13
 unfolding widened
 sp_of None x e = e
 sp_of (Some r) x e = absurd (lt_irrefl 13 (lt_of_lt_of_le (subst (λ (n : ℕ). n < 8) e r.below) (lit≤ tt)))
 
--- the registers of a sum with low ones in their place
+-- the two registers of ADD, each replaced by a low one where f gives one
 abbrev pub sum_under : (Reg → Option Low) → NotBothSp → NotBothSp
 sum_under f r = record {
   target = wide_or (f r.target) r.target;
@@ -68,7 +68,7 @@ sum_under f r = record {
   one_other = λ e g. r.one_other (sp_of (f r.target) r.target e) (sp_of (f r.source) r.source g);
 }
 
--- the register that a map gives in place of one: the map has those for r0, r1 and so on, and each other register stays
+-- the register that a map gives in place of one: its n-th entry stands for register n, and registers beyond its end stay
 abbrev pub low_under : List Low → Low → Low
 low_under registers x = unwrap_or (slice_get registers x.number) x
 
@@ -78,7 +78,7 @@ reg_under registers x = wide_or (slice_get registers x.number) x
 abbrev pub both_under : List Low → NotBothSp → NotBothSp
 both_under registers r = sum_under (λ x. slice_get registers x.number) r
 
--- an instruction that may stand in a window, with the registers of the map
+-- an instruction of a window, renamed by the map
 abbrev pub renamed : List Low → Instr → Instr
 renamed registers (instr.Mov d m) = instr.Mov (reg_under registers d) (reg_under registers m)
 renamed registers (instr.Three s d n m) = instr.Three s (low_under registers d) (low_under registers n) (low_under registers m)
@@ -93,7 +93,7 @@ renamed registers (instr.Extend e d m) = instr.Extend e (low_under registers d) 
 renamed registers (instr.Reverse r d m) = instr.Reverse r (low_under registers d) (low_under registers m)
 renamed registers i = i
 
--- the item in place of an item: a register of the map, and each other item itself
+-- the number of the renamed item: that of the map's register, or the item's own
 abbrev pub number_or : Option Low → ℕ → ℕ
 number_or None x = x
 number_or (Some r) x = r.number
@@ -101,9 +101,9 @@ number_or (Some r) x = r.number
 abbrev pub item_under : List Low → ℕ → ℕ
 item_under registers x = number_or (slice_get registers x) x
 
--- Which instructions may stand in a window, and the one that stands for both encodings of an effect.
+-- Which instructions may be in a window, and the one that represents both encodings of an effect.
 
--- the instruction goes on to the next place, touches no memory and no state but registers and flags, and names low registers alone
+-- control goes on to the next instruction, no memory and no state but registers and flags is affected, and only low registers are named
 abbrev pub is_in_window : Instr → Bool
 is_in_window (Mov d m) = nat_lt d.number 8 && nat_lt m.number 8
 is_in_window (Three s d n m) = true
@@ -126,7 +126,7 @@ abbrev pub byte_sum : SumOperation → ByteOperation
 byte_sum sum.Add = byte.Add
 byte_sum sum.Sub = byte.Sub
 
--- ADDS and SUBS of a register and a 3-bit number have a second encoding where the register is the target
+-- ADDS and SUBS of a register and a 3-bit number also have an encoding with an 8-bit number where the register is the target
 abbrev pub normal_of : Instr → Instr
 normal_of (ThreeNumber s d n i) = if d.number == n.number then TwoNumber (byte_sum s) d (byte_of i) else ThreeNumber s d n i
 normal_of i = i

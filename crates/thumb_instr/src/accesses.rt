@@ -1,4 +1,4 @@
-//! What each instruction reads and writes, one row a form. The ways on from a place, and so the live items, are worked out from these rows.
+//! What each instruction reads and writes, one row for each form: `code_flow` and `liveness` take it from these rows alone.
 ghost use Rattle.std.specs.Prelude.{◌≡◌, ℕ, ◌<◌};
 ghost use Rattle.thumb_instr.specs.Items.{one_of, has};
 ghost use Rattle.thumb_instr.specs.Shape.{uses_of, writes_of, two_uses, two_writes, byte_uses, byte_writes, access_uses, access_writes, offset_access, word_access, condition_uses, registers_in, pushed};
@@ -8,8 +8,8 @@ use crate::items::{C, Items, LR, N, SP, Shape, V, Z};
 use crate::operation::{Access, ByteOperation, Condition, OffsetAccess, Operation, WordAccess};
 use crate::within::Low;
 
-/// What an instruction reads and writes. Where control can go on in several ways, this is for the first: to a label or a code point of the listing.
-/// A shift by register reads C, since an amount of 0 keeps it.
+/// What an instruction reads and writes. For one that can continue in several ways, this describes the first: to a label or a code point of the listing.
+/// A shift by register also reads C, since a shift by 0 leaves C unchanged.
 pub fn shape(instr: &Instr) -> Shape
     ensures uses { (x : ℕ) → has result.uses.bits x ≡ one_of x (uses_of instr.now) }
     ensures writes { (x : ℕ) → has result.writes.bits x ≡ one_of x (writes_of instr.now) }
@@ -187,7 +187,7 @@ fn byte_writes(operation: ByteOperation, target: Low) -> Items
     }
 }
 
-/// The access of the same kind by register.
+/// The access by register that loads or stores the same unit.
 pub fn offset_access(access: OffsetAccess) -> Access
     ensures { result ≡ offset_access access }
 {
@@ -201,7 +201,7 @@ pub fn offset_access(access: OffsetAccess) -> Access
     }
 }
 
-/// The access of the same kind by register.
+/// The access by register that loads or stores a word in the same direction.
 pub fn word_access(access: WordAccess) -> Access
     ensures { result ≡ word_access access }
 {
@@ -211,7 +211,7 @@ pub fn word_access(access: WordAccess) -> Access
     }
 }
 
-/// What a load or a store reads beside its address.
+/// What a load or a store reads besides its address.
 fn access_uses(access: Access, target: Low) -> Items
     ensures { (x : ℕ) → has result.bits x ≡ one_of x (access_uses access target.number) }
 {
@@ -243,7 +243,7 @@ fn access_writes(access: Access, target: Low) -> Items
     }
 }
 
-/// The flags of a condition.
+/// The flags that a condition reads.
 fn condition_uses(condition: Condition) -> Items
     ensures { (x : ℕ) → has result.bits x ≡ one_of x (condition_uses condition) }
 {

@@ -1,4 +1,4 @@
-//! Instructions taken apart into a kind, registers and numbers, so that codes, texts and renaming can each be a table of rows.
+//! Takes instructions apart into a kind, registers and numbers, so that codes, texts and the search for named registers can each be a table of rows.
 ghost use Rattle.std.specs.Prelude.{◌≡◌};
 ghost use Rattle.thumb_instr.specs.Parts.{of, parts_of};
 

@@ -1,9 +1,9 @@
-//! Distances of branches as types that hold only what the encoding's field can hold, so that an instruction out of reach can't be made.
+//! Branch distances as types that hold only what the encoding's field can hold, so that a branch out of reach can't be constructed.
 ghost use Rattle.std.specs.Prelude.{◌≡◌, ◌<◌, ◌≤◌, ◌*◌, ◌^◌, ◌↔◌, IsSome, IfSome};
 ghost use Rattle.thumb_instr.specs.Items.{bytes_of, IsDistance};
 
-/// The distance of a branch in bytes, from the address of its instruction and 4: an even number from -2 HALF to below 2 HALF.
-/// The field is half of it as the encoding holds it, in two's complement below 2 HALF.
+/// The distance of a branch in bytes, measured from its instruction's address + 4: an even number from -2 HALF to below 2 HALF.
+/// The field is half the distance as the encoding holds it: in two's complement, modulo 2 HALF.
 #[derive(Clone, Copy, Debug, PartialEq, Eq)]
 pub struct Distance<const HALF: u32> {
     pub field: u32,
@@ -19,7 +19,7 @@ impl<const HALF: u32> Distance<HALF> {
         Distance { field }
     }
 
-    /// The distance of `bytes` bytes. None where the field can't hold it.
+    /// The distance of this many bytes. None where it is odd or out of range.
     pub fn new(bytes: i32) -> Option<Self>
         requires { HALF ≤ 2 ^ 28 }
         ensures valid { IsSome result ↔ IsDistance HALF bytes }
@@ -44,7 +44,7 @@ impl<const HALF: u32> Distance<HALF> {
         }
     }
 
-    /// How many bytes it is.
+    /// The distance in bytes.
     pub fn bytes(&self) -> i32
         requires { HALF ≤ 2 ^ 28 }
         ensures { result ≡ bytes_of HALF self.now.field }

@@ -1,4 +1,4 @@
-//! The instructions of Armv6-M that the program knows, as data whose fields hold only what has an encoding.
+//! The instructions of Armv6-M that this program knows. Their fields hold only what can be encoded, so every value has an encoding.
 use crate::distance::{Far, Farthest, Near};
 use crate::operation::{
     Access, Barrier, ByteOperation, Condition, Extension, HintOperation, Interrupts, OffsetAccess,
@@ -8,7 +8,7 @@ use crate::within::{
     Byte, General, Low, LowList, NotBothLow, NotBothSp, Reg, StackList, Stored, Within,
 };
 
-/// An instruction. Registers stand in the order of its text, and each field holds only what its encoding can hold.
+/// An instruction. Registers are in the order of its text, and each field holds only what its encoding can hold.
 #[derive(Clone, Copy, Debug, PartialEq, Eq)]
 pub enum Instr {
     /// `mov target, source` (MOV register, encoding T1)

@@ -1,4 +1,4 @@
-//! Registers and flags by number, and sets of them in one word, which live items are kept in.
+//! Registers and flags by number, and sets of them as bits of one word: liveness is computed with these sets.
 ghost use Rattle.std.specs.Prelude.{◌≡◌, ℕ, ◌<◌, ◌==◌, ◌&&◌, ◌||◌, not, true, false};
 ghost use Rattle.thumb_instr.specs.Items.{one_of, has, AreItems, is_in_masks};
 
@@ -76,7 +76,7 @@ impl Items {
     }
 }
 
-/// A set of some of r0 to r3 and the flags, as the bits of the items' numbers.
+/// A set of some of r0 to r3 and the flags, the only items that masks hold, as the bits of the items' numbers.
 #[derive(Clone, Copy, Debug, PartialEq, Eq)]
 pub struct Mask {
     pub items: Items,
@@ -84,7 +84,7 @@ pub struct Mask {
 }
 
 impl Mask {
-    /// The items of a set that may be in masks.
+    /// Those items of a set that may be in masks.
     pub fn of(items: Items) -> Mask
         ensures { (x : ℕ) → has result.items.bits x ≡ (has items.bits x && is_in_masks x) }
     {

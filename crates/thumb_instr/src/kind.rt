@@ -1,10 +1,10 @@
-//! Instructions without their registers and numbers, and with them as plain numbers.
+//! An instruction's kind (its constructor and operation), and an instruction as its kind with plain numbers, which the tables of rows use.
 use crate::operation::{
     Access, Barrier, ByteOperation, Condition, Extension, HintOperation, Interrupts, OffsetAccess,
     Operation, Reversal, Right, Special, SumOperation, WordAccess,
 };
 
-/// What an instruction is, without its registers and numbers: as the constructors of `Instr`, with the operation.
+/// What an instruction is, without its registers and numbers: the constructors of `Instr`, with the operation.
 #[derive(Clone, Copy, Debug, PartialEq, Eq)]
 pub enum Kind {
     Mov,

@@ -1,4 +1,4 @@
-//! Instructions of the Armv6-M Thumb set as plain data, with the registers and numbers that they hold, and the items that they read and write.
+//! Instructions of the Armv6-M Thumb set as plain data, with their registers and numbers, and the items (registers and flags) that they read and write.
 #![tactic(auto)]
 
 pub mod accesses;

@@ -1,4 +1,4 @@
-//! Operations that share an encoding and differ in one of its fields, so that a form of instruction has one row and not one for each operation.
+//! Operations that share one encoding and differ in a field of it, so that they need one row together and not one each.
 /// A sum or a difference.
 #[derive(Clone, Copy, Debug, PartialEq, Eq)]
 pub enum SumOperation {

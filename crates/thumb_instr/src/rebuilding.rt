@@ -1,4 +1,4 @@
-//! Instructions put together from their kind, registers and numbers, as `apart` takes them apart; readers of texts and of codes use it.
+//! Builds instructions from their kind, registers and numbers, and refuses those that have no encoding: the inverse of `parts`.
 ghost use Rattle.std.specs.Prelude.{◌≡◌, ◌<◌, ◌*◌, ◌^◌, ◌&&◌, not, true, false, nat_lt, ◌==◌, ◌↔◌, IsTrue, MatchOption, option_map};
 ghost use Rattle.thumb_instr.specs.declared.instr.Instr.{Instr};
 ghost use Rattle.thumb_instr.specs.Parts.{parts_of, made, is_within, are_low, are_registers, are_three_low, is_general, low_and, two_low_and, is_stored};
@@ -92,7 +92,7 @@ fn distance<const HALF: u32>(field: u32) -> Option<Distance<HALF>>
 }
 
 /// The instruction of a kind with these registers and numbers, in the order of its text; numbers that the kind doesn't have are ignored.
-/// None where there is none.
+/// None where no instruction has them.
 pub fn made(kind: Kind, a: u32, b: u32, c: u32) -> Option<Instr>
     ensures { option_map parts_of result ≡ made kind a b c }
 {

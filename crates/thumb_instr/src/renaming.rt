@@ -1,4 +1,4 @@
-//! The registers that an instruction names, and renaming them.
+//! The registers that an instruction names, and renaming them, so that one table entry serves for every choice of registers.
 ghost use Rattle.std.specs.Prelude.{◌≡◌, ◌+◌, ◌<◌, ◌≤◌, ◌++◌, true, length, map, slice_get};
 ghost use Rattle.thumb_instr.specs.Window.{named_by, named, AreBelow, low_under, wide_or, reg_under, both_under, renamed, is_in_window};
 
@@ -8,7 +8,7 @@ use crate::role::{Role, roles};
 use crate::within::{Low, NotBothSp, Reg};
 use arrayvec::ArrayVec;
 
-/// The registers found so far, and the further one, if the role is a register's.
+/// The registers found so far, and the operand with this role where it is a register.
 fn and_named(found: ArrayVec<Low, 3>, role: Role, number: u32) -> ArrayVec<Low, 3>
     requires room { length found.items < 3 }
     requires low { AreBelow 8 (named_by role number) }
@@ -25,7 +25,7 @@ fn and_named(found: ArrayVec<Low, 3>, role: Role, number: u32) -> ArrayVec<Low, 
     }
 }
 
-/// The registers that an instruction of a window names, in the order of its canonical text; one that it names twice is listed twice.
+/// The registers that an instruction of a window names, in the order of its canonical text. A register named twice is listed twice.
 pub fn registers_of(instr: &Instr) -> ArrayVec<Low, 3>
     requires { is_in_window instr.now ≡ true }
     ensures { map (λ r. r.number) result.items ≡ named instr.now }
@@ -37,14 +37,14 @@ pub fn registers_of(instr: &Instr) -> ArrayVec<Low, 3>
     and_named(found, roles.third, parts.third)
 }
 
-/// What a map has for the register of this number.
+/// The register that a map has for the register of this number, if any.
 fn mapped(map: &[Low], number: u32) -> Option<Low>
     ensures { result ≡ slice_get map.now number }
 {
     map.get(number as usize).copied()
 }
 
-/// The register that a map gives in place of one: the map has those for r0, r1 and so on, and each other register stays.
+/// The register that a map gives in place of one: its n-th entry stands for register n, and registers beyond its end stay.
 fn low_under(map: &[Low], register: Low) -> Low
     ensures { result ≡ low_under map.now register }
 {
@@ -54,7 +54,7 @@ fn low_under(map: &[Low], register: Low) -> Low
     }
 }
 
-/// The low register, if there is one, else the other.
+/// The low register as a general one where there is one, else `register`.
 fn wide_or(low: Option<Low>, register: Reg) -> Reg
     ensures { result ≡ wide_or low register }
 {
@@ -71,7 +71,7 @@ fn reg_under(map: &[Low], register: Reg) -> Reg
     wide_or(mapped(map, register.number), register)
 }
 
-/// The registers of a sum under a map.
+/// The two registers of an `add`, renamed by a map.
 fn both_under(map: &[Low], registers: NotBothSp) -> NotBothSp
     ensures { result ≡ both_under map.now registers }
 {
@@ -80,8 +80,8 @@ fn both_under(map: &[Low], registers: NotBothSp) -> NotBothSp
     NotBothSp { target, source }
 }
 
-/// An instruction with the registers that a map gives in place of its own: those for r0, r1 and so on, and each other register stays.
-/// An instruction whose kind cannot stand in a window stays as it is.
+/// An instruction renamed by a map, whose n-th entry stands for register n; registers beyond its end stay.
+/// An instruction whose kind can't be in a window stays as it is.
 pub fn renamed(instr: &Instr, map: &[Low]) -> Instr
     ensures { result ≡ renamed map.now instr.now }
 {

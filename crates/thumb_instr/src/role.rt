@@ -1,4 +1,4 @@
-//! What an instruction does with each register and number of its text.
+//! The role of each register and number of an instruction's text: how it is used and its range. Finding named registers and enumeration rest on it.
 ghost use Rattle.std.specs.Prelude.{◌≡◌};
 ghost use Rattle.thumb_instr.specs.declared.role.Role.TheVariants.{Nothing};
 ghost use Rattle.thumb_instr.specs.Roles.{two_usage, byte_usage, access_usage, offset_usage, word_usage, three, roles};
@@ -15,7 +15,7 @@ pub enum Usage {
     Updated,
 }
 
-/// Which registers may stand in a place.
+/// Which registers may be an operand.
 #[derive(Clone, Copy, Debug, PartialEq, Eq)]
 pub enum Class {
     /// r0 to r7
@@ -26,22 +26,22 @@ pub enum Class {
     General,
 }
 
-/// What a register or number of an instruction is.
+/// What an operand of an instruction is.
 #[derive(Clone, Copy, Debug, PartialEq, Eq)]
 pub enum Role {
     /// a register
     Register(Usage, Class),
     /// a number from the first to below the second
     Number(u32, u32),
-    /// a list of registers as their bits: at least one register, and below this number
+    /// a list of registers as their bits: from 1 to below this number
     List(u32),
     /// the field of a distance to a label, below this number
     Distance(u32),
-    /// there is none
+    /// there is no such operand
     Nothing,
 }
 
-/// What the registers and numbers of a kind are, in the order of its canonical text.
+/// The roles of a kind's registers and numbers, in the order of its canonical text.
 #[derive(Clone, Copy, Debug, PartialEq, Eq)]
 pub struct Operands {
     pub first: Role,
@@ -135,7 +135,7 @@ fn word_usage(access: WordAccess) -> Usage
     }
 }
 
-/// What the registers and numbers of a kind are, in the order of its canonical text.
+/// The roles of a kind's registers and numbers, in the order of its canonical text.
 pub fn roles(kind: Kind) -> Operands
     ensures { result ≡ roles kind }
 {

@@ -1,4 +1,4 @@
-//! A short sequence of instructions without memory of its own: a side of a rule, or a window.
+//! A short sequence of instructions that allocates no memory: a side of a rule, or a window.
 ghost use Rattle.std.specs.Prelude.{◌≡◌, ◌<◌, ◌≤◌, ◌+◌, ◌↔◌, [], ◌∷◌, ◌++◌, length, IsSome, IfSome, IsTrue};
 
 use crate::instr::Instr;
@@ -30,7 +30,7 @@ impl Seq {
         }
     }
 
-    /// The instructions of a slice, where they are at most five.
+    /// The instructions of a slice. None where there are more than five.
     pub fn from_slice(instrs: &[Instr]) -> Option<Self>
         ensures valid { IsSome result ↔ (length instrs.now ≤ 5) }
         ensures value { IfSome result (λ s. s ≡ instrs.now) }
@@ -45,7 +45,7 @@ impl Seq {
         Some(Seq { instrs: seq })
     }
 
-    /// Puts an instruction behind the others.
+    /// Appends an instruction.
     pub fn push(&mut self, instr: Instr)
         requires { length self.old < 5 }
         ensures { self.new ≡ self.old ++ instr ∷ [] }
@@ -53,7 +53,7 @@ impl Seq {
         self.instrs.push(instr);
     }
 
-    /// The instructions, from the first on.
+    /// The instructions in order.
     pub fn as_slice(&self) -> &[Instr]
         ensures value { result.now ≡ self.now }
         ensures few { length result.now ≤ 5 }

@@ -1,4 +1,4 @@
-//! Which instructions windows are made of, and which of two encodings of one effect a rule is written with.
+//! Which instructions may be in a window, and which of two encodings with one effect rules are written with.
 ghost use Rattle.std.specs.Prelude.{◌≡◌};
 ghost use Rattle.thumb_instr.specs.Window.{is_in_window, normal_of, byte_sum};
 
@@ -6,7 +6,7 @@ use crate::instr::Instr;
 use crate::operation::{ByteOperation, SumOperation};
 use crate::within::Within;
 
-/// Whether the instruction may stand in a window: it goes on to the next place, touches no memory and no state but registers and flags,
+/// Whether the instruction may be in a window: control goes on to the next instruction, it affects no memory and no state but registers and flags,
 /// and names low registers alone.
 pub fn in_window(instr: &Instr) -> bool
     ensures { result ≡ is_in_window instr.now }
@@ -27,7 +27,7 @@ pub fn in_window(instr: &Instr) -> bool
     }
 }
 
-/// The sum of a register and an 8-bit number.
+/// The operation with an 8-bit immediate that adds or subtracts as this one does.
 fn byte_sum(sum: SumOperation) -> ByteOperation
     ensures { result ≡ byte_sum sum }
 {
@@ -37,8 +37,8 @@ fn byte_sum(sum: SumOperation) -> ByteOperation
     }
 }
 
-/// The instruction of the same effect that stands for both encodings of it, where it has two: ADDS and SUBS of a 3-bit number to its
-/// own register become those of an 8-bit number.
+/// The instruction that represents both encodings of one effect, where it has two: ADDS and SUBS of a 3-bit number to the source
+/// register itself become those of an 8-bit number.
 pub fn normal(instr: Instr) -> Instr
     ensures { result ≡ normal_of instr }
 {

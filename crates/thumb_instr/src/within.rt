@@ -1,4 +1,4 @@
-//! Numbers and registers whose range is in their type, so that no instruction without an encoding can be made.
+//! Numbers and registers whose range is part of their type, so that no instruction without an encoding can be constructed.
 ghost use Rattle.std.specs.Prelude.{◌≡◌, ◌≢◌, ◌<◌, ◌≤◌, ◌/◌, ◌%◌, ◌^◌, ◌↔◌, IsSome, IfSome};
 
 /// A number from LEAST to below END.
@@ -10,7 +10,7 @@ pub struct Within<const LEAST: u32, const END: u32> {
 }
 
 impl<const LEAST: u32, const END: u32> Within<LEAST, END> {
-    /// The number itself.
+    /// The number, which is in the range by the contract.
     pub fn of(number: u32) -> Self
         requires least { LEAST ≤ number }
         requires below { number < END }
@@ -19,7 +19,7 @@ impl<const LEAST: u32, const END: u32> Within<LEAST, END> {
         Within { number }
     }
 
-    /// The number, where it lies in the range.
+    /// The number, checked: None where it isn't in the range.
     pub fn new(number: u32) -> Option<Self>
         ensures valid { IsSome result ↔ ((LEAST ≤ number) × (number < END)) }
         ensures value { IfSome result (λ r. r.number ≡ number) }
@@ -46,10 +46,10 @@ impl Default for Within<0, 8> {
     }
 }
 
-/// A register but pc: r0 to r12, sp as 13 and lr as 14.
+/// A register other than pc: r0 to r12, sp as 13 and lr as 14.
 pub type Reg = Within<0, 15>;
 
-/// A register but sp and pc: r0 to r12, and lr as 14.
+/// A register other than sp and pc: r0 to r12, and lr as 14.
 #[derive(Clone, Copy, Debug, PartialEq, Eq)]
 pub struct General {
     pub number: u32,
@@ -58,7 +58,7 @@ pub struct General {
 }
 
 impl General {
-    /// The register of this number, where it is one.
+    /// The register of this number. None where the number is 13, or above 14.
     pub fn new(number: u32) -> Option<Self>
         ensures valid { IsSome result ↔ ((number < 15) × (number ≢ 13)) }
         ensures value { IfSome result (λ r. r.number ≡ number) }
@@ -74,13 +74,13 @@ impl General {
 /// A byte.
 pub type Byte = Within<0, 256>;
 
-/// Some of r0 to r7, as a bit of its number each: at least one.
+/// A non-empty list of low registers: bit n is register n.
 pub type LowList = Within<1, 256>;
 
-/// Some of r0 to r7, as a bit of its number each, and lr or pc as bit 8: at least one.
+/// A non-empty list of low registers and lr or pc: bit n is register n, and bit 8 is lr (PUSH) or pc (POP).
 pub type StackList = Within<1, 512>;
 
-/// Two registers, not both sp: a target and what is added to it.
+/// Two registers, not both sp: a target and the register that is added to it.
 #[derive(Clone, Copy, Debug, PartialEq, Eq)]
 pub struct NotBothSp {
     pub target: Reg,
@@ -89,7 +89,7 @@ pub struct NotBothSp {
 }
 
 impl NotBothSp {
-    /// The two registers, where they are not both sp.
+    /// The two registers. None where both are sp.
     pub fn new(target: Reg, source: Reg) -> Option<Self>
         ensures valid { IsSome result ↔ (target.number ≡ 13 → source.number ≢ 13) }
         ensures value { IfSome result (λ r. (r.target ≡ target) × (r.source ≡ source)) }
@@ -111,7 +111,7 @@ pub struct NotBothLow {
 }
 
 impl NotBothLow {
-    /// The two registers, where they are not both low.
+    /// The two registers. None where both are low.
     pub fn new(left: Reg, right: Reg) -> Option<Self>
         ensures valid { IsSome result ↔ (left.number < 8 → 8 ≤ right.number) }
         ensures value { IfSome result (λ r. (r.left ≡ left) × (r.right ≡ right)) }
@@ -124,7 +124,7 @@ impl NotBothLow {
     }
 }
 
-/// A base and a list of registers to be stored there: the base is not in the list, or is its lowest.
+/// A base and a list of registers to store there: the base isn't in the list, or is its lowest register.
 #[derive(Clone, Copy, Debug, PartialEq, Eq)]
 pub struct Stored {
     pub base: Low,
@@ -133,7 +133,7 @@ pub struct Stored {
 }
 
 impl Stored {
-    /// The base and the list, where the base is not in the list, or is its lowest.
+    /// The base and the list. None where the base is in the list but isn't its lowest register.
     pub fn new(base: Low, list: LowList) -> Option<Self>
         ensures valid { IsSome result ↔ (list.number / 2 ^ base.number % 2 ≡ 1 → list.number % 2 ^ base.number ≡ 0) }
         ensures value { IfSome result (λ r. (r.base ≡ base) × (r.list ≡ list)) }

@@ -1,4 +1,4 @@
--- Acts that are the same at a world.
+-- An act may be replaced by one that is equal at the world in question: so each arm of `act` proves its own.
 use Rattle.std.proofs.Common.{◌≡◌, ℕ, ◌%◌, ◌==◌, true, false, List, [], ◌∷◌, drop, Result, Ok, Err, refl, sym, ap, ◌∙◌, subst}
 use Rattle.thumb_instr.specs.declared.operation.Access.{Access}
 use Rattle.thumb_instr.specs.declared.operation.Access.TheVariants as access
@@ -59,7 +59,7 @@ load_many_faults base address xs w h = rw h refl
 
 -- ---- rows ----
 
--- an instruction's act is this one
+-- a change by the act f is one by the instruction's act, where the two are equal at the world
 pub acts_row : {E : Type 0} (around : model.Around) (i j : Instr) (f : model.World → Act) (old : World) (before : List Answer) (new : World) (left : List Answer) (r : Result Continuation E)
     → i ≡ j → act around j (world_of old before) ≡ f (world_of old before) → Acts f old before new left r → Acts (act around i) old before new left r
 acts_row around i j f old before new left r is e h = acts_by (act around i) f old before new left r (ap (λ (k : Instr). act around k (world_of old before)) is ∙ e) h

@@ -1,4 +1,4 @@
--- A naming fits exactly where each of its conditions holds.
+-- `Fits` holds exactly where the tests of `specs/Fitting` do.
 use Rattle.std.proofs.Common.{◌≡◌, ◌≢◌, ◌∙◌, inl, inr, ℕ, zero, suc, ◌+◌, ◌%◌, ◌^◌, ◌<◌, ◌==◌, ◌&&◌, ◌||◌, Bool, true, false, List, [], ◌∷◌, Option, Some, None, refl, sym, ap, add-one, arith, drop, get_or, map, true≢false, eqb-true}
 use Rattle.std.specs.Prelude.{is_some, not, slice_get, unwrap_or}
 use Rattle.std.specs.List.{list_all}

@@ -1,4 +1,4 @@
--- Lists of registers, and their words.
+-- Loads of lists of registers, word by word: the recursion of `read_many`.
 use Rattle.std.proofs.Common.{◌≡◌, inl, inr, ℕ, suc, ◌+◌, ◌-◌, take, ◌<◌, ◌≤◌, true, false, List, [], ◌∷◌, ◌++◌, drop, get_or, length, refl, sym, ap, arith, add-one, length-drop, append_assoc, ◌∙◌, if◌then◌else◌}
 use Rattle.std.proofs.Math.Seq.{drop-cons, take-length}
 use Rattle.std.proofs.lemmas.Bool.{cases_Bool}
@@ -30,7 +30,7 @@ pub loads_next : (es : List Event) (e : Event) (a : ℕ) (xs : List ℕ) (i : �
     → events_of (es ++ e ∷ []) ++ load_events (next_word a) (drop (i + 1) xs) ≡ events_of es ++ load_events a (drop i xs)
 loads_next es e a xs i is h = rw (drop-cons xs i 0, add-one, map-append) (rw is (append_assoc (events_of es) (Load a 4 ∷ []) (load_events (next_word a) (drop (suc i) xs))))
 
--- what is left of a list behind its first
+-- the list without its first element
 pub rest_is : (xs : List ℕ) → take (length xs - 1) (drop 1 xs) ≡ drop 1 xs
 rest_is [] = refl
 rest_is (x ∷ xs) = let e : length (x ∷ xs) - 1 ≡ length xs = omega arith in ap (λ n. take n xs) e ∙ take-length xs

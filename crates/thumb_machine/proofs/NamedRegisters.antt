@@ -1,4 +1,4 @@
--- An instruction that computes names registers that are there.
+-- An instruction that computes names only registers below 15, which the machine has.
 use Rattle.std.proofs.Common.{◌≡◌, ◌<◌, true, arith}
 use Rattle.thumb_instr.specs.declared.instr.Instr.{Instr}
 use Rattle.thumb_instr.specs.declared.instr.Instr.TheVariants as instr

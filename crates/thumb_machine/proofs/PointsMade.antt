@@ -1,4 +1,4 @@
--- The least places of words, as they are gathered.
+-- The loop invariants of `points`: the table so far and the code points to come give the least places.
 use Rattle.std.proofs.Common.{◌≡◌, inl, inr, ℕ, ◌+◌, ◌∙◌, true, false, List, [], ◌∷◌, ◌++◌, Option, Some, None, length, drop, refl, sym, ap, arith, add-one, append_assoc, if◌then◌else◌}
 use Rattle.std.specs.Prelude.{slice_get}
 use Rattle.std.proofs.lemmas.Bool.{cases_Bool}
@@ -15,7 +15,7 @@ merged_none (Some p) = refl
 
 -- ---- return points ----
 
--- the return point of one place, and others
+-- the return points of one place and of those after it
 returns_one : (names : Naming) (k p : ℕ) (x : Place) (xs : List Place) → returns_from names k p (x ∷ []) ++ returns_from names (k + (if is_call x then 1 else 0)) (p + 1) xs ≡ returns_from names k p (x ∷ xs)
 returns_one names k p x xs = elim (cases_Bool (is_call x)) [
   | inl e ↦ rw e refl

@@ -1,4 +1,4 @@
--- POP with pc, by where its word lands.
+-- POP with pc does the model's act in each case of where its word lands.
 use Rattle.std.proofs.Common.{◌≡◌, ℕ, ◌%◌, ◌==◌, false, List, [], ◌∷◌, ◌++◌, refl, sym, ap, ◌∙◌, subst, append_assoc}
 use Rattle.std.proofs.lemmas.List.{map-append}
 use Rattle.thumb_machine.specs.declared.answers.Answer.{Answer}
@@ -20,7 +20,7 @@ use Rattle.thumb_model.specs.States as model
 pub events_push : (es : List Event) (e : Event) (x : model.Event) → event_of e ≡ x → events_of (es ++ e ∷ []) ≡ events_of es ++ x ∷ []
 events_push es e x h = rw map-append (ap (λ y. events_of es ++ y ∷ []) h)
 
--- a run that is over ends by its last event, whatever came before
+-- earlier events don't change by which event a run ends
 pub ends_behind : (n : Continuation) (front es : List model.Event) → EndsBy n es → EndsBy n (front ++ es)
 ends_behind (next.Over e) front es h = (front ++ h.0, h.1, ap (λ l. front ++ l) h.2 ∙ sym (append_assoc front h.0 (h.1 ∷ [])), h.3)
 ends_behind n front es h = tt

@@ -1,4 +1,4 @@
--- Calls and the words of their return points.
+-- The loop invariant of the table of return words, and that the table is the layout's.
 use Rattle.std.proofs.Common.{◌≡◌, ◌∙◌, inl, inr, ℕ, zero, suc, ◌+◌, ◌-◌, ◌<◌, true, false, List, [], ◌∷◌, ◌++◌, length, take, Option, Some, refl, sym, ap, arith, below_more, length-append, if◌then◌else◌}
 use Rattle.std.specs.Prelude.{slice_get, slice_index}
 use Rattle.std.proofs.lemmas.Bool.{cases_Bool}
@@ -49,7 +49,7 @@ at_front [] w j lt = absurd (omega arith)
 at_front (x ∷ xs) w zero lt = refl
 at_front (x ∷ xs) w (suc j) lt = at_front xs w j (omega arith)
 
--- and one that is
+-- a place that is a call
 pub returns_more : (base : ℕ) (lines : List ListingLine) (p : ℕ) (list new : List ℕ) (w : ℕ) → is_call_place (slice_get (places_of lines) p) ≡ true → w ≡ return_address (call_count (take p (places_of lines))) base lines + 1
     → new ≡ list ++ w ∷ [] → AreReturns base lines (call_count (take p (places_of lines))) list → AreReturns base lines (call_count (take (p + 1) (places_of lines))) new
 returns_more base lines p list new w call is put are =

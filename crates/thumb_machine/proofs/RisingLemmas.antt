@@ -1,4 +1,4 @@
--- Words that rise from place to place differ.
+-- Where words rise from place to place, code points at different places have different words: one pass is enough.
 use Rattle.std.proofs.Common.{◌≡◌, ◌∙◌, ◌⊎◌, inl, inr, ℕ, ◌<◌, ◌≤◌, ◌==◌, ◌&&◌, ◌||◌, Bool, true, false, List, [], ◌∷◌, refl, ap₂, arith}
 use Rattle.std.specs.Prelude.{nat_lt, not}
 use Rattle.std.specs.List.{list_all}
@@ -37,7 +37,7 @@ one_more r v q w p order up (inr le) = elim (cases_Bool (p == r.place)) [
 stays_ordered : (r : Rising) (w p : ℕ) → r.below ≤ r.greatest → (risen r w p).below ≤ (risen r w p).greatest
 stays_ordered r w p order = elim (cases_Bool (p == r.place)) [ inl e ↦ rw e (grind (arith, order)) | inr e ↦ rw e (grind arith) ]
 
--- it is apart from all that come
+-- a code point that came before is apart from all that come later
 apart_behind : (r : Rising) (v q : ℕ) (xs : List (ℕ × ℕ)) → r.below ≤ r.greatest → all_pass rises risen r xs ≡ true → IsBehind r v q → list_all (apart (v, q)) xs ≡ true
 apart_behind r v q [] order up behind = refl
 apart_behind r v q (x ∷ xs) order up behind =
@@ -45,7 +45,7 @@ apart_behind r v q (x ∷ xs) order up behind =
     let more = one_more r v q x.0 x.1 order ups.0 behind in
     rw more.0 (apart_behind (risen r x.0 x.1) v q xs (stays_ordered r x.0 x.1 order) ups.1 more.1)
 
--- ---- any two are apart, where each is apart from those behind it ----
+-- ---- each two are apart, where each is apart from those after it ----
 
 apart_sym : (x y : ℕ × ℕ) → apart x y ≡ apart y x
 apart_sym x y = ap₂ (λ a b. a || not b) (eqb_sym x.1 y.1) (eqb_sym x.0 y.0)

@@ -1,4 +1,4 @@
--- The loop that makes a program's rows: what holds of the rows and the calls so far holds with one place more.
+-- The loop invariant of a program's rows: one more row for one more place.
 use Rattle.std.proofs.Common.{◌≡◌, inl, inr, ℕ, zero, suc, ◌+◌, ◌<◌, List, [], ◌∷◌, ◌++◌, Option, Some, None, length, take, sym, subst, arith, if◌then◌else◌}
 use Rattle.std.specs.Prelude.{slice_get}
 use Rattle.std.proofs.lemmas.Bool.{cases_lt, cases_Bool}

@@ -1,4 +1,4 @@
--- A step at a row of a program is the definition's.
+-- A step of the machine at a row of its program is the model's step.
 use Rattle.std.proofs.Common.{◌≡◌, ℕ, ◌+◌, ◌∙◌, List, [], ◌∷◌, ◌++◌, Option, Some, None, refl, sym, ap, subst, append_assoc}
 use Rattle.std.specs.Prelude.{slice_get}
 use mathlib.Core.Path.{fun_ext}
@@ -44,7 +44,7 @@ same_lands names code program is word =
 same_around : (a b : model.Around) → a.target ≡ b.target → a.literal ≡ b.literal → a.link ≡ b.link → ((w : ℕ) → a.lands w ≡ b.lands w) → a ≡ b
 same_around a b t l k f = let e : a.lands ≡ b.lands = fun_ext f in λ i. record { target = t i; literal = l i; link = k i; lands = e i }
 
--- a run that is over after an instruction ended by its last event
+-- where a run is over after an instruction, the last event says how it ended
 ended_by : (n : Continuation) (old new : Position) (p : ℕ) (before es all : List model.Event) → old ≡ at.Here p → at_of new ≡ arrives p (p + 1) (next_of n) → LeadsTo n new → EndsBy n es → all ≡ before ++ es → EndedBy old new all
 ended_by n old (at.Here q) p before es all here arrived leads ends told = tt
 ended_by next.On old (at.Ended e) p before es all here arrived leads ends told = absurd (cc)
@@ -64,7 +64,7 @@ pub record Done (old : Machine) (before : List Answer) (p : ℕ) (a : Act) (n : 
   pub stage : IsStage s (next_of n) new.at
   pub leads : LeadsTo n new.at
 
--- a step that does an act is the definition's where that act is the step's
+-- a step that does an act is the model's step, where the model's step does that act
 does_step : (names : Naming) (code : Code) (old : Machine) (before : List Answer) (p : ℕ) (i : Instr) (m : Option Mention) (n : Continuation) (middle : World) (new : Machine) (left : List Answer) (s : Stage)
     → slice_get code.places p ≡ Some (Op i m) → Done old before p (act (model_steps.around_of names code p i m) i (world_of old.world before)) n middle new left s → Stepped names code old before new left s
 does_step names code old before p i m n middle new left s is d =

@@ -1,4 +1,4 @@
--- A test of all code points is the same in the order of lines.
+-- A test of all code points line by line is that of the model's list, which has all labels before all return points.
 use Rattle.std.proofs.Common.{◌≡◌, ◌∙◌, ℕ, ◌+◌, ◌&&◌, ◌≤◌, Bool, true, false, List, [], ◌∷◌, ◌++◌, inl, inr, length, map, refl, sym, ap, ap₂, arith, if◌then◌else◌}
 use Rattle.std.specs.List.{list_all}
 use Rattle.std.proofs.lemmas.Bool.{cases_Bool}
@@ -11,7 +11,7 @@ use Rattle.thumb_machine.specs.Walking.{all_pass, points_from}
 use Rattle.thumb_machine.proofs.PointsMade.{points_append}
 use Rattle.common_lemmas.proofs.Booleans.{and_assoc}
 
--- two lines of tests, line by line
+-- four tests with the middle two exchanged
 crossed : (a b c d : Bool) → ((a && b) && (c && d)) ≡ (a && (c && (b && d)))
 crossed false b c d = refl
 crossed true true c d = refl
@@ -57,7 +57,7 @@ module _ (f : ℕ × ℕ → Bool) (names : Naming) where
   pub walked : (lines : List ListingLine) → list_all f (points names (code_of lines)) ≡ list_all f (points_from names (places_of lines) 0 0 lines)
   walked lines = list_all-append f (points_of names (places_of lines) (labels_from 0 lines)) (returns_from names 0 0 (places_of lines)) ∙ walked_from (places_of lines) 0 0 lines
 
--- a test that stays the same
+-- a test whose state never changes tests each code point alone
 pub steady : {T : Type 0} (passes : T → ℕ → ℕ → Bool) (t : T) (xs : List (ℕ × ℕ)) → all_pass passes (λ t w p. t) t xs ≡ list_all (λ x. passes t x.0 x.1) xs
 steady passes t [] = refl
 steady passes t (x ∷ xs) = ap (λ b. passes t x.0 x.1 && b) (steady passes t xs)

@@ -1,4 +1,4 @@
--- The words of names in a table.
+-- The loop invariants of the table of a naming's words, and that the finished table is the layout's naming.
 use Rattle.std.proofs.Common.{◌≡◌, ◌∙◌, inl, inr, ℕ, zero, suc, ◌+◌, ◌≤◌, ◌*◌, ◌%◌, ◌^◌, ◌||◌, ◌&&◌, Bool, true, false, List, [], ◌∷◌, ◌++◌, length, take, Option, Some, None, refl, sym, ap, ap₂, append_assoc, append-nil, subst, arith, true≢false, Bor, if◌then◌else◌}
 use Rattle.std.specs.Prelude.{fold, is_some, not, slice_get, unwrap_or}
 use Rattle.std.specs.List.{cons_option, filter, filter_map, flat_map}
@@ -82,7 +82,7 @@ undefined n base (l ∷ ls) e =
       unset (Sets name address) rest e none = rw (sym (or-false (bytes_eq n name)) ∙ e) none
       unset s rest e none = none
 
--- once all lines were gone through, each name has its word
+-- after all lines, each label and set name has its word
 pub all_fixed : (base : ℕ) (lines : List ListingLine) (es : Entries) → AreFixed base lines (flat_map defined_in lines) es → AreOwn base lines [] es
 all_fixed base lines es are = record {
   words = λ n. are.words n ∙ elim (cases_Bool (is_among n (flat_map defined_in lines))) [
@@ -105,7 +105,7 @@ own_among : (i : ℕ) (n : Name) (known : List Name) → is_some (own_word i n k
 own_among i n [] = refl
 own_among i n (x ∷ known) = elim (cases_Bool (bytes_eq n x)) [ inl h ↦ rw h refl | inr h ↦ rw h (own_among (i + 1) n known) ]
 
--- a name lies somewhere where it has a fixed word
+-- a name has a fixed word exactly where it lies somewhere
 lies_fixed : (l c s : Option ℕ) → is_some (fixed_by l c s) ≡ is_some (or_else l (cleared s))
 lies_fixed None c None = refl
 lies_fixed None c (Some a) = refl
@@ -120,11 +120,11 @@ is_there : (base : ℕ) (lines : List ListingLine) (n : Name) (known : List Name
 is_there base lines n known = some_or (fixed_word base lines n) (own_word 0 n known)
     ∙ ap₂ (λ a b. a || b) (lies_fixed (label_address n base lines) (place_of (code_of lines) n) (set_address n lines)) (own_among 0 n known)
 
--- a name that has a word stays out
+-- a name that has a word already adds none
 pub own_same : (base : ℕ) (lines : List ListingLine) (n : Name) (known : List Name) (es : Entries) → AreOwn base lines known es → is_some (word_in es n) ≡ true → with_name base lines known (Some n) ≡ known
 own_same base lines n known es are there = let e = sym (is_there base lines n known) ∙ ap is_some (sym (are.words n)) ∙ there in rw e refl
 
--- and one that has none is put in
+-- a name that has none gets one of its own
 pub own_next : (base : ℕ) (lines : List ListingLine) (n : Name) (known : List Name) (es : Entries) → AreOwn base lines known es → is_some (word_in es n) ≡ false → with_name base lines known (Some n) ≡ known ++ n ∷ []
 own_next base lines n known es are none = let e = sym (is_there base lines n known) ∙ ap is_some (sym (are.words n)) ∙ none in rw e refl
 
@@ -201,11 +201,11 @@ filter_none a each (x ∷ xs) = let here = each x in rw here (ap (λ (ys : List 
 abbrev is_other : List Name → Name → Bool
 is_other known m = not (is_among m known)
 
--- the names that come of places behind known ones, whose names come as these
+-- the known names, and after them the new ones among further names
 abbrev behind_known : ℕ → List ListingLine → List Name → List Name → List Name
 behind_known base lines known names = known ++ filter (is_other known) (firsts (filter (lies_nowhere base lines) names))
 
--- one name, and those behind it
+-- one further name, and those after it
 known_step : (base : ℕ) (lines : List ListingLine) (known names : List Name) (o : Option Name) → behind_known base lines (with_name base lines known o) names ≡ behind_known base lines known (cons_option o names)
 known_step base lines known names None = refl
 known_step base lines known names (Some n) = elim (cases_Bool (is_some (lies_in base lines n))) [
@@ -243,7 +243,7 @@ known_all base lines p le =
     ap (fold (λ known x. with_name base lines known (place_name x)) []) (take_all p (places_of lines) le)
     ∙ known_names base lines [] (places_of lines) ∙ filter_none (is_other []) (λ m. refl) (nowhere base lines)
 
--- the first p places were gone through: the `count` names in them that need words of their own have them
+-- the invariant after p places: `count` external names have words of their own
 pub record SoManyOwn (base : ℕ) (lines : List ListingLine) (p count : ℕ) (es : Entries) : Type 0 where
   pub own : AreOwn base lines (known_before base lines p) es
   pub counted : count ≡ length (known_before base lines p)
@@ -255,7 +255,7 @@ own_nothing base lines p count es x here none far =
     let e : known_before base lines (p + 1) ≡ known_before base lines p = known_more base lines p x (sym here) ∙ ap (with_name base lines (known_before base lines p)) (sym none) in
     record { own = rw e far.own; counted = rw e far.counted; few = let f = far.few in omega arith }
 
--- and one that mentions a name
+-- a place that mentions a name
 pub own_name : (base : ℕ) (lines : List ListingLine) (p count next : ℕ) (new : Entries) (x : Place) (n : Name) → Some x ≡ slice_get (places_of lines) p → Some n ≡ place_name x
     → AreOwn base lines (with_name base lines (known_before base lines p) (Some n)) new → next ≡ length (with_name base lines (known_before base lines p) (Some n)) → next ≤ p + 1 → SoManyOwn base lines (p + 1) next new
 own_name base lines p count next new x n here some own counted few =

@@ -1,4 +1,4 @@
--- Which instructions look at registers and flags alone, and go on.
+-- Which instructions look at registers and flags alone, and go on: those of windows, and the two that compute with sp.
 use Rattle.std.specs.Prelude.{Bool, true}
 use Rattle.thumb_instr.specs.declared.instr.Instr.{Instr}
 use Rattle.thumb_instr.specs.declared.instr.Instr.TheVariants.{StackAddress, StackMove}

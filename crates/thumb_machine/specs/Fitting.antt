@@ -1,4 +1,4 @@
--- The conditions under which a naming fits a listing, each as a test of its own.
+-- The conditions on a naming that fits a listing, as tests that the code computes.
 use Rattle.std.specs.Prelude.{ℕ, ◌==◌, ◌&&◌, ◌||◌, not, max, nat_lt, Bool, true, List, Option, Some, None, if◌then◌else◌}
 use Rattle.std.specs.List.{list_all}
 use Rattle.thumb_machine.specs.declared.distinct.Rising.{Rising}
@@ -15,11 +15,11 @@ is_code_word names word = is_odd word && is_in_range names word
 abbrev pub apart : ℕ × ℕ → ℕ × ℕ → Bool
 apart x y = (x.1 == y.1) || not (x.0 == y.0)
 
--- whether any two of them do
+-- whether each two of the list do
 abbrev pub all_apart : List (ℕ × ℕ) → Bool
 all_apart xs = list_all (λ x. list_all (apart x) xs) xs
 
--- the greatest word before the last place and the greatest of all, after one code point more
+-- the state of the test, after one more code point: the greatest word before the last place, that place, and the greatest of all
 abbrev pub risen : Rising → ℕ → ℕ → Rising
 risen r word place = record {
   below = if place == r.place then r.below else r.greatest;
@@ -27,7 +27,7 @@ risen r word place = record {
   greatest = max r.greatest word;
 }
 
--- whether a word is above those of the places before
+-- whether a word is greater than those of all earlier places
 abbrev pub rises : Rising → ℕ → ℕ → Bool
 rises r word place = nat_lt (if place == r.place then r.below else r.greatest) word
 

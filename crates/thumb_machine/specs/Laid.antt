@@ -29,11 +29,11 @@ firsts (n ∷ ns) = n ∷ filter (λ m. not (bytes_eq m n)) (firsts ns)
 abbrev pub lies_nowhere : ℕ → List ListingLine → Name → Bool
 lies_nowhere base lines n = not (is_some (lies_in base lines n))
 
--- the names that are mentioned and lie nowhere, each once, in order of first mention
+-- the names that are mentioned but have neither a label nor a set address, each once, in order of first mention
 abbrev pub nowhere : ℕ → List ListingLine → List Name
 nowhere base lines = firsts (filter (lies_nowhere base lines) (filter_map place_name (places_of lines)))
 
--- 0x30000000, and 256 more for each name before
+-- the word of its own that an external name has: 0x30000000, and 256 more for each name before it in the list
 abbrev pub own_word : ℕ → Name → List Name → Option ℕ
 own_word i name [] = None
 own_word i name (n ∷ ns) = if bytes_eq name n then Some ((805306368 + 256 * i) % 2 ^ 32) else own_word (i + 1) name ns
@@ -44,7 +44,7 @@ outside_word base lines name = unwrap_or (or_else (set_address name lines) (own_
 
 -- ---- the naming ----
 
--- the words of all names and the range are those of the layout from a base, and the word of a call's return point is 1 more than the address behind the call
+-- the words of names and the range are those of the layout from a base; the word of a call's return point is 1 more than the address after the call
 pub record IsLaid (base : ℕ) (lines : List ListingLine) (names : Naming) : Type 0 where
   pub word_of : (name : Name) → names.word_of name ≡ (laid base (outside_word base lines) lines).word_of name
   pub return_word : (k : ℕ) (before : List ListingLine) (call : ListingLine) (after : List ListingLine) → IsCutAtCall lines k before call after → names.return_word k ≡ end_of base (before ++ call ∷ []) + 1

@@ -1,4 +1,4 @@
--- The events that a POP with pc adds, beside its loads, depending on where its word lands.
+-- The event that POP with pc adds, and where the run goes on, by where the loaded word lands.
 use Rattle.std.specs.Prelude.{ℕ, List, [], ◌∷◌, map}
 use Rattle.thumb_model.specs.Effect.{Values}
 use Rattle.thumb_model.specs.States.{Event, Left, Astray, Landing, Goes, Leaves, Strays, Continuation, To, Over, registers_left}

@@ -1,4 +1,4 @@
--- Lists of registers by number, as the instructions with lists have them.
+-- Lists that hold numbers of registers alone, so that the code may index by them.
 use Rattle.std.specs.Prelude.{ℕ, ◌<◌, List, [], ◌∷◌}
 
 -- each is the number of a register: r0 to r12, sp or lr

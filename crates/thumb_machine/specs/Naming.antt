@@ -1,4 +1,4 @@
--- The naming of the model that the code's naming, a table of words, stands for.
+-- The model's naming of a naming: total functions, made of a table of names and a list of calls.
 use Rattle.std.specs.Prelude.{ℕ, Bool, slice_index, unwrap_or}
 use Rattle.std.specs.Map.{lookup}
 use Rattle.std.specs.Str.{bytes_eq}

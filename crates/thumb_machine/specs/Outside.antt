@@ -1,4 +1,4 @@
--- What is seen of a run, and what the outside answers.
+-- The model's events and answers of the machine's.
 use Rattle.std.specs.Prelude.{ℕ, ◌==◌, nat_lt, List, map, slice_index, if◌then◌else◌}
 use Rattle.std.specs.Int.{bit_at}
 use Rattle.thumb_machine.specs.declared.event.Event.{Event}
@@ -35,7 +35,7 @@ answer_values a = λ x.
     else if x == v_flag then bit_at a.nzcv 0
     else 0
 
--- the items that are taken from the answer to a call, and to a service (SVC)
+-- the items that the answer to a call sets, and that to a service (SVC)
 abbrev pub brought : Asked → List ℕ
 brought asked.Call = answered
 brought asked.Service = served

@@ -1,4 +1,4 @@
--- What a machine over a listing holds, and what its step does.
+-- When a machine holds a listing's program and a state of the model, and that its step is the model's step.
 use Rattle.std.specs.Prelude.{◌≡◌, ℕ, List, [], ◌∷◌, ◌++◌, take, nat_eq, Option, Some, None, Result, Ok, Err, slice_get}
 use Rattle.std.specs.HashMap.{get}
 use Rattle.thumb_machine.specs.declared.answers.Answer.{Answer}
@@ -26,7 +26,7 @@ use Rattle.thumb_model.specs.Steps as model_steps
 
 -- ---- programs ----
 
--- a row holds what a listing says at a place
+-- the row of a place holds what the listing says there; there is no row past the last place
 abbrev pub IsPlaceContents : Naming → Code → ℕ → Option Place → Option PlaceContents → Type 0
 IsPlaceContents names code p None None = Unit {0}
 IsPlaceContents names code p (Some (Word v)) (Some contents.Data) = Unit {0}
@@ -38,7 +38,7 @@ IsPlaceContents names code p (Some x) None = ⊥
 IsPlaceContents names code p (Some (Word v)) (Some (contents.Instruction j around)) = ⊥
 IsPlaceContents names code p (Some (Op i mention)) (Some contents.Data) = ⊥
 
--- the place that a program notes for a word
+-- the least place of the code points that have the word
 abbrev pub point_of : Program → ℕ → Option ℕ
 point_of program word = get nat_eq program.points word
 
@@ -62,7 +62,7 @@ at_of (at.Ended e) = Ended
 abbrev pub state_of : Machine → List Answer → State
 state_of m left = record { world = world_of m.world left; at = at_of m.at; events = events_of m.world.events.items }
 
--- the machine and the answers that are left are in a state
+-- the machine, with the answers that are left, is in the model's state s
 pub record Stands (s : State) (m : Machine) (left : List Answer) : Type 0 where
   pub values : values_of m.world.registers ≡ s.world.values
   pub memory : memory_of m.world.memory ≡ s.world.memory
@@ -72,7 +72,7 @@ pub record Stands (s : State) (m : Machine) (left : List Answer) : Type 0 where
 
 -- ---- steps ----
 
--- the stage that a step reports: it goes on, waits for want of answers, or ends the run
+-- the stage reports how the run goes on, or at which end it now is
 abbrev pub IsStage : Stage → model.Continuation → Position → Type 0
 IsStage s model.On here = s ≡ stage.Going
 IsStage s (model.To p) here = s ≡ stage.Going
@@ -80,14 +80,14 @@ IsStage s model.Stay here = s ≡ stage.Wants
 IsStage s model.Over (at.Here p) = ⊥
 IsStage s model.Over (at.Ended e) = s ≡ stage_of e
 
--- where a run is after an instruction that goes on so
+-- a run that is over is at that end
 abbrev pub LeadsTo : Continuation → Position → Type 0
 LeadsTo next.On here = Unit {0}
 LeadsTo next.Stay here = Unit {0}
 LeadsTo (next.To p) here = Unit {0}
 LeadsTo (next.Over e) here = here ≡ at.Ended e
 
--- a run that ended just now ended by its last event
+-- the last event says how a run ended that has ended just now
 abbrev pub EndedBy : Position → Position → List model.Event → Type 0
 EndedBy old (at.Here p) es = Unit {0}
 EndedBy (at.Ended d) (at.Ended e) es = d ≡ e
@@ -98,7 +98,7 @@ pub record Stepped (names : Naming) (code : Code) (old : Machine) (before : List
   pub stage : IsStage s (next_at names code (at_of old.at) (state_of old before)) new.at
   pub ends : EndedBy old.at new.at (events_of new.world.events.items)
 
--- a step as the model defines it, or no change for want of memory
+-- the model's step was taken, or nothing changed for want of memory
 abbrev pub Steps : {E : Type 0} → Naming → Code → Machine → List Answer → Machine → List Answer → Result Stage E → Type 0
 Steps names code old before new left (Ok s) = Stepped names code old before new left s
 Steps names code old before new left (Err e) = Stands (state_of old before) new left

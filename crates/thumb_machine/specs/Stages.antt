@@ -20,7 +20,7 @@ abbrev pub next_at : Naming → Code → Position → State → Continuation
 next_at names code Ended s = Over
 next_at names code (Here p) s = next_on names code p (slice_get code.places p) s
 
--- how an event ends a run
+-- the end of a run whose last event is this, if it ends one
 abbrev pub end_of : Event → Option End
 end_of (Load address size) = None
 end_of (Store address size value) = None
@@ -31,7 +31,7 @@ end_of (Fault address) = Some end.Fault
 end_of (Astray word) = Some end.Astray
 end_of Fell = Some end.Fell
 
--- the stage of a run that has this end
+-- the stage that reports this end
 abbrev pub stage_of : End → Stage
 stage_of end.Left = stage.Left
 stage_of end.Fault = stage.Fault

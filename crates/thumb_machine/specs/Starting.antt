@@ -1,4 +1,4 @@
--- Where a run begins.
+-- How a run begins: values, memory and place from the state that the caller gives.
 use Rattle.std.specs.Prelude.{◌≡◌, ◌==◌, nat_lt, [], slice_index, if◌then◌else◌}
 use Rattle.std.specs.Int.{bit_at}
 use Rattle.thumb_machine.specs.declared.machine.State.{State}

@@ -82,7 +82,7 @@ fn cut(access: Access, value: u32) -> u32
 }
 
 impl World {
-    /// The little-endian number in up to four bytes of the memory from an address on that is no device's.
+    /// The little-endian number of up to four bytes from an address on that isn't a device's.
     pub(crate) fn value(&self, address: u32, size: u32) -> u32
         requires few { size ≤ 4 }
         requires low { address < 2 ^ 30 }

@@ -1,4 +1,4 @@
-//! One arm for each form of instruction that does more than compute. What depends on the place is given by the caller, a listing's or an image's machine.
+//! The dispatch over instructions: one arm for each that does more than compute. What depends on the place is passed in.
 ghost use Rattle.std.specs.Prelude.{◌≡◌, ◌+◌};
 ghost use Rattle.thumb_model.specs.Acts.{act, offset};
 ghost use Rattle.thumb_machine.specs.Acting.{Acts, around_of};
@@ -21,7 +21,7 @@ fn offset(x: u32, y: u32) -> u32
 }
 
 impl World {
-    /// Does one instruction, given what its place decides. Where memory is refused, or more answers are needed than are left, nothing changes.
+    /// Does one instruction, given what its place supplies. If memory is refused, or more answers are needed than are left, nothing changes.
     pub fn act<P: Lands>(
         &mut self,
         answers: &mut Answers,

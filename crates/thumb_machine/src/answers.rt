@@ -1,4 +1,4 @@
-//! What the outside answers, by value: a run is a function of these and of its start.
+//! The answers of the outside, given in advance: so a run is a function of them and of its start.
 ghost use Rattle.std.specs.Prelude.{◌≡◌, ◌<◌, [], ◌∷◌, length, drop, MatchOption};
 
 use std::marker::Model;
@@ -48,7 +48,7 @@ pub struct Answer {
     pub bytes: Bytes,
 }
 
-/// What the outside was asked for. The answer to a call gives r0 to r3, r12, lr and the flags, the answer to a service (SVC) r0 to r3 and r12.
+/// What the outside was asked for. The answer to a call sets r0 to r3, r12, lr and the flags, that to a service (SVC) r0 to r3 and r12.
 #[derive(Clone, Copy)]
 pub(crate) enum Asked {
     Call,
@@ -95,7 +95,7 @@ impl Answers {
         self.left().first()
     }
 
-    /// Removes the next answer, which was used.
+    /// Removes the next answer.
     pub(crate) fn pass(&mut self)
         requires { 0 < length self.old }
         ensures { self.new ≡ drop 1 self.old }

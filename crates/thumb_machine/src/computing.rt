@@ -1,4 +1,4 @@
-//! Instructions that look at registers and flags alone: those of windows, by the same code (`window_exec`), and those that look at sp.
+//! Instructions that look at registers and flags alone: those of windows, and the two that compute with sp.
 ghost use Rattle.std.specs.Prelude.{◌≡◌, true};
 ghost use Rattle.thumb_model.specs.Effect.{after};
 ghost use Rattle.thumb_machine.specs.Registers.{values_of};

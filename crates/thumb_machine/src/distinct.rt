@@ -1,4 +1,4 @@
-//! Whether code points at different places have different words: by one pass where words rise from place to place, else pair by pair.
+//! Whether code points at different places have different words: in one pass where the words rise, as a layout's do, else pair by pair.
 ghost use Rattle.std.specs.Prelude.{◌≡◌, true, ◌==◌, ◌||◌, IsTrue};
 ghost use Rattle.std.specs.List.{list_all};
 ghost use Rattle.thumb_model.specs.Listing.{code_of};
@@ -35,7 +35,7 @@ impl PointTest for Rising {
     }
 }
 
-/// The test that code points are at one given place or have other words than the given one.
+/// The test that code points are at this place or have another word.
 #[derive(Drop)]
 struct Apart {
     word: u32,
@@ -54,7 +54,7 @@ impl PointTest for Apart {
     }
 }
 
-/// The test that each code point passes `Apart` with all code points of a listing.
+/// The test that a code point passes `Apart` with every code point of a listing.
 #[derive(Drop)]
 struct EachApart<'a> {
     naming: &'a Naming,
@@ -90,7 +90,7 @@ impl Naming {
         self.points_pass(&mut test, listing)
     }
 
-    /// Whether each code point of a listing has the same place as this one, or another word.
+    /// Whether each code point of the listing is at this place or has another word.
     fn is_apart(&self, listing: &Listing, word: u32, place: u32) -> bool
         ensures { result ≡ list_all (apart (word, place)) (points (naming_of self.now) (code_of listing.now)) }
     {
@@ -98,7 +98,7 @@ impl Naming {
         self.points_pass(&mut test, listing)
     }
 
-    /// Whether any two code points have the same place or different words, compared pair by pair.
+    /// Whether each two code points have the same place or different words, compared pair by pair.
     fn are_apart(&self, listing: &Listing) -> bool
         ensures { result ≡ all_apart (points (naming_of self.now) (code_of listing.now)) }
     {
@@ -109,7 +109,7 @@ impl Naming {
         self.points_pass(&mut test, listing)
     }
 
-    /// Whether code points at different places have different words. Where the words rise from place to place, as those of a layout do, one pass suffices.
+    /// Whether code points at different places have different words. Where the words rise from place to place, as a layout's do, one pass decides it.
     pub(crate) fn are_distinct(&self, listing: &Listing) -> bool
         ensures { result ≡ all_apart (points (naming_of self.now) (code_of listing.now)) }
     {

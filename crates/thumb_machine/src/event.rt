@@ -1,7 +1,7 @@
-//! What can be seen of a run. Listings are compared by these events, with memory and the answers that are left.
+//! The events of a run. Observable equality of two listings compares these, memory and the unread answers.
 use arrayvec::ArrayVec;
 
-/// What can be seen of a run. Sizes are in bytes; `word` is the target of a branch, with bit 0 as the branch had it.
+/// What can be seen of a run. Sizes are in bytes; a `word` is the value by which a branch or call went.
 #[derive(Debug, PartialEq, Eq, Drop)]
 pub enum Event {
     /// A load of data: its address and size.

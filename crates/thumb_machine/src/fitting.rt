@@ -1,4 +1,4 @@
-//! Whether a naming fits a listing: only then does a word determine its code point, as indirect branches need.
+//! Whether a naming fits a listing: only then does a word identify one place, as a branch by a register needs it.
 ghost use Rattle.std.specs.Prelude.{◌≡◌, ◌<◌, ◌%◌, ◌^◌, ◌&&◌, ◌==◌, ℕ, Decides, Some, slice_index};
 ghost use Rattle.std.specs.List.{list_all};
 ghost use Rattle.thumb_model.specs.Listing.{Name, code_of, labels_from, places_of};
@@ -104,8 +104,8 @@ impl Naming {
     }
 
     /// Whether the naming fits the listing: its range goes from an even address to an even address; code points have odd words in it, those at different
-    /// places different ones; and external names have words outside of it. No memory is needed. The time is linear in the listing where the words rise from
-    /// place to place, as those of a layout do, else quadratic in the number of code points.
+    /// places different ones; and external names have words outside of it. No memory is needed. The time grows with the listing where the words rise from
+    /// place to place, as those of a layout do; else with the square of the number of code points.
     pub fn fits(&self, listing: &Listing) -> bool
         ensures { Decides result (Fits (naming_of self.now) (code_of listing.now)) }
     {

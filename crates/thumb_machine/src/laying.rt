@@ -1,4 +1,4 @@
-//! The naming that a listing is laid out with: which word each name and return point has in an image.
+//! The naming of a layout: which word each name and return point has in an image. External names without an address get words of their own.
 ghost use Rattle.std.specs.Prelude.{◌≡◌, ◌<◌, ◌≤◌, ◌+◌, ◌^◌, ◌++◌, ◌∷◌, [], ℕ, true, false, List, Some, map, length, take, option_map, slice_get, IfOk, OnOk, MatchOption};
 ghost use Rattle.thumb_model.specs.Listing.{ListingLine as LineModel, Name, call_count, places_of};
 ghost use Rattle.thumb_model.specs.Naming.{last_is_call, return_address};
@@ -16,7 +16,7 @@ use label_layout::{Layout, instr_size};
 use listing_parser::{Listing, ListingLine, Mention, Place, Statement, Value, is_call};
 use std::alloc::{AllocError, Global};
 
-/// The first word of an external name without an address.
+/// The word of the first external name without an address; each further one has 256 more.
 const FIRST_WORD: u64 = 0x3000_0000;
 
 /// The word of a name: a label's address, 1 more where it is code, or the address that the listing sets. The layout is the listing's.
@@ -126,7 +126,7 @@ pub(crate) fn mentioned(place: Place<'_>) -> Option<&Mention>
     }
 }
 
-/// Notes a word of its own for a name that has none so far, where `count` names have such words already; returns how many have them then.
+/// Gives a name that has no word yet one of its own; `count` is how many such names came before. Returns their new number.
 fn add_own(
     words: &mut IndexMap<Vec<u8>, u32>,
     name: &Vec<u8>,

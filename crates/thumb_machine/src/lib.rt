@@ -1,4 +1,4 @@
-//! The machine: what each instruction does, by the ARMv6-M manual, over registers, memory and an outside that answers.
+//! The machine: runs a listing as the model defines it, by the ARMv6-M manual; what comes from outside is a list of answers.
 #![tactic(auto)]
 
 mod accessing;

@@ -1,4 +1,4 @@
-//! Instructions with lists of registers: their accesses happen in order, and all of them or none.
+//! PUSH and STM, and what POP and LDM need too. The accesses of one instruction happen in ascending order of address, all of them or none.
 ghost use Rattle.std.specs.Prelude.{◌≡◌, ◌<◌, ◌≤◌, ◌+◌, ◌*◌, [], ◌∷◌, ◌++◌, List, filter, true, length, map, if◌then◌else◌};
 ghost use Rattle.thumb_instr.specs.Items.{has};
 ghost use Rattle.thumb_instr.specs.Shape.{registers_in, pushed};
@@ -23,7 +23,7 @@ use thumb_instr::items::{LR, SP};
 /// Up to nine registers by number, or their words.
 pub(crate) type List = ArrayVec<u32, 9>;
 
-/// Appends a register to those found, where the list has its bit.
+/// Appends a register where its bit is set in the list.
 fn find(found: &mut List, list: u32, register: u32)
     requires room { length found.old.items < 9 }
     requires register { register < 15 }
@@ -36,7 +36,7 @@ fn find(found: &mut List, list: u32, register: u32)
     }
 }
 
-/// Those of some registers whose bits a list has.
+/// The registers whose bits are set in the list.
 fn found_in(list: u32, registers: &[u32]) -> List
     requires few { length registers.now ≤ 8 }
     requires registers { AreRegisters registers.now }
@@ -73,7 +73,7 @@ fn pushed(list: u32) -> List
     found
 }
 
-/// The registers and pc, as 15.
+/// The registers, and pc as 15 after them.
 pub(crate) fn with_pc(list: &[u32]) -> List
     requires { length list.now ≤ 8 }
     ensures { result.items ≡ with_pc list.now }
@@ -103,7 +103,7 @@ fn next_word(address: u32) -> u32
     address.wrapping_add(4)
 }
 
-/// The address behind as many words as the list has.
+/// The address after as many words as the list has elements.
 pub(crate) fn behind(list: &[u32], address: u32) -> u32
     ensures { result ≡ behind list.now address }
 {
@@ -114,7 +114,7 @@ pub(crate) fn behind(list: &[u32], address: u32) -> u32
     at
 }
 
-/// The address that is as many words below as the list has.
+/// The address as many words below as the list has elements.
 fn below(list: &[u32], address: u32) -> u32
     requires { length list.now ≤ 9 }
     ensures { result ≡ below list.now address }

@@ -1,4 +1,4 @@
-//! The machine that a caller steps: a world, a program and where it is.
+//! The machine that a caller steps through a listing: its program, its world, and where it is.
 ghost use Rattle.std.specs.Prelude.{◌≡◌, ◌<◌, ◌+◌, ◌-◌, ◌^◌, [], ◌∷◌, slice_get, Some, IfOk, OnErr};
 ghost use Rattle.thumb_model.specs.Listing.{Code, code_of};
 ghost use Rattle.thumb_model.specs.Naming.{Naming as Names};
@@ -57,7 +57,7 @@ pub struct Machine {
     pub(crate) at: Position,
 }
 
-/// The stage of a run that ended so.
+/// The stage that reports this end.
 pub fn stage_of(end: End) -> Stage
     ensures { result ≡ stage_of end }
 {
@@ -110,7 +110,7 @@ fn program_of(alloc: Global, listing: &Listing, naming: &Naming) -> Result<Progr
 }
 
 impl Machine {
-    /// A machine that runs a listing under a naming, which has a word for each of its names and calls, from a state on.
+    /// A machine that runs a listing under a naming from a state on. The word of a name or call that the naming lacks is 0.
     pub fn new(
         alloc: Global,
         listing: &Listing,
@@ -136,7 +136,7 @@ impl Machine {
         })
     }
 
-    /// Takes a step. Where memory is refused, or more answers are needed than are left, nothing changes; an ended machine reports its end again.
+    /// Takes a step. If memory is refused, or more answers are needed than are left, nothing changes. After its end the machine returns its end again.
     pub fn step(&mut self, answers: &mut Answers) -> Result<Stage, AllocError>
         ensures program { self.new.program ≡ self.old.program }
         ensures kept { OnErr result (self.new.at ≡ self.old.at) }

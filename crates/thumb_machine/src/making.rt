@@ -1,4 +1,4 @@
-//! How the rows of a program are made from a listing under any naming, whether it fits or not.
+//! The rows of a program, made of a listing and a naming: the branch target, literal and return word of each instruction.
 ghost use Rattle.std.specs.Prelude.{◌≡◌, ◌<◌, ◌≤◌, ◌+◌, ◌/◌, ◌^◌, ℕ, vec_len, Some, slice_get, take, length, IfOk, if◌then◌else◌};
 ghost use Rattle.thumb_model.specs.Listing.{code_of, call_count, is_call, places_of};
 ghost use Rattle.thumb_model.specs.Steps.{aim_of, literal_at, literal_word, loads_literal, set_bit, target_at, word_of_mention, word_of_place, word_of_value};
@@ -61,7 +61,7 @@ impl Naming {
         }
     }
 
-    /// The word of what stands at a place.
+    /// The word of what is at a place: 0 where it is no data word.
     fn word_at(&self, listing: &Listing, place: u32) -> u32
         ensures { result ≡ word_of_place (naming_of self.now) (slice_get (places_of listing.now) place) }
     {
@@ -71,7 +71,7 @@ impl Naming {
         }
     }
 
-    /// The word of a place.
+    /// The word of a place's contents: 0 for an instruction.
     fn word_in(&self, place: Place<'_>) -> u32
         ensures { result ≡ word_of_place (naming_of self.now) (Some (place_view place.entry)) }
     {
@@ -81,7 +81,7 @@ impl Naming {
         }
     }
 
-    /// Where a direct branch goes that mentions this.
+    /// The target of a direct branch with this mention.
     fn target(&self, listing: &Listing, mention: Option<&Mention>) -> Target
         ensures { target_of result ≡ target_at (naming_of self.now) (mention_of mention.entry) (aim_of (code_of listing.now) (mention_of mention.entry)) }
     {
@@ -96,7 +96,7 @@ impl Naming {
         }
     }
 
-    /// The word of the data word that a mention leads to: `plus` bytes behind its label, or 0 where there is none.
+    /// The word that a literal load with this mention gets: that of the data word so many bytes after the label, or 0 where there is none.
     fn literal_word(&self, listing: &Listing, mention: &Mention) -> u32
         ensures { result ≡ literal_word (naming_of self.now) (code_of listing.now) (Some (mention_view mention.now)) }
     {
@@ -116,7 +116,7 @@ impl Naming {
         }
     }
 
-    /// What a literal load or ADR gives.
+    /// The value that a literal load or ADR gets.
     fn literal(&self, listing: &Listing, instr: &Instr, mention: Option<&Mention>) -> u32
         ensures { result ≡ literal_at (naming_of self.now) (code_of listing.now) instr.now (mention_of mention.entry) }
     {
@@ -129,7 +129,7 @@ impl Naming {
         }
     }
 
-    /// The row of a place that has `calls` calls before it.
+    /// The row of a place with so many calls before it.
     fn row(&self, listing: &Listing, place: Place<'_>, calls: usize) -> PlaceContents
         ensures { (p : ℕ) → calls ≡ call_count (take p (places_of listing.now)) → IsPlaceContents (naming_of self.now) (code_of listing.now) p (Some (place_view place.entry)) (Some result) }
     {
@@ -168,7 +168,7 @@ impl Naming {
     }
 }
 
-/// The word of a place number of 2^32 or more, which no listing has: 0.
+/// The word at a place past 2^32, which no listing has: 0.
 fn past(listing: &Listing) -> u32
     ensures value { result ≡ 0 }
     ensures few { length (places_of listing.now) < 2 ^ 32 }

@@ -1,4 +1,4 @@
-//! Memory as the map that the model has, changed in place.
+//! Memory: the model's function from addresses to bytes as a table of the bytes written, changed in place.
 ghost use Rattle.std.specs.Prelude.{◌≡◌, ◌<◌, ◌≤◌, ◌+◌, ◌^◌, [], ◌∷◌, length, false, OnOk, ℕ};
 ghost use Rattle.thumb_model.specs.Effect.{assigned};
 ghost use Rattle.thumb_model.specs.States.{with_bytes};
@@ -8,10 +8,10 @@ ghost use Rattle.thumb_machine.specs.Memory.{memory_of, room_of};
 use std::alloc::{AllocError, Global};
 use std::collections::HashMap;
 
-/// Where devices begin.
+/// All addresses from this one up are devices'.
 const DEVICES: u32 = 0x4000_0000;
 
-/// Whether an address is of a device.
+/// Whether an address is a device's.
 pub(crate) fn is_device(address: u32) -> bool
     ensures value { result ≡ is_device address }
     ensures low { result ≡ false → address < 2 ^ 30 }
@@ -42,7 +42,7 @@ impl Memory {
         self.bytes.get(&address).copied().unwrap_or(0)
     }
 
-    /// The little-endian number in up to four bytes from an address on.
+    /// The little-endian number of up to four bytes from an address on.
     pub(crate) fn value(&self, address: u32, size: u32) -> u32
         requires few { size ≤ 4 }
         requires fits { address + size < 2 ^ 32 }
@@ -55,7 +55,7 @@ impl Memory {
         u32::from(self.byte(address)) + 256 * self.value(address + 1, size - 1)
     }
 
-    /// Makes room for `count` bytes more, and changes none.
+    /// Makes room for so many new bytes; no byte changes.
     pub(crate) fn reserve(&mut self, count: usize) -> Result<(), AllocError>
         ensures same { memory_of self.new ≡ memory_of self.old }
         ensures room { OnOk result (count ≤ room_of self.new) }
@@ -72,7 +72,7 @@ impl Memory {
         let _ = self.bytes.insert(address, byte);
     }
 
-    /// Writes the `size` lowest bytes of a number, for which there is room, little-endian.
+    /// Writes the low bytes of a number, little-endian. There must be room for them.
     pub(crate) fn put(&mut self, address: u32, size: u32, value: u32)
         requires room { size ≤ room_of self.old }
         requires fits { address + size < 2 ^ 32 }
@@ -86,7 +86,7 @@ impl Memory {
         self.put_byte(address, (value % 256) as u8);
     }
 
-    /// Stores the `size` lowest bytes of a number, for which there is room; at a device's address it writes nothing.
+    /// Stores the low bytes of a number, for which there must be room. A store to a device changes no memory.
     pub(crate) fn store(&mut self, address: u32, size: u32, value: u32)
         requires room { size ≤ room_of self.old }
         requires few { size ≤ 4 }

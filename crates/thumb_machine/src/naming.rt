@@ -1,4 +1,4 @@
-//! A naming says at which addresses names and return points lie, without saying where anything else does: so two listings can be run under one.
+//! A naming gives words to names and return points, and leaves open where anything else lies: so two listings can be run under one.
 ghost use Rattle.std.specs.Prelude.{◌≡◌};
 ghost use Rattle.thumb_machine.specs.Naming.{naming_of};
 
@@ -14,7 +14,7 @@ pub struct Naming {
 }
 
 impl Naming {
-    /// The naming of these words: 0 for a name or a call that has none.
+    /// The naming of these words. A name or a call that has none here has 0.
     pub fn new(words: IndexMap<Vec<u8>, u32>, returns: Vec<u32>, low: u32, high: u32) -> Naming
         ensures words { result.words ≡ words }
         ensures returns { result.returns ≡ returns }

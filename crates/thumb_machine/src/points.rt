@@ -1,4 +1,4 @@
-//! An indirect branch to a word goes to the least place that has this word, found by one look-up in a table that is made once.
+//! The table of code points, made once: a branch by a word lands at the least place whose code point has this word.
 ghost use Rattle.std.specs.Prelude.{◌≡◌, ◌==◌, ◌<◌, ◌-◌, ◌^◌, ◌∷◌, [], ◌++◌, ℕ, List, map, nat_eq, IfOk, OnOk, if◌then◌else◌};
 ghost use Rattle.std.specs.HashMap.{get};
 ghost use Rattle.thumb_model.specs.Listing.{code_of, labels_at, labels_from, places_of};
@@ -78,7 +78,7 @@ fn add_labels(
     Ok(())
 }
 
-/// Notes the return point behind a call, which has this number.
+/// Notes the return point of the place, where it is call number `call`.
 fn add_return(
     points: &mut HashMap<u32, u32>,
     naming: &Naming,
@@ -114,7 +114,7 @@ fn add_returns(
     Ok(())
 }
 
-/// The least place of each word of a code point.
+/// For each word that code points have, their least place.
 pub(crate) fn points_of(
     alloc: Global,
     naming: &Naming,

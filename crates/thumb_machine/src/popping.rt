@@ -1,4 +1,4 @@
-//! `pop` with pc is the one load that is also a branch, so it stands by itself.
+//! LDM and POP. POP with pc is the one load that is also a branch: its event of leaving shows the registers that it has just loaded.
 ghost use Rattle.std.specs.Prelude.{◌≡◌, ◌<◌, ◌≤◌, ◌+◌, ◌++◌, ◌∷◌, [], length, nat_le, if◌then◌else◌};
 ghost use Rattle.thumb_instr.specs.Items.{has};
 ghost use Rattle.thumb_instr.specs.Shape.{registers_in};
@@ -27,7 +27,7 @@ fn is_enough(answers: &Answers, address: u32, list: &[u32]) -> bool
 }
 
 impl World {
-    /// Writes an address back to the base, or, where the base is in the list, the word that was loaded into it.
+    /// Writes an address back to the base; a base that is in the list keeps the word that was loaded.
     fn write_back(&mut self, base: u32, back: u32, list: &[u32])
         requires { base < 15 }
         ensures registers { values_of self.new.registers ≡ assigned ((base, written_to base (if one_of base list.now then values_of self.old.registers base else back)) ∷ []) (values_of self.old.registers) }
@@ -42,7 +42,7 @@ impl World {
         self.registers.write(base, word);
     }
 
-    /// Reads words into registers, and an address into the base that isn't among them.
+    /// Reads words into registers, and writes an address back to the base if it isn't among them.
     fn fill(&mut self, answers: &mut Answers, base: u32, back: u32, address: u32, list: &[u32])
         requires base { base < 15 }
         requires enough { device_words address list.now ≤ length answers.old }
@@ -56,7 +56,7 @@ impl World {
         self.write_back(base, back, list);
     }
 
-    /// LDM, and POP without pc: loads words from an address on, and writes the address behind them to a base that isn't among the registers.
+    /// LDM, and POP without pc: loads words from an address on, and writes the address after them to the base if it isn't among the registers.
     pub(crate) fn load_many(
         &mut self,
         answers: &mut Answers,
@@ -81,7 +81,7 @@ impl World {
         Ok(Continuation::On)
     }
 
-    /// Branches to where a word lands. Where it leaves or strays, an event is added, for which there is room.
+    /// Goes where a word lands; where it leaves or strays, adds the event, for which there must be room.
     fn arrive(&mut self, landing: Landing, word: u32) -> Continuation
         requires { self.old.events.len < self.old.events.cap }
         ensures next { next_of result ≡ landed_next (landing_of landing) }

@@ -1,4 +1,4 @@
-//! What stands at each place, worked out once, so that no step looks up a name.
+//! A listing prepared for a run: what each place holds is computed once, so that a step looks up no name.
 ghost use Rattle.std.specs.Prelude.{◌<◌, ◌^◌, vec_len};
 
 use crate::world::{Around, Landing, Lands};
@@ -8,13 +8,14 @@ use thumb_instr::Instr;
 /// What stands at a place.
 #[derive(Clone, Copy, Debug, PartialEq, Eq)]
 pub enum PlaceContents {
-    /// An instruction, with what its place decides.
+    /// An instruction, with what its place supplies.
     Instruction { instr: Instr, around: Around },
     /// A data word.
     Data,
 }
 
-/// A listing under a naming: what stands at each place, the least place of the code points of each word, and the range of code from `low` to below `high`.
+/// A listing under a naming: what each place holds, the least place of the code points that have a word, and the range of code, from `low` to below
+/// `high`.
 #[derive(Drop)]
 pub struct Program {
     pub(crate) rows: Vec<PlaceContents>,

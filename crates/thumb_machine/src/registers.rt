@@ -1,4 +1,4 @@
-//! The registers of a machine; computing on them is shared with windows.
+//! The registers of a machine. They are a `RegisterFile`, so that instructions which only compute have one implementation here and in windows.
 ghost use Rattle.std.specs.Prelude.{◌≡◌, ◌<◌, ◌≤◌, [], ◌∷◌};
 ghost use Rattle.std.specs.Int.{bit_at, from_bool};
 ghost use Rattle.thumb_model.specs.Effect.{assigned, written_to, n_flag, z_flag, c_flag, v_flag};
@@ -54,7 +54,7 @@ impl Registers {
         self.r[target as usize] = value;
     }
 
-    /// Writes a word to a register.
+    /// Writes a word to a register; of sp the two low bits stay zero.
     pub(crate) fn write(&mut self, target: u32, word: u32)
         requires { target < 15 }
         ensures { values_of self.new ≡ assigned ((target, written_to target word) ∷ []) (values_of self.old) }
@@ -80,7 +80,7 @@ impl Registers {
         self.set(0, answer.words[0]);
     }
 
-    /// Takes what an answer gives: r0 to r3 and r12, and after a call also lr and the flags.
+    /// Takes the registers of an answer: r0 to r3 and r12, and after a call also lr and the flags.
     pub(crate) fn answer(&mut self, asked: Asked, answer: &Answer)
         ensures { values_of self.new ≡ assigned (all_at (brought asked) (answer_values answer.now)) (values_of self.old) }
     {

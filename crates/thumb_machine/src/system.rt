@@ -1,4 +1,4 @@
-//! Calls, SVC and MRS, which may need an answer of the outside, and instructions that only the system sees: each of these is one event with a code.
+//! Calls, SVC, MRS and hints: instructions that add an event for the outside, and that may take an answer.
 ghost use Rattle.std.specs.Prelude.{◌≡◌, ◌<◌, ◌≤◌, [], ◌∷◌, ◌++◌, List, length, map};
 ghost use Rattle.thumb_model.specs.Effect.{sp};
 ghost use Rattle.thumb_model.specs.States.{Sys, Call, answers_with, handed, served, takes, tells};
@@ -28,7 +28,7 @@ pub(crate) fn sys(code: u32, values: &[u32]) -> Event
     Event::Sys { code, values: list }
 }
 
-/// The code of CPS.
+/// The event code of CPS.
 pub(crate) fn interrupts_code(interrupts: Interrupts) -> u32
     ensures { result ≡ interrupts_code interrupts }
 {
@@ -38,7 +38,7 @@ pub(crate) fn interrupts_code(interrupts: Interrupts) -> u32
     }
 }
 
-/// The code of a barrier.
+/// The event code of a barrier.
 pub(crate) fn barrier_code(barrier: Barrier) -> u32
     ensures { result ≡ barrier_code barrier }
 {
@@ -49,7 +49,7 @@ pub(crate) fn barrier_code(barrier: Barrier) -> u32
     }
 }
 
-/// The code of a read of a special register.
+/// The event code of a read of a special register.
 pub(crate) fn special_code(special: Special) -> u32
     ensures { result ≡ special_code special }
 {
@@ -79,7 +79,7 @@ impl World {
         }
     }
 
-    /// The event of an SVC of this number.
+    /// The event of SVC by its number.
     fn served_by(&self, number: u32) -> Event
         ensures { event_of result ≡ Sys number (map (values_of self.now.registers) (served ++ (sp ∷ []))) }
     {
@@ -87,7 +87,7 @@ impl World {
         sys(number, &[r[0], r[1], r[2], r[3], r[12], r[13]])
     }
 
-    /// Adds an event and takes what the next answer gives; waits where there is none.
+    /// Adds an event and takes the next answer; stays if there is none.
     fn answered(
         &mut self,
         answers: &mut Answers,
@@ -134,7 +134,7 @@ impl World {
         }
     }
 
-    /// Calls a word, given where it lands.
+    /// Calls by a word, given where it lands.
     pub(crate) fn call_by(
         &mut self,
         answers: &mut Answers,
@@ -186,7 +186,7 @@ impl World {
         Ok(Continuation::On)
     }
 
-    /// A hint.
+    /// A hint: an event, but for NOP.
     pub(crate) fn hint(&mut self, hint: HintOperation) -> Result<Continuation, AllocError>
         ensures { (left : List Answer) → Acts (hints hint) self.old left self.new left result }
     {

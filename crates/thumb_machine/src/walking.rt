@@ -17,7 +17,7 @@ pub(crate) trait PointTest {
 
     ghost after: { Self → ℕ → ℕ → Self };
 
-    /// Whether the code point of that word and place passes. The test then counts it as the last one.
+    /// Whether the code point of that word and place passes. The test may remember it for the next ones.
     fn test(&mut self, word: u32, place: u32) -> bool
         ensures result { result ≡ passes self.old word place }
         ensures after { self.new ≡ after self.old word place };
@@ -33,7 +33,7 @@ fn ends_in_call(statement: &Statement) -> bool
     }
 }
 
-/// The number of the next call behind a line.
+/// The number of the next call after a line, given that of the next call from the line on.
 fn next_call(line: &ListingLine, call: usize) -> usize
     requires { call < 2 ^ 32 }
     ensures { result ≡ call + call_count (places_in (line_view line.now).statement) }

@@ -1,4 +1,4 @@
-//! What the machines of listings and of images share: the state that a run changes, and what a place has to supply (`Around` and `Lands`).
+//! What the runs of listings and of images share: the state that instructions change, and what each place supplies to its instruction.
 ghost use Rattle.std.specs.Prelude.{◌≡◌, ◌<◌, ◌==◌, ◌%◌, [], ◌∷◌, List, Some, map, if◌then◌else◌};
 ghost use Rattle.thumb_model.specs.States.{ends, tells, puts, registers_left, Left, On};
 ghost use Rattle.thumb_model.specs.Acts.{holds, jumps, branches};
@@ -15,7 +15,7 @@ use crate::registers::Registers;
 use std::alloc::AllocError;
 use thumb_instr::Condition;
 
-/// What a run changes beside its place and its answers.
+/// The state of a run, but for its place and its answers.
 #[derive(Drop)]
 pub struct World {
     pub registers: Registers,
@@ -69,8 +69,8 @@ pub enum Landing {
     Strays,
 }
 
-/// What a place decides for its instruction, beside where words land: the target of a direct branch, what a literal load or ADR gives, and the word
-/// of the return point of a call.
+/// What a place supplies to its instruction, beside where words land: the target of a direct branch, the value that a literal load or ADR gets, and
+/// the word of the return point of a call.
 #[derive(Clone, Copy, Debug, PartialEq, Eq)]
 pub struct Around {
     pub target: Target,
@@ -163,7 +163,7 @@ impl World {
         self.finish(event, End::Left)
     }
 
-    /// Branches to a word, given where it lands.
+    /// Branches by a word, given where it lands.
     pub(crate) fn branch(&mut self, landing: Landing, word: u32) -> Result<Continuation, AllocError>
         ensures { (left : List Answer) → Acts (branches (landing_of landing) word) self.old left self.new left result }
     {

@@ -1,4 +1,4 @@
--- A replacement in lines that are split at its window keeps all lines but those of the window's instructions.
+-- The proof of `ReplacedLinesAreACut`.
 use Rattle.std.proofs.Common.{◌≡◌, ◌∙◌, inl, inr, ℕ, zero, suc, ◌+◌, ◌-◌, ◌==◌, ◌&&◌, true, false, List, [], ◌∷◌, ◌++◌, length, map, refl, sym, ap, arith, true≢false}
 use Rattle.std.proofs.lemmas.Bool.{cases_Bool, ne_eqb}
 use Rattle.std.proofs.lemmas.List.{length-append}
@@ -11,11 +11,11 @@ pub without_none : (ls : List ListingLine) → without 0 ls ≡ ls
 without_none [] = refl
 without_none (l ∷ ls) = refl
 
--- where n + 1 instructions go, the line of the first one goes
+-- `without` removes an instruction's line that comes first
 op_goes : (n : ℕ) (l : ListingLine) (ls : List ListingLine) → is_op l.statement ≡ true → without (n + 1) (l ∷ ls) ≡ without n ls
 op_goes n l ls h = ap (λ (k : ℕ). without k (l ∷ ls)) (let e : n + 1 ≡ suc n = omega arith in e) ∙ rw h refl
 
--- and a line without an instruction stays
+-- `without` keeps another line that comes first
 other_stays : (n : ℕ) (l : ListingLine) (ls : List ListingLine) → is_op l.statement ≡ false → without n (l ∷ ls) ≡ l ∷ without n ls
 other_stays zero l ls h = ap (λ (xs : List ListingLine). l ∷ xs) (sym (without_none ls))
 other_stays (suc n) l ls h = rw h refl

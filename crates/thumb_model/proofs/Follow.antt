@@ -1,4 +1,4 @@
--- A listing in which a window was soundly replaced runs the same as the one before, by simulation.
+-- A listing with one window replaced simulates the listing before: the theorem for one replacement, and for several by transitivity.
 use Rattle.std.proofs.Common.{◌≡◌, ◌≢◌, ℕ, suc, ◌+◌, ◌-◌, ◌<◌, ◌≤◌, ◌^◌, ◌/◌, ◌&&◌, not, true, false, if◌then◌else◌, List, [], ◌∷◌, ◌++◌, length, map, Option, Some, None, IsSome, refl, sym, ap, ◌∙◌, subst, ◌⊎◌, inl, inr, arith}
 use Rattle.std.specs.Prelude.{slice_get}
 use Rattle.std.specs.Option.{option_map}
@@ -22,7 +22,7 @@ use Rattle.thumb_model.proofs.Moved.{IsReplacement, data_moved, label_place_move
 use Rattle.thumb_model.proofs.Points.{IsLabelsPlace, label_of_name, label_of_place, point_is}
 use Rattle.thumb_model.proofs.Window.{StandsAt, AreStraight, went, straight_run, straight_part, GoesTo, Flows, flows, flows_on, held_after}
 
--- instructions stand where each place has its own
+-- instructions stand from p on where each place has its own of them
 pub stands_from : (places : List Place) (p : ℕ) (is : List Instr) → ((j : ℕ) → j < length is → slice_get places (p + j) ≡ slice_get (map plain is) j) → StandsAt places p is
 stands_from places p [] h = tt
 stands_from places p (i ∷ is) h = (
@@ -32,7 +32,7 @@ stands_from places p (i ∷ is) h = (
 
 -- ---- one replacement ----
 
--- a replacement by instructions that leave the same values in all items that are read afterwards
+-- a replacement by instructions that leave the same value in every item that may be read afterwards
 pub record IsSound (code : Code) (p : ℕ) (left right : List Instr) : Type 0 where
   pub fits_in : IsReplacement code p (length left) right
   pub stands : StandsAt code.places p left
@@ -55,18 +55,18 @@ module _ (names : Naming) (small : AreSmall names) (code : Code) (literals : Has
   abbrev to : ℕ → ℕ
   to = moved p (length left - length right)
 
-  -- q lies outside the window, and r is its new number
+  -- q lies outside the window, and r is its place in the new listing
   abbrev CameTo : ℕ → ℕ → Type 0
   CameTo q r = (r ≡ to q) × IsOutside p (length left) q
 
-  -- the two runs are at the same place, and the items that are live there have the same values
+  -- the two runs are at corresponding places, and all items that are read from there on have the same values
   abbrev pub AtBoth : Position → Position → Values → Values → Type 0
   AtBoth Ended Ended u v = Unit {0}
   AtBoth (Here q) (Here r) u v = CameTo q r × ((x : ℕ) → Reads code x q → u x ≡ v x)
   AtBoth Ended (Here r) u v = ⊥
   AtBoth (Here q) Ended u v = ⊥
 
-  -- the two runs are observably equal so far, and at the same place
+  -- the two runs have the same observable parts, and are at corresponding places
   pub record Related (s t : State) : Type 0 where
     pub events : s.events ≡ t.events
     pub memory : s.world.memory ≡ t.world.memory
@@ -105,7 +105,7 @@ module _ (names : Naming) (small : AreSmall names) (code : Code) (literals : Has
   landing_tied word None o' e out = subst (λ (x : Option ℕ). LandingTied CameTo (landing names word None) (landing names word x)) (sym e) (same_landing word)
   landing_tied word (Some r) o' e out = subst (λ (x : Option ℕ). LandingTied CameTo (landing names word (Some r)) (landing names word x)) (sym e) (refl, out r refl)
 
-  -- the word of a literal stays
+  -- the word of a literal stays the same
   behind_stays : (q : ℕ) (i : Instr) (m : Mention) → slice_get code.places q ≡ Some (Op i (Some m)) → loads_literal i ≡ true → (o : Option ℕ) → label_place m.name code.labels ≡ o → word_behind names code.places m.plus o ≡ word_behind names new.places m.plus (option_map to o)
   behind_stays q i m e t None f = refl
   behind_stays q i m e t (Some r) f = ap (word_of_place names) (sym (data_moved code p (length left) right sound.fits_in r (m.plus / 4) (name_outside code p (length left) right sound.fits_in m.name r f) (λ j l. literals q i m e t r f j l)))
@@ -136,7 +136,7 @@ module _ (names : Naming) (small : AreSmall names) (code : Code) (literals : Has
   next_place q ne (inl h) = (omega arith, inl (omega arith))
   next_place q ne (inr h) = let s = sound.fits_in.no_longer in (omega arith, inr (omega arith))
 
-  -- both go on to the same place
+  -- the positions of both after the step
   arrive : (q : ℕ) (n n' : Continuation) (u v : Values) → NextTied CameTo n n' → q ≢ p → IsOutside p (length left) q → ((r x : ℕ) → GoesTo q n r → Reads code x r → u x ≡ v x) → AtBoth (arrives q (q + 1) n) (arrives (to q) (to q + 1) n') u v
   arrive q On On u v t ne out h = let e = next_place q ne out in ((e.0, e.1), λ x r. h (q + 1) x refl r)
   arrive q Stay Stay u v t ne out h = ((refl, out), λ x r. h q x refl r)
@@ -207,7 +207,7 @@ module _ (names : Naming) (small : AreSmall names) (code : Code) (literals : Has
   abbrev Go : State → State → Type 0
   Go s t = Advance State State (step names code) (step names new) Alike Related s t
 
-  -- within the window nothing observable happens
+  -- within the window no event is added and memory stays
   quiet_left : (u : World) (es : List Event) (k : ℕ) → k ≤ length left → (q : ℕ) × (w : Values) × (times (step names code) k (state u (Here p) es) ≡ went (state u (Here p) es) q w)
   quiet_left u es k h = straight_part names code (state u (Here p) es) left p u.values k sound.stands sound.left_straight h
 
@@ -304,7 +304,7 @@ module _ (names : Naming) (small : AreSmall names) (code : Code) (literals : Has
 
 -- ---- the theorem for one replacement ----
 
--- the same runs, where literals stand behind their labels; and the literals, namings and labels that one has, the other has
+-- where a's literals follow their labels, the runs are the same; and b has the literals, the fitting namings and the code labels that a has
 pub record Keeps (a b : Code) : Type 0 where
   pub same : HasLiterals a → Same a b
   pub literals : HasLiterals a → HasLiterals b
@@ -347,7 +347,7 @@ keeps_refl a =
       entry = λ label h. h;
     }
 
--- and two replacements, one after the other, keep them
+-- from one listing to the next, and from there to a third
 pub keeps_trans : (a b c : Code) → Keeps a b → Keeps b c → Keeps a c
 keeps_trans a b c h k =
     record {

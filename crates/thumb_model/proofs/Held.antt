@@ -1,4 +1,4 @@
--- A step leaves words in the registers, bytes in the memory, and bits in the flags.
+-- A step keeps words in the registers, bytes in the memory, and 0 or 1 in the flags: the instructions' part of `StepsKeepWorlds`.
 use Rattle.std.proofs.Common.{◌≡◌, ◌≢◌, ℕ, zero, suc, ◌+◌, ◌*◌, ◌/◌, ◌%◌, ◌^◌, ◌<◌, ◌≤◌, ◌==◌, ◌||◌, nat_le, Bool, true, false, List, [], ◌∷◌, length, drop, map, refl, sym, ap, ◌∙◌, subst, arith, if◌then◌else◌, eq-eqb}
 use Rattle.std.specs.Int.{from_bool}
 use Rattle.std.proofs.lemmas.Nat.Bits.{bit_at-lt}
@@ -41,7 +41,7 @@ abbrev pub AreValues : List (ℕ × ℕ) → Type 0
 AreValues [] = Unit {0}
 AreValues (o ∷ os) = IsValueOf o × AreValues os
 
--- what an item holds
+-- the value of an item is in the item's range
 pub held_value : (v : Values) → AreHeld v → (x : ℕ) → IsValueOf (x, v x)
 held_value v a x = (λ l. a.words.register x l, λ l. a.words.flag x l, λ e. ap (λ y. v y % 4) e ∙ a.stack)
 
@@ -53,14 +53,14 @@ held_at (o ∷ os) v h a x =
       | false ↦ λ e. held_at os v h.1 a x
     ] refl
 
--- items that get values in their ranges hold values in their ranges
+-- values in their ranges stay so when items get new ones in their ranges
 pub are_held : (os : List (ℕ × ℕ)) (v : Values) → AreValues os → AreHeld v → AreHeld (assigned os v)
 are_held os v h a = record {
   words = record { register = λ x l. (held_at os v h a x).0 l; flag = λ x l. (held_at os v h a x).1 l };
   stack = (held_at os v h a sp).2 refl;
 }
 
--- a word in a register by its number, as it is written
+-- a word written to a register, by its number
 written_at : (n x : ℕ) → n < 15 → x < 2 ^ 32 → IsValueOf (n, written_to n x)
 written_at n x l h =
     elim (n == sp) as (λ b. (n == sp) ≡ b → IsValueOf (n, if b then x / 4 * 4 else x)) [
@@ -76,7 +76,7 @@ register_value n x l ne h = (λ m. h, λ m. absurd (omega arith), λ e. absurd (
 pub low_value : (d : Within 0 8) (x : ℕ) → x < 2 ^ 32 → IsValueOf (d.number, x)
 low_value d x h = (λ l. h, λ l. absurd (omega arith), λ e. absurd (omega arith))
 
--- a word in a register but pc, as it is written
+-- a word written to a register but pc
 pub written_value : (d : Within 0 15) (x : ℕ) → x < 2 ^ 32 → IsValueOf (d.number, written_to d.number x)
 written_value d x h = written_at d.number x (omega arith) h
 
@@ -97,7 +97,7 @@ pub sum_flag_values : (s : WordSum) → AreValues (sum_flags s)
 sum_flag_values s =
     (flag_value n_flag _ (omega arith) (bit_at-lt s.value 31), (flag_value z_flag _ (omega arith) (bool_small (s.value == 0)), (flag_value c_flag _ (omega arith) (bool_small s.c), (flag_value v_flag _ (omega arith) (bool_small s.v), tt))))
 
--- a result, a shift's and a sum's
+-- the outputs of a result, of a shift and of a sum
 result_values : (d : Within 0 8) (x : ℕ) → x < 2 ^ 32 → AreValues (result_outputs d.number x)
 result_values d x h = (low_value d x h, result_flag_values x)
 
@@ -136,15 +136,15 @@ values_of (instr.Add r) v a = (written_value r.target _ (sum_small sum.Add (v r.
 values_of (instr.StackMove s i) v a = (written_at sp _ (omega arith) (sum_small s (v sp) (4 * i.number)), tt)
 values_of i v a = search (arith, result_values, shift_values, sum_values, sum_flag_values, low_value, sum_small, shift_small, extension_small, reversal_small, low_word v a)
 
--- ---- an act leaves a world ----
+-- ---- what an act leaves is in its range ----
 
--- what the act leaves is in its range
+-- the outputs, memory and answers of the act are in their ranges
 pub record IsSafe (a : Act) : Type 0 where
   pub values : AreValues a.outputs
   pub memory : (x : ℕ) → a.memory x < 256
   pub answers : AreAnswers a.answers
 
--- what an instruction may put into a register from around it is a word
+-- the literal and the return word that a place supplies are words
 pub record AreAroundWords (around : Around) : Type 0 where
   pub literal : around.literal < 2 ^ 32
   pub link : around.link < 2 ^ 32
@@ -188,7 +188,7 @@ all_values (x ∷ xs) v a h =
       | false ↦ λ e k. ((λ l. a.register x l, λ l. a.flag x l, λ same. absurd (let t : (sp == x) ≡ true = eq-eqb sp x (sym same) in cc)), all_values xs v a k)
     ] refl h
 
--- bytes that are written over bytes
+-- memory holds bytes after bytes are written
 bytes_small : (bs : List (ℕ × ℕ)) (memory : ℕ → ℕ) → AreBytes bs → ((x : ℕ) → memory x < 256) → (x : ℕ) → with_bytes bs memory x < 256
 bytes_small [] memory h k x = k x
 bytes_small (b ∷ bs) memory h k x = bytes_small bs (assigned (b ∷ []) memory) h.1 (λ y. elim (y == b.0) as (λ t. (if t then b.1 else memory y) < 256) [ true ↦ h.0 | false ↦ k y ]) x
@@ -235,7 +235,7 @@ loads_safe a t address w h =
 stores_safe : (a : Access) (address value : ℕ) (w : World) → IsWorld w → IsSafe (stores a address value w)
 stores_safe a address value w h = aligned_safe address (access_size a) w _ h (record { values = tt; memory = stored_small w.memory address (access_size a) value h.memory; answers = h.answers })
 
--- a row: an access
+-- a row: what an access leaves is in its range
 access_safe : (a : Access) (t : Within 0 8) (address value : ℕ) (w : World) → IsWorld w → IsSafe (accesses a t.number address value w)
 access_safe access.Str t address value w h = stores_safe access.Str address value w h
 access_safe access.Strh t address value w h = stores_safe access.Strh address value w h
@@ -264,7 +264,7 @@ words_values memory answers address [] h = tt
 words_values memory answers address (x ∷ xs) h =
     (register_value x _ (omega (arith, h.0)) (λ e. absurd (omega (arith, h.0))) (loaded_small access.Ldr _), words_values memory (left_at answers address) (next_word address) xs h.1)
 
--- the base's word: one of those, or the address behind them
+-- the base's word is a loaded one or the address after them: both are words
 base_small : (memory : ℕ → ℕ) (answers : List Answer) (address : ℕ) (xs : List ℕ) (back y : ℕ) → back < 2 ^ 32 → assigned (words_from memory answers address xs) (λ x. back) y < 2 ^ 32
 base_small memory answers address [] back y h = h
 base_small memory answers address (x ∷ xs) back y h =

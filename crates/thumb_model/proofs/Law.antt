@@ -1,4 +1,4 @@
--- What an instruction does depends on no items but those that its ways read, and it writes those that they say, row by row.
+-- Each instruction goes by one of its ways, and depends only on what that way reads: liveness rests on this.
 use Rattle.std.proofs.Common.{arith, ◌≡◌, ℕ, ◌+◌, ◌*◌, ◌%◌, ◌==◌, ◌||◌, not, nat_le, Bool, true, false, List, [], ◌∷◌, ◌++◌, length, Option, Some, None, refl, sym, ap, ◌∙◌, subst, map, if◌then◌else◌}
 use Rattle.std.specs.Prelude.{slice_get, filter}
 use Rattle.thumb_instr.specs.declared.instr.Instr.{Instr}
@@ -32,7 +32,7 @@ abbrev pub AgreeOn : List ℕ → Values → Values → Type 0
 AgreeOn [] u v = Unit {0}
 AgreeOn (x ∷ xs) u v = (u x ≡ v x) × AgreeOn xs u v
 
--- where old values agree, but on items that get a value, the values afterwards agree
+-- where the old values of an item agree, or it gets a new one, the values afterwards agree
 pub assigned_agree : (os : List (ℕ × ℕ)) (u v : Values) (x : ℕ) → (one_of x (keys os) ≡ false → u x ≡ v x) → assigned os u x ≡ assigned os v x
 assigned_agree [] u v x h = h refl
 assigned_agree (o ∷ os) u v x h =
@@ -50,12 +50,12 @@ assigned_other (o ∷ os) v x h =
       | false ↦ λ h. assigned_other os v x h
     ] h
 
--- the place that a target has inside
+-- the place of a target inside the listing
 abbrev pub inside_of : Target → Option ℕ
 inside_of (Inside p) = Some p
 inside_of (External word) = None
 
--- a step with this continuation takes a way that leads so, and writes the items that the way says
+-- the continuation of a step fits where a way leads, and the step writes what the way says
 abbrev pub Matches : (ℕ → Landing) → Continuation → Leads → List ℕ → List ℕ → Type 0
 Matches lands On Onward ks ws = ks ≡ ws
 Matches lands (To p) (ToPlace q) ks ws = (p ≡ q) × (ks ≡ ws)
@@ -76,7 +76,7 @@ pub record Taken (around : Around) (i : Instr) (u w : World) : Type 0 where
   pub same : AgreeOn taken.reads u.values w.values → act around i u ≡ act around i w
   pub takes : Takes around.lands (act around i u) taken
 
--- two worlds that are the same but for their items
+-- two worlds with the same memory and answers
 abbrev pub AlikeBut : World → World → Type 0
 AlikeBut u w = (u.memory ≡ w.memory) × (u.answers ≡ w.answers)
 
@@ -93,7 +93,7 @@ ends_same e f u w h s = cc (h.0, h.1)
 left_same : (word : ℕ) (xs ys : List ℕ) → xs ≡ ys → Left word xs ≡ Left word ys
 left_same word xs ys e = cc
 
--- equal words land alike
+-- equal words land at the same place
 lands_same : (around : Around) (x y : ℕ) (l : Landing) → around.lands x ≡ l → x ≡ y → around.lands y ≡ l
 lands_same around x y l e s = ap around.lands (sym s) ∙ e
 
@@ -142,7 +142,7 @@ bare v = record { values = λ x. 0; memory = v.memory; answers = v.answers }
 bare_same : (u w : World) → AlikeBut u w → bare u ≡ bare w
 bare_same u w h = cc (h.0, h.1)
 
--- a function of memory and answers alone has one result for both worlds
+-- a function of memory and answers alone has the same value in both worlds
 same_world : {A : Type 0} (f : World → A) → ((v : World) → f v ≡ f (bare v)) → (u w : World) → AlikeBut u w → f u ≡ f w
 same_world f e u w h = e u ∙ ap f (bare_same u w h) ∙ sym (e w)
 
@@ -163,7 +163,7 @@ straight : (around : Around) (i : Instr) (u w : World) → ways_of (inside_of ar
     → Takes around.lands (act around i u) (way (uses_of i) (writes_of i) Onward) → Taken around i u w
 straight around i u w e same takes = record { number = 0; taken = way (uses_of i) (writes_of i) Onward; is_way = ap (λ ws. slice_get ws 0) e; same = same; takes = takes }
 
--- an instruction with one way on that looks at items alone
+-- an instruction that looks at items alone
 puts_law : (around : Around) (i : Instr) (u w : World) → AlikeBut u w → ((v : World) → act around i v ≡ puts (outputs i v.values) On v) → ways_of (inside_of around.target) i ≡ way (uses_of i) (writes_of i) Onward ∷ []
     → (AgreeOn (uses_of i) u.values w.values → outputs i u.values ≡ outputs i w.values) → keys (outputs i u.values) ≡ writes_of i → Taken around i u w
 puts_law around i u w a acts ways same writes =
@@ -190,7 +190,7 @@ byte_keys o d x n = refl
 -- ---- accesses ----
 
 module _ (lands : ℕ → Landing) (l : Leads) (ws : List ℕ) where
-  -- the act takes a way that leads and writes so
+  -- the act fits a way that leads and writes so
   abbrev Follows : Act → Type 0
   Follows a = Matches lands a.next l (keys a.outputs) ws
 
@@ -358,7 +358,7 @@ blx_law around m u w a Strays e i acts ways =
 
 -- ---- POP ----
 
--- the items that get no value, and that agree, are all that is handed out
+-- the listed items agree afterwards where those of them that get no value agreed before
 left_agree : (os : List (ℕ × ℕ)) (base : ℕ) (ks : List ℕ) → keys os ≡ base ∷ ks → (u v : Values) (xs : List ℕ) → AgreeOn (filter (λ x. not (one_of x ks)) xs) u v → map (assigned os u) xs ≡ map (assigned os v) xs
 left_agree os base ks e u v [] h = refl
 left_agree os base ks e u v (x ∷ xs) h =
@@ -449,7 +449,7 @@ outputs_same (instr.Two o d m) u w h = two_same o d.number m.number u w h
 outputs_same (instr.TwoNumber o d i) u w h = byte_same o d.number i.number u w h
 outputs_same i u w h = grind arith
 
--- a row: an instruction
+-- a row: an instruction goes by one of its ways
 pub law : (around : Around) (i : Instr) (u w : World) → AlikeBut u w → Taken around i u w
 law around (instr.Bx m) u w a = bx_law around m.number u w a (around.lands (u.values m.number)) refl (instr.Bx m) (λ v. refl) refl
 law around (instr.Blx m) u w a = blx_law around m.number u w a (around.lands (u.values m.number)) refl (instr.Blx m) (λ v. refl) refl

@@ -1,4 +1,4 @@
--- Replacing lines replaces places and labels.
+-- `replaced_lines` on lines and `replaced` on places and labels agree: so a replacement in the text is one in the model.
 use Rattle.std.proofs.Common.{◌≡◌, ℕ, zero, suc, ◌+◌, ◌-◌, ◌<◌, ◌≤◌, ◌==◌, ◌&&◌, List, [], ◌∷◌, ◌++◌, length, length-append, take, drop, map, refl, sym, ap, ◌∙◌, subst, ◌⊎◌, inl, inr, arith, append_assoc, ne_eqb, if◌then◌else◌}
 use Rattle.std.specs.Prelude.{Some, slice_get}
 use Rattle.std.proofs.lemmas.List.{map-append}
@@ -32,13 +32,13 @@ pub kept_places : (l : ListingLine) (ns : List Name) (ls : List ListingLine) →
 kept_places l [] ls = refl
 kept_places l (n ∷ ns) ls = refl
 
--- an instruction doesn't stand among words
+-- instructions from p on begin only past a line's data words
 pub past_words : (ws : List Value) (ps : List Place) (p n : ℕ) → AreOps (suc n) (drop p (map Word ws ++ ps)) → length ws ≤ p
 past_words [] ps p n h = omega arith
 past_words (w ∷ ws) ps zero n h = absurd h
 past_words (w ∷ ws) ps (suc p) n h = let r = past_words ws ps p n h in omega arith
 
--- what replacing does to places, as far as the first lines that it leaves alone
+-- the places with those from p to below k replaced
 abbrev Result : ℕ → ℕ → List Instr → List Place → List Place
 Result p k is ps = take p ps ++ (map plain is ++ drop k ps)
 
@@ -51,7 +51,7 @@ result_behind xs ys p m k j is e f =
 Rec : (Instr → List ℕ) → ℕ → List Instr → List ListingLine → Type 0
 Rec write n is ls = (q j : ℕ) → j ≡ q + suc n → AreOps (suc n) (drop q (places_of ls)) → places_of (replaced_lines write q (suc n) is ls) ≡ Result q j is (places_of ls)
 
--- a line that is left alone
+-- a line before the window, which stays
 behind : (write : Instr → List ℕ) (n k p m : ℕ) (is : List Instr) (l : ListingLine) (s : Statement) (ls : List ListingLine) → l.statement ≡ s → Rec write n is ls → k ≡ p + suc n → p ≡ length (places_in s) + m → AreOps (suc n) (drop p (places_in s ++ places_of ls)) → places_of (l ∷ replaced_lines write (p - length (places_in s)) (suc n) is ls) ≡ Result p k is (places_in s ++ places_of ls)
 unfolding Rec
 behind write n k p m is l s ls f rec e g h =
@@ -103,7 +103,7 @@ at_moved p gone q r (n ∷ ns) e = cons_label n q _ _ _ e (at_moved p gone q r n
     cons_label : (n : Name) (a b : ℕ) (l m : List Label) → a ≡ b → l ≡ m → (let z : List Label = record { name = n; place = a } ∷ l in z) ≡ record { name = n; place = b } ∷ m
     cons_label n a b l m e f = cc
 
--- the labels of lines behind the window
+-- the labels of lines after the window
 behind_moved : (p gone q r : ℕ) (ls : List ListingLine) → p ≤ q → r ≡ q + gone → labels_from q ls ≡ map (move_label p gone) (labels_from r ls)
 behind_moved p gone q r [] h e = refl
 behind_moved p gone q r (l ∷ ls) h e =
@@ -199,7 +199,7 @@ code_replaced write p n is ls short ops out =
 
 -- ---- how many lines ----
 
--- each instruction that goes is a line
+-- each instruction that is removed is one line
 pub lines_step : (n : ℕ) (l : ListingLine) (s : Statement) (ls : List ListingLine) → (AreOps n (places_of ls) → n + length (without n ls) ≡ length ls) → (AreOps (suc n) (places_of ls) → suc n + length (without (suc n) ls) ≡ length ls) → AreOps (suc n) (places_in s ++ places_of ls) → suc n + length (if is_op s then without n ls else l ∷ without (suc n) ls) ≡ suc (length ls)
 lines_step n l (Instruction i mention) ls f g h = let e = f h in omega arith
 lines_step n l (Words (w ∷ ws)) ls f g h = absurd h

@@ -44,7 +44,7 @@ returns_none : (names : Naming) (k q : ℕ) (xs : List Place) → AreNoCalls xs 
 returns_none names k q [] h = refl
 returns_none names k q (x ∷ xs) h = rw h.0 (returns_none names k (q + 1) xs h.1)
 
--- the return points of places that each move by the same
+-- the return points of places that all move by the same distance
 returns_moved : (names : Naming) (to : ℕ → ℕ) (k q r : ℕ) (xs : List Place) → r ≡ to q → ((j : ℕ) → j ≤ length xs → to (q + j) ≡ to q + j) → returns_from names k r xs ≡ map (λ a. (a.0, to a.1)) (returns_from names k q xs)
 returns_moved names to k q r [] e h = refl
 returns_moved names to k q r (x ∷ xs) e h =
@@ -83,17 +83,17 @@ take_front xs ys zero h = refl
 take_front [] ys (suc n) h = absurd (omega arith)
 take_front (x ∷ xs) ys (suc n) h = ap (λ l. x ∷ l) (take_front xs ys n (omega arith))
 
--- an item of the second list is one of both
+-- an item of the second list is one of the appended lists
 pub one_of_back : (x : ℕ) (xs ys : List ℕ) → one_of x ys ≡ true → one_of x (xs ++ ys) ≡ true
 one_of_back x [] ys h = h
 one_of_back x (y ∷ xs) ys h = elim (x == y) as (λ b. (b || one_of x (xs ++ ys)) ≡ true) [ true ↦ refl | false ↦ one_of_back x xs ys h ]
 
--- an item of both is one of the first or of the second
+-- an item of the appended lists is one of the first or of the second
 pub one_of_append : (x : ℕ) (xs ys : List ℕ) → one_of x (xs ++ ys) ≡ true → (one_of x xs ≡ true) ⊎ (one_of x ys ≡ true)
 one_of_append x [] ys h = inr h
 one_of_append x (y ∷ xs) ys h = elim (x == y) as (λ b. (b || one_of x (xs ++ ys)) ≡ true → ((b || one_of x xs) ≡ true) ⊎ (one_of x ys ≡ true)) [ true ↦ λ g. inl refl | false ↦ λ g. one_of_append x xs ys g ] h
 
--- a return point among places from p on that hold no call is none
+-- a return point of places from p on lies after p, and at most right after the last of them
 return_within : (places : List Place) (p q : ℕ) → one_of q (return_places p places) ≡ true → (p < q) × (q ≤ p + length places)
 return_within [] p q e = absurd (cc)
 return_within (x ∷ xs) p q e =
@@ -143,7 +143,7 @@ mentioned_more n front window back h =
 
 -- ---- a replacement ----
 
--- what is asked of a replacement, but for what the instructions do
+-- the conditions on a replacement, but for the effect of its instructions
 pub record IsReplacement (code : Code) (p count : ℕ) (is : List Instr) : Type 0 where
   pub within : p + count ≤ length code.places
   pub some : 0 < count
@@ -174,7 +174,7 @@ moved_min p gone a b =
       | inr h ↦ (let k = moved_keeps_order p gone b a h in let e : min a b ≡ b = omega arith in let f : min (moved p gone a) (moved p gone b) ≡ moved p gone b = min_right _ _ k in f ∙ ap (moved p gone) (sym e))
     ]
 
--- no place is an instruction and data
+-- no place is both an instruction and data
 not_both : (o : Option Place) → is_op_place o ≡ true → is_word_place o ≡ true → ⊥
 not_both None h k = absurd (cc)
 not_both (Some (Op i mention)) h k = absurd (cc)
@@ -223,12 +223,12 @@ module _ (code : Code) (p count : ℕ) (is : List Instr) where
         ∙ get_back (map plain is) _ (q - count - p) _ (omega arith)
         ∙ get_drop (p + count) code.places _ q (omega arith)
 
-    -- at each place but the window's
+    -- at each place outside the window
     pub fetch_outside : (q : ℕ) → IsOutside p count q → q ≢ p → slice_get places' (to q) ≡ slice_get code.places q
     fetch_outside q (inl h) ne = ap (slice_get places') (let e : to q ≡ q = omega arith in e) ∙ fetch_before q (omega arith)
     fetch_outside q (inr h) ne = fetch_after q h
 
-    -- data behind a place outside the window moves with it
+    -- data that follows a place outside the window moves with it
     pub data_moved : (q k : ℕ) → IsOutside p count q → ((j : ℕ) → j ≤ k → is_word_place (slice_get code.places (q + j)) ≡ true) → slice_get places' (to q + k) ≡ slice_get code.places (q + k)
     data_moved q k (inl h) w =
         elim (cases_lt (q + k) p) [
@@ -239,7 +239,7 @@ module _ (code : Code) (p count : ℕ) (is : List Instr) where
         let s = r.no_longer in let o = r.some in
         ap (slice_get places') (let e : to q + k ≡ to (q + k) = omega arith in e) ∙ fetch_after (q + k) (omega arith)
 
-    -- where a name's label stands moves
+    -- the place of a name's label moves
     pub label_place_moved : (name : Name) (ls : List Label) → label_place name (map (move_label p (count - length is)) ls) ≡ option_map to (label_place name ls)
     label_place_moved name [] = refl
     label_place_moved name (l ∷ ls) =
@@ -259,7 +259,7 @@ module _ (code : Code) (p count : ℕ) (is : List Instr) where
     pub name_outside : (name : Name) (q : ℕ) → label_place name code.labels ≡ Some q → IsOutside p count q
     name_outside name q e = label_outside name code.labels r.unlabelled q e
 
-    -- an instruction that mentions a name was there before
+    -- an instruction that mentions a name is one of the old listing
     mention_back : (q : ℕ) (i : Instr) (m : Mention) → slice_get places' q ≡ Some (Op i (Some m)) → (k : ℕ) × (slice_get code.places k ≡ Some (Op i (Some m)))
     mention_back q i m e =
         elim (cases_lt q p) [
@@ -360,7 +360,7 @@ module _ (code : Code) (p count : ℕ) (is : List Instr) where
     least_moved a None = refl
     least_moved a (Some b) = ap Some (moved_min p (count - length is) a b)
 
-    -- so the least place of a word moves
+    -- so the least place with a word moves
     pub point_moved : (word : ℕ) (ps : List (ℕ × ℕ)) → point_among word (map move_point ps) ≡ option_map to (point_among word ps)
     point_moved word [] = refl
     point_moved word (a ∷ ps) =

@@ -68,7 +68,7 @@ point_places names code =
 pub point_is : (names : Naming) (code : Code) (word q : ℕ) → point_among word (points names code) ≡ Some q → IsPoint code q
 point_is names code word q e = ap (one_of q) (sym (point_places names code)) ∙ point_place word q (points names code) e
 
--- the place of a name is a label's
+-- a place at which some label stands
 abbrev pub IsLabelsPlace : List Label → ℕ → Type 0
 IsLabelsPlace ls q = (k : ℕ) × (l : Label) × (slice_get ls k ≡ Some l) × (q ≡ l.place)
 

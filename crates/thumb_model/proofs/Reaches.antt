@@ -1,4 +1,4 @@
--- The layout accepts exactly what an encoding's field can hold.
+-- The proof of `ReachesAreFields`.
 use Rattle.std.proofs.Common.{◌≡◌, inl, inr, ℕ, ◌+◌, ◌-◌, ◌*◌, ◌/◌, ◌%◌, ◌<◌, ◌≤◌, ◌==◌, ◌&&◌, true, false, Some, None, refl, arith, eqb-true, eq-eqb, ltb-true, leb-true}
 use Rattle.std.specs.Prelude.{nat_le, nat_lt, pos, negsuc}
 use Rattle.std.proofs.lemmas.Bool.{cases_Bool, and_parts, and_from, le-leb, lt-ltb, leb-false}

@@ -1,4 +1,4 @@
--- Calls and their return points, by cuts.
+-- Calls and their return points, by lists split at a call: the proofs of `ReturnsAreCuts`.
 use Rattle.std.proofs.Common.{◌≡◌, ◌∙◌, inl, inr, ℕ, zero, suc, ◌+◌, ◌<◌, Bool, true, false, List, [], ◌∷◌, ◌++◌, length, map, refl, sym, ap, arith, subst, if◌then◌else◌}
 use Rattle.std.specs.Prelude.{Contains}
 use Rattle.std.proofs.lemmas.Bool.{cases_Bool}
@@ -35,7 +35,7 @@ calls_append (x ∷ xs) ys =
 
 -- ---- cuts of lines ----
 
--- there are as many calls as stand before it, and more
+-- there are more calls than come before this one
 pub call_within : (lines : List ListingLine) (k : ℕ) (before : List ListingLine) (call : ListingLine) (after : List ListingLine) → IsCutAtCall lines k before call after → k < call_count (places_of lines)
 call_within lines k before call after is =
     let all : call_count (places_of lines) ≡ call_count (places_of (before ++ call ∷ after)) = ap (λ (ls : List ListingLine). call_count (places_of ls)) is.cut in
@@ -47,7 +47,7 @@ call_within lines k before call after is =
 abbrev Cut : List ListingLine → ℕ → Type 0
 Cut lines k = (before : List ListingLine) × (call : ListingLine) × (after : List ListingLine) × IsCutAtCall lines k before call after
 
--- it stays one behind a further line, whose call counts
+-- a cut stays one with a further line in front; its number is 1 more where that line is a call
 further : (l : ListingLine) (ls : List ListingLine) (k m : ℕ) (b : Bool) → ends_in_call l.statement ≡ b → m ≡ (if b then 1 else 0) + k → Cut ls k → Cut (l ∷ ls) m
 further l ls k m b e f (before, call, after, is) =
     (l ∷ before, call, after, record { cut = ap (λ (xs : List ListingLine). l ∷ xs) is.cut; calls = is.calls; number = f ∙ ap (λ (n : ℕ). (if b then 1 else 0) + n) is.number ∙ sym (line_calls l before b e) })
@@ -62,7 +62,7 @@ each_call (l ∷ ls) k lt = elim (cases_Bool (ends_in_call l.statement)) [
   here zero h rest lt = ([], l, ls, record { cut = refl; calls = h; number = refl })
   here (suc k) h rest lt = further l ls k (suc k) true h (omega arith) (rest k (omega arith))
 
--- lines are cut at a call, before which others stand, and its return point lies behind it
+-- where the lines are split at a call, its return address is the address after it
 abbrev CallBehind : ℕ → List ListingLine → ListingLine → List ListingLine → Type 0
 CallBehind at before call after = (k : ℕ) → k ≡ call_count (places_of before) → return_address k at (before ++ call ∷ after) ≡ end_of at (before ++ call ∷ [])
 
@@ -91,7 +91,7 @@ laid_behind base set lines k before call after is =
 
 -- ---- cuts of places ----
 
--- the same of places from one on, before which others stand
+-- a return point among places that begin at place p, with k calls before them
 record IsPointFrom (names : Naming) (k p : ℕ) (places : List Place) (w q : ℕ) : Type 0 where
   before : List Place
   call : Place

@@ -1,4 +1,4 @@
--- Lemmas on this crate's definitions that several crates above need.
+-- Lemmas about the model that several crates which depend on it use.
 use Rattle.std.proofs.Common.{List, None, Option, Some, [], ap, eq-eqb, eqb-true, false, inl, inr, length, map, refl, suc, sym, true, true≢false, ℕ, ◌<◌, ◌==◌, ◌||◌, ◌∙◌, ◌∷◌, ◌≡◌}
 use Rattle.std.proofs.lemmas.Bool.{cases_lt, or_right}
 use Rattle.std.proofs.lemmas.Option.{slice_get_past, slice_get_within}

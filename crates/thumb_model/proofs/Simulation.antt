@@ -1,21 +1,21 @@
--- Simulation: when the second of two machines follows the first, in no more steps. It holds of any step functions, and says nothing of instructions.
+-- A simulation of two machines in which the second needs no more steps than the first. Nothing here is about instructions.
 use Rattle.std.proofs.Common.{◌≡◌, ℕ, zero, suc, ◌+◌, ◌-◌, ◌<◌, ◌≤◌, refl, sym, ap, ◌∙◌, subst, ◌⊎◌, inl, inr, arith}
 use Rattle.std.proofs.lemmas.Bool.{cases_lt}
 use Rattle.thumb_model.specs.Steps.{times}
 
--- m steps and then n are k
+-- m steps and then n are k = m + n steps
 pub times_add : {A : Type 0} (f : A → A) (m n k : ℕ) (a : A) → k ≡ m + n → times f k a ≡ times f n (times f m a)
 times_add f zero n k a e = ap (λ j. times f j a) (let h : k ≡ n = omega arith in h)
 times_add f (suc m) n zero a e = absurd (omega arith)
 times_add f (suc m) n (suc k) a e = times_add f m n k (f a) (omega arith)
 
--- a state that a step leaves as it is stays so
+-- a state that a step leaves as it is stays so for n steps
 pub times_still : {A : Type 0} (f : A → A) (n : ℕ) (a : A) → f a ≡ a → times f n a ≡ a
 times_still f zero a e = refl
 times_still f (suc n) a e = ap (times f n) e ∙ times_still f n a e
 
 module _ (A B : Type 0) (f : A → A) (g : B → B) (Alike : A → B → Type 0) (Related : A → B → Type 0) where
-  -- both stand still, or both go on, the second in no more steps, to related states, and are alike all along
+  -- both stand still, or both go on to related states, the second in no more steps, and are alike at each step between
   pub record Advance (a : A) (b : B) : Type 0 where
     pub left : ℕ
     pub right : ℕ

@@ -1,4 +1,4 @@
--- Only the items below 19 are read.
+-- Only items below 19 are read, so only these are live: a mask of 19 bits is enough.
 use Rattle.std.proofs.Common.{◌≡◌, ℕ, zero, suc, ◌<◌, ◌≤◌, ◌==◌, ◌||◌, ◌&&◌, nat_lt, not, Bool, true, false, List, [], ◌∷◌, ◌++◌, if◌then◌else◌, Option, Some, None, refl, subst, arith, eqb-true, ltb-true}
 use Rattle.std.specs.Prelude.{slice_get, filter}
 use Rattle.std.proofs.lemmas.Option.{same_Some}
@@ -41,7 +41,7 @@ by_test k (x ∷ xs) h =
       | false ↦ λ e g. absurd (cc)
     ] refl h
 
--- a part of such a list, a longer one of two, and a greater bound
+-- lists below k: their filtered parts, two appended, and with a greater bound
 pub below_filter : (k : ℕ) (p : ℕ → Bool) (xs : List ℕ) → AreBelow k xs → AreBelow k (filter p xs)
 below_filter k p [] h = tt
 below_filter k p (x ∷ xs) h = elim (p x) as (λ b. AreBelow k (if b then x ∷ filter p xs else filter p xs)) [ true ↦ (h.0, below_filter k p xs h.1) | false ↦ below_filter k p xs h.1 ]

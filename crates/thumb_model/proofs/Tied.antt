@@ -1,4 +1,5 @@
--- One instruction in two surroundings that are tied place by place: it does the same, and goes on to places that are tied.
+-- One instruction at two places whose targets, landings and literals correspond (are tied) by a relation R of places: it does the same in both,
+-- and goes on to places that correspond.
 use Rattle.std.proofs.Common.{◌≡◌, ℕ, ◌%◌, ◌==◌, nat_le, Bool, true, false, List, [], ◌∷◌, length, if◌then◌else◌, refl, ap, subst}
 use Rattle.thumb_instr.specs.declared.instr.Instr.{Instr}
 use Rattle.thumb_instr.specs.declared.instr.Instr.TheVariants as instr
@@ -85,7 +86,7 @@ module _ (R : ℕ → ℕ → Type 0) where
   puts_tied : (os : List (ℕ × ℕ)) (w : World) → ActTied R (puts os On w) (puts os On w)
   puts_tied os w = record { outputs = refl; memory = refl; answers = refl; events = refl; next = tt }
 
-  -- an act that comes to no place is tied to itself
+  -- an act whose continuation is tied to itself is tied to itself
   abbrev IsStill : Act → Type 0
   IsStill a = NextTied R a.next a.next
 
@@ -119,7 +120,7 @@ module _ (R : ℕ → ℕ → Type 0) where
   stores_tied : (a : Access) (address value : ℕ) (w : World) → ActTied R (stores a address value w) (stores a address value w)
   stores_tied a address value w = aligned_tied address (access_size a) w _ _ (still_tied _ tt)
 
-  -- a row: an access
+  -- a row: an access is tied to itself
   accesses_tied : (a : Access) (t address value : ℕ) (w : World) → ActTied R (accesses a t address value w) (accesses a t address value w)
   accesses_tied access.Str t address value w = stores_tied access.Str address value w
   accesses_tied access.Strh t address value w = stores_tied access.Strh address value w
@@ -156,7 +157,7 @@ module _ (R : ℕ → ℕ → Type 0) where
   pop_tied Strays Strays address xs w h = still_tied _ tt
   pop_tied k l address xs w h = absurd h
 
-  -- POP, with pc or without
+  -- POP, with pc or without, does the same where landings are tied
   pops_tied : (a b : Around) (list : ℕ) (w : World) → ((word : ℕ) → LandingTied R (a.lands word) (b.lands word)) → (t : Bool) → ActTied R
       (if t then pops (a.lands (popped_word (w.values sp) (registers_in list) w)) (w.values sp) (registers_in list) w else loads_many sp (w.values sp) (registers_in list) w)
       (if t then pops (b.lands (popped_word (w.values sp) (registers_in list) w)) (w.values sp) (registers_in list) w else loads_many sp (w.values sp) (registers_in list) w)

@@ -1,4 +1,4 @@
--- Straight code: what a window does, in a run and under a renaming.
+-- Straight-line code: what a window does in a run, to liveness, and under a renaming of its registers.
 use Rattle.std.proofs.Common.{◌≡◌, ◌≢◌, ℕ, zero, suc, ◌+◌, ◌*◌, ◌/◌, ◌<◌, ◌≤◌, ◌==◌, ◌||◌, true, false, List, [], ◌∷◌, ◌++◌, length, map, Option, Some, None, refl, sym, ap, ◌∙◌, subst, ◌⊎◌, inl, inr, arith, if◌then◌else◌, eq-eqb, eqb-true, ne_eqb, ◌^◌, Bool}
 use Rattle.std.specs.Prelude.{slice_get, bit_and}
 use Rattle.std.proofs.lemmas.Option.{slice_get_past}
@@ -30,7 +30,7 @@ use Rattle.thumb_model.proofs.Points.{landing_is}
 
 -- ---- a run through straight code ----
 
--- the instructions stand in the places from p
+-- the instructions are at the places from p on
 abbrev pub StandsAt : List Place → ℕ → List Instr → Type 0
 StandsAt places p [] = Unit {0}
 StandsAt places p (i ∷ is) = (slice_get places p ≡ Some (plain i)) × StandsAt places (p + 1) is
@@ -57,7 +57,7 @@ module _ (names : Naming) (code : Code) (s : State) where
   pub straight_step : (p : ℕ) (v : Values) (i : Instr) → slice_get code.places p ≡ Some (plain i) → is_in_window i ≡ true → step names code (went s p v) ≡ went s (p + 1) (after i v)
   straight_step p v i e h = rw (e, straight_act (around_of names code p i None) i (went s p v).world h, append_nothing s.events) refl
 
-  -- straight code to its end
+  -- n steps run the code to its end
   pub straight_run : (is : List Instr) (p : ℕ) (v : Values) → StandsAt code.places p is → AreStraight is → times (step names code) (length is) (went s p v) ≡ went s (p + length is) (after_all is v)
   straight_run [] p v h a = ap (λ q. went s q v) (let e : p ≡ p + 0 = omega arith in e)
   straight_run (i ∷ is) p v h a =
@@ -65,7 +65,7 @@ module _ (names : Naming) (code : Code) (s : State) where
       ∙ straight_run is (p + 1) (after i v) h.1 a.1
       ∙ ap (λ q. went s q (after_all is (after i v))) (let e : p + 1 + length is ≡ p + length (i ∷ is) = omega arith in e)
 
-  -- within the code nothing observable happens
+  -- part of the way through the code only values and place have changed
   pub straight_part : (is : List Instr) (p : ℕ) (v : Values) (j : ℕ) → StandsAt code.places p is → AreStraight is → j ≤ length is → (q : ℕ) × (u : Values) × (times (step names code) j (went s p v) ≡ went s q u)
   straight_part is p v zero h a l = (p, v, refl)
   straight_part [] p v (suc j) h a l = absurd (omega arith)
@@ -73,21 +73,21 @@ module _ (names : Naming) (code : Code) (s : State) where
       let b = straight_part is (p + 1) (after i v) j h.1 a.1 (omega arith) in
       (b.0, b.1, ap (times (step names code) j) (straight_step p v i h.0 a.0) ∙ b.2)
 
--- ---- what is live decides what is live afterwards ----
+-- ---- worlds that agree on what is read agree so after a step ----
 
 agree_on : (xs : List ℕ) (u v : Values) → ((x : ℕ) → one_of x xs ≡ true → u x ≡ v x) → AgreeOn xs u v
 agree_on [] u v h = tt
 agree_on (x ∷ xs) u v h =
     (h x (ap (λ b. b || one_of x xs) (eq-eqb x x refl)), agree_on xs u v (λ y e. h y (elim (y == x) as (λ b. (b || one_of y xs) ≡ true) [ true ↦ refl | false ↦ e ])))
 
--- a step from p that goes on so may come to q
+-- a step from p with this continuation may come to q
 abbrev pub GoesTo : ℕ → Continuation → ℕ → Type 0
 GoesTo p On q = q ≡ p + 1
 GoesTo p Stay q = q ≡ p
 GoesTo p (To r) q = q ≡ r
 GoesTo p Over q = ⊥
 
--- a step follows its way, or writes nothing and stays
+-- a step with this continuation follows its way, or writes nothing and stays
 led : (code : Code) (lands : ℕ → Landing) → ((word r : ℕ) → lands word ≡ Goes r → IsPoint code r) → (p q : ℕ) (n : Continuation) (l : Leads) (ks ws : List ℕ) → Matches lands n l ks ws → GoesTo p n q → ((ks ≡ ws) × Follows code p l q) ⊎ ((ks ≡ []) × (q ≡ p))
 led code lands point p q On Onward ks ws m g = inl (m, g)
 led code lands point p q (To r) (ToPlace s) ks ws m g = inl (m.1, g ∙ m.0)
@@ -96,7 +96,7 @@ led code lands point p q Stay l ks ws m g = inr (m, g)
 led code lands point p q Over l ks ws m g = absurd g
 led code lands point p q n l ks ws m g = absurd m
 
--- the place that is aimed at, as the target says it
+-- the place inside of a target is the place that was looked up
 pub aim_is : (names : Naming) (mention : Option Mention) (o : Option ℕ) → inside_of (target_at names mention o) ≡ o
 aim_is names mention None = refl
 aim_is names mention (Some p) = refl
@@ -124,7 +124,7 @@ flows names code p i mention u w e a h =
           ∙ ap (λ (b : Act). assigned b.outputs w.values x) same;
     }
 
--- through straight code
+-- the same through straight-line code
 pub flows_on : (names : Naming) (code : Code) (is : List Instr) (p : ℕ) (u w : Values) → StandsAt code.places p is → AreStraight is → ((x : ℕ) → Reads code x p → u x ≡ w x) → (x : ℕ) → Reads code x (p + length is) → after_all is u x ≡ after_all is w x
 flows_on names code [] p u w h a agree x r = agree x (subst (Reads code x) (let e : p + 0 ≡ p = omega arith in e) r)
 flows_on names code (i ∷ is) p u w h a agree x r =
@@ -173,7 +173,7 @@ normal_after (i ∷ is) v = ap (λ os. after_all (map normalised is) (assigned o
 abbrev pub IsCanonical : ℕ → ℕ → Type 0
 IsCanonical k x = (x < k) ⊎ ((15 ≤ x) × (x < 19))
 
--- a word goes as it is into a low register
+-- a word is written unchanged to a low register
 pub low_written : (x w : ℕ) → x < 8 → written_to x w ≡ w
 low_written x w h = ap (λ b. if b then w / 4 * 4 else w) (ne_eqb x sp (λ e. absurd (omega arith)))
 
@@ -229,7 +229,7 @@ module _ (registers : List Low) (few : length registers ≤ 4) (one : IsOneToOne
   sum_flags_canonical : (s : WordSum) → AreCanonical (keys (sum_flags s))
   sum_flags_canonical s = (inr (omega arith, omega arith), (inr (omega arith, omega arith), (inr (omega arith, omega arith), (inr (omega arith, omega arith), tt))))
 
-  -- what a result, a shift and a sum put where
+  -- the outputs of a result, a shift and a sum with a renamed target
   result_under : (d x : ℕ) → result_outputs (under d) x ≡ renamed_outputs (result_outputs d x)
   result_under d x = ap (λ l. (under d, x) ∷ l) (result_flags_renamed x)
 
@@ -260,7 +260,7 @@ module _ (registers : List Low) (few : length registers ≤ 4) (one : IsOneToOne
   sum_canonical : (d : ℕ) (r : WordSum) → d < length registers → AreCanonical (keys (sum_outputs d r))
   sum_canonical d r h = (inl h, sum_flags_canonical r)
 
-  -- a row: what a renamed operation puts where
+  -- a row: the outputs of a renamed operation
   two_renamed : (o : Operation) (d x y c : ℕ) → two_outputs o (under d) x y c ≡ renamed_outputs (two_outputs o d x y c)
   two_renamed operation.And d x y c = result_under d (bit_and x y)
   two_renamed o d x y c = search (result_under, shift_under, sum_under, result_flags_renamed, sum_flags_renamed)
@@ -295,7 +295,7 @@ module _ (registers : List Low) (few : length registers ≤ 4) (one : IsOneToOne
       let low : under d < 8 = low_item d h in
       pair_same _ _ _ _ [] [] e (ap (λ n. written_to n x) e ∙ low_written (under d) x low ∙ f ∙ sym (low_written d y (omega arith))) refl
 
-  -- a row: what a renamed instruction puts where
+  -- a row: the outputs of a renamed instruction
   outputs_renamed : (i : Instr) (s w : Values) → is_in_window i ≡ true → AreBelow (length registers) (named i) → Corresponds s w → outputs (renamed registers i) s ≡ renamed_outputs (outputs i w)
   outputs_renamed (instr.Mov d m) s w t b c = written_renamed _ d.number _ (w m.number) b.0 (reg_number registers d) (read_wide m s w b.1.0 c)
   outputs_renamed (instr.Three k d n m) s w t b c = sum_renamed d _ (three_sum k (w n.number) (w m.number)) (ap_two (three_sum k) (read_as n s w b.1.0 c) (read_as m s w b.1.1.0 c))
@@ -375,7 +375,7 @@ module _ (registers : List Low) (few : length registers ≤ 4) (one : IsOneToOne
       ∙ ap (λ os. assigned os s x) (outputs_renamed i s w o.0 o.1 c)
       ∙ assigned_other (renamed_outputs (outputs i w)) s x (apart (outputs i w) x (outputs_canonical i w o.0 o.1) h)
 
-  -- what an item of the machine is: that of a mask, or a register outside the map
+  -- an item of the machine is the renamed one of a mask's item, or a register outside the map
   among_map : (xs : List ℕ) (x : ℕ) → one_of x (map under xs) ≡ true → (y : ℕ) × (one_of y xs ≡ true) × (x ≡ under y)
   among_map [] x h = absurd (cc)
   among_map (y ∷ xs) x h =

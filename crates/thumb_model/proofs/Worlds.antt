@@ -33,7 +33,7 @@ word_small names code (Some m) = behind_small names code.places m.plus (label_pl
 literal_small : (names : Naming) (code : Code) (i : Instr) (mention : Option Mention) → literal_at names code i mention < 2 ^ 32
 literal_small names code i mention = elim (loads_literal i) as (λ b. (if b then literal_word names code mention else word_of_mention names mention) < 2 ^ 32) [ true ↦ word_small names code mention | false ↦ mention_small names mention ]
 
--- what a naming with words for its return points says around a place are words
+-- what a naming supplies to a place are words, where its return points have words
 pub around_words : (names : Naming) (small : (k : ℕ) → names.return_word k < 2 ^ 32) (code : Code) (p : ℕ) (i : Instr) (mention : Option Mention) → AreAroundWords (around_of names code p i mention)
 around_words names small code p i mention = record { literal = literal_small names code i mention; link = small (call_count (take p code.places)) }
 
@@ -48,6 +48,6 @@ step_at_keeps : (names : Naming) (small : (k : ℕ) → names.return_word k < 2 
 step_at_keeps names small code Ended s h = h
 step_at_keeps names small code (Here p) s h = step_on_keeps names small code p (slice_get code.places p) s h
 
--- a step keeps a world one
+-- a step keeps each number of a world in its range
 pub step_keeps : (names : Naming) (small : (k : ℕ) → names.return_word k < 2 ^ 32) (code : Code) (s : State) → IsWorld s.world → IsWorld (step names code s).world
 step_keeps names small code s h = step_at_keeps names small code s.at s h

@@ -20,17 +20,17 @@ access_size access.Ldrh = 2
 access_size access.Ldrb = 1
 access_size access.Ldrsh = 2
 
--- the little-endian number in n bytes from an address on
+-- the little-endian number of so many bytes from an address on
 abbrev pub value_at : (ℕ → ℕ) → ℕ → ℕ → ℕ
 value_at memory address zero = 0
 value_at memory address (suc n) = memory address + 256 * value_at memory (address + 1) n
 
--- memory with the n low bytes of a number written from an address on, little-endian
+-- memory with a number's bytes from an address on, little-endian
 abbrev pub with_value : (ℕ → ℕ) → ℕ → ℕ → ℕ → ℕ → ℕ
 with_value memory address zero value x = memory x
 with_value memory address (suc n) value x = if x == address then value % 256 else with_value memory (address + 1) n (value / 256) x
 
--- the memory after a store, which stays as it is where the address is a device's
+-- the memory after a store: unchanged where the address is a device's
 abbrev pub stored : (ℕ → ℕ) → ℕ → ℕ → ℕ → ℕ → ℕ
 stored memory address size value = if is_device address then memory else with_value memory address size value
 
@@ -130,7 +130,7 @@ abbrev pub load_events : ℕ → List ℕ → List Event
 load_events address [] = []
 load_events address (x ∷ xs) = Load address 4 ∷ load_events (next_word address) xs
 
--- waits (`Stay`) where more of the words are at devices than answers are left
+-- does the act, or stays where more words are at devices than answers are left
 abbrev pub enough : ℕ → List ℕ → World → Act → Act
 enough address xs w a = if nat_le (device_words address xs) (length w.answers) then a else puts [] Stay w
 

@@ -1,4 +1,4 @@
--- What each instruction does at its place, by the ARM manual's pseudocode.
+-- What each instruction does to a world, given what is around it: the one meaning of instructions for listings and for images.
 use Rattle.std.specs.Prelude.{ℕ, ◌+◌, ◌*◌, ◌%◌, ◌^◌, ◌==◌, ◌&&◌, not, Bool, List, [], ◌∷◌, ◌++◌, map, if◌then◌else◌}
 use Rattle.thumb_instr.specs.declared.instr.Instr.{Instr}
 use Rattle.thumb_instr.specs.declared.instr.Instr.TheVariants as instr
@@ -31,11 +31,11 @@ abbrev pub jumps : Target → World → Act
 jumps (Inside p) w = puts [] (To p) w
 jumps (External word) w = ends (Left word (map w.values registers_left)) w
 
--- a call of the outside
+-- a call of external code: an event, and an answer
 abbrev pub calls_out : ℕ → World → Act
 calls_out word w = takes (answers_with answered (Call word (map w.values handed)) w) w w.answers
 
--- BL and BLX
+-- BL, and then BLX
 abbrev pub calls : Target → ℕ → World → Act
 calls (Inside p) link w = puts ((lr, link) ∷ []) (To p) w
 calls (External word) link w = calls_out word w

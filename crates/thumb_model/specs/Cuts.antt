@@ -1,4 +1,4 @@
--- A replacement in lines that are split at its window: which lines stay.
+-- The lines after a replacement, given as before, new lines, and after: what `replaced_lines` defines line by line.
 use Rattle.std.specs.Prelude.{◌≡◌, ℕ, zero, suc, ◌+◌, List, [], ◌∷◌, ◌++◌, length, map, true, if◌then◌else◌}
 use Rattle.thumb_instr.specs.declared.instr.Instr.{Instr}
 use Rattle.thumb_model.specs.Listing.{ListingLine, Place, Op, Word, places_of}
@@ -20,7 +20,7 @@ abbrev pub others : List ListingLine → List ListingLine
 others [] = []
 others (l ∷ ls) = if is_op l.statement then others ls else l ∷ others ls
 
--- what stands before and behind the window stays, and so do the window's labels and the lines between its instructions, behind the new ones
+-- the lines before and after the window stay, the labels of its first line come before the new lines, and its lines that are no instructions after them
 abbrev pub ReplacedLinesAreACut : Type 0
 ReplacedLinesAreACut = (write : Instr → List ℕ) (before between after : List ListingLine) (first : ListingLine) (new : List Instr) → is_op first.statement ≡ true
     → replaced_lines write (length (places_of before)) (op_count between + 1) new (before ++ first ∷ (between ++ after)) ≡ before ++ (labels_kept first first.names ++ (map (new_line write) new ++ (others between ++ after)))

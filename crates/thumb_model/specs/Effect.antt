@@ -1,4 +1,4 @@
--- The values of items, what an instruction on registers and flags alone writes, by the ARM manual's pseudocode, and when two sequences are equal.
+-- The items and what they hold, what each instruction that only computes writes, by the ARM manual's pseudocode, and when two sequences are equal on a mask.
 use Rattle.std.specs.Prelude.{ℕ, ◌<◌, ◌^◌, ◌/◌, ◌*◌, ◌≤◌, ◌==◌, List, [], ◌∷◌, if◌then◌else◌, true, false, Bool, ◌-◌, ◌%◌, bit_and, bit_or, bit_xor, ◌≡◌, ◌+◌, ◌||◌, max, Some, slice_get}
 pub use Rattle.thumb_instr.specs.Items.{sp, lr, n_flag, z_flag, c_flag, v_flag, one_of}
 use Rattle.std.specs.Int.{bit_at, from_bool}
@@ -33,7 +33,7 @@ pub record AreWords (v : Values) : Type 0 where
   pub register : (x : ℕ) → x < 15 → v x < 2 ^ 32
   pub flag : (x : ℕ) → 15 ≤ x → v x < 2
 
--- the values after some items were given new ones; of two entries for one item the first counts
+-- the values after new ones were given to some items; of two for one item the first counts
 abbrev pub assigned : List (ℕ × ℕ) → Values → Values
 assigned [] v = v
 assigned (o ∷ os) v = λ x. if x == o.0 then o.1 else assigned os v x
@@ -42,7 +42,7 @@ assigned (o ∷ os) v = λ x. if x == o.0 then o.1 else assigned os v x
 abbrev pub written_to : ℕ → ℕ → ℕ
 written_to x word = if x == sp then word / 4 * 4 else word
 
--- What each instruction on registers and flags alone writes, by the ARM manual's pseudocode.
+-- What each instruction that only computes writes, by the ARM manual's pseudocode.
 
 -- N and Z of a result: its highest bit, and whether it is zero
 abbrev pub result_flags : ℕ → List (ℕ × ℕ)
@@ -145,13 +145,13 @@ abbrev pub after_all : List Instr → Values → Values
 after_all [] v = v
 after_all (i ∷ is) v = after_all is (after i v)
 
--- Sequences of window instructions: what they name, and when two of them are equal.
+-- Sequences of window instructions: what they name, and when two of them are equal on a mask.
 
 -- from every state, each item of the mask is the same after both
 abbrev pub Equal : List Instr → List Instr → List ℕ → Type 0
 Equal left right mask = (v : Values) → AreWords v → (x : ℕ) → one_of x mask ≡ true → after_all left v x ≡ after_all right v x
 
--- no register is listed twice
+-- no two of the registers are the same
 pub record IsOneToOne (registers : List Low) : Type 0 where
   pub distinct : (j k : ℕ) (r : Low) → slice_get registers j ≡ Some r → (s : Low) → slice_get registers k ≡ Some s → r.number ≡ s.number → j ≡ k
 
@@ -165,7 +165,7 @@ abbrev pub is_named : ℕ → List Instr → Bool
 is_named x [] = false
 is_named x (i ∷ is) = one_of x (named i) || is_named x is
 
--- how many registers instructions name where they name each one below the greatest: the least number that is above all that they name
+-- the least number above all registers that instructions name: how many they name, if they leave out none below the greatest
 abbrev pub above : List ℕ → ℕ
 above [] = 0
 above (x ∷ xs) = max (x + 1) (above xs)

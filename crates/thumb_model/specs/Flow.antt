@@ -1,4 +1,4 @@
--- Control flow: the ways (edges) on from each place, the places that are reachable, and the items that are live.
+-- Control flow and liveness: the ways on from each place (its edges), the places that runs may reach, and the items that are live.
 use Rattle.std.specs.Prelude.{◌≡◌, ℕ, ◌+◌, not, true, false, List, [], ◌∷◌, ◌++◌, filter, Option, Some, None, slice_get, if◌then◌else◌}
 use Rattle.thumb_instr.specs.declared.instr.Instr.{Instr}
 use Rattle.thumb_instr.specs.declared.instr.Instr.TheVariants as instr
@@ -25,17 +25,17 @@ pub record Way : Type 0 where
 abbrev pub way : List ℕ → List ℕ → Leads → Way
 way reads writes leads = record { reads = reads; writes = writes; leads = leads }
 
--- the way of a direct branch that reads these items: to a place, or out
+-- the way of a direct branch that reads these items: to a place, or out of the listing
 abbrev pub jump_way : List ℕ → Option ℕ → Way
 jump_way reads (Some p) = way reads [] (ToPlace p)
 jump_way reads None = way (reads ++ registers_left) [] Out
 
--- the way of a call: to a place, or out and back to the next place
+-- the way of a call: to a place, or out and back
 abbrev pub call_way : Option ℕ → Way
 call_way (Some p) = way [] (lr ∷ []) (ToPlace p)
 call_way None = way handed answered Onward
 
--- those of r0 to r11, sp and lr that aren't in the list
+-- the registers of r0 to r11, sp and lr that aren't in the list
 abbrev pub left_but : List ℕ → List ℕ
 left_but list = filter (λ x. not (one_of x list)) registers_left
 
@@ -76,7 +76,7 @@ pub data Reads (code : Code) (x : ℕ) : ℕ → Type 0 where
 abbrev pub LiveAfter : Code → ℕ → ℕ → Type 0
 LiveAfter code p x = (k : ℕ) × (w : Way) × (q : ℕ) × (slice_get (ways code p) k ≡ Some w) × Follows code p w.leads q × Reads code x q
 
--- what is reached: the least set of places that holds each code point and, with each place, all places to which its ways lead
+-- the reachable places: the least set that contains each code point and, with each place, all places to which its ways lead
 pub data Reached (code : Code) : ℕ → Type 0 where
   point : (p : ℕ) → IsPoint code p → Reached code p
   along : (p k : ℕ) (w : Way) (q : ℕ) → Reached code p → slice_get (ways code p) k ≡ Some w → Follows code p w.leads q → Reached code q

@@ -1,4 +1,4 @@
--- What holds of runs and of live items.
+-- Statements of three laws, which `laws.rt` proves: of steps, of live items, and of code points.
 use Rattle.std.specs.Prelude.{◌≡◌, ℕ, ◌<◌, ◌++◌, map}
 use Rattle.thumb_model.specs.Listing.{Code, label_places, return_places}
 use Rattle.thumb_model.specs.Naming.{Naming, Fits, points}

@@ -1,4 +1,4 @@
--- Where lines lie: addresses as sums of sizes and paddings, and the first line that cannot be laid out.
+-- The layout: addresses as sums of sizes and paddings, where names lie, and the first line that cannot be laid out.
 use Rattle.std.specs.Prelude.{◌≡◌, ℕ, ◌+◌, ◌-◌, ◌*◌, ◌/◌, ◌%◌, ◌==◌, ◌&&◌, ◌||◌, nat_le, nat_lt, Bool, false, List, [], ◌∷◌, length, Option, Some, None, ℤ, pos, negsuc, if◌then◌else◌}
 use Rattle.std.specs.Str.{bytes_eq}
 use Rattle.thumb_instr.specs.declared.instr.Instr.{Instr}
@@ -29,7 +29,7 @@ abbrev pub end_of : ℕ → List ListingLine → ℕ
 end_of at [] = at
 end_of at (l ∷ ls) = end_of (at + size_at l.statement at) ls
 
--- why a line cannot be laid out: a distance that the encoding cannot hold, or a literal that isn't at a multiple of 4
+-- why a line cannot be laid out: a distance outside the encoding's range, or a literal whose address isn't a multiple of 4
 pub data Fault : Type 0 where
   Range : (distance : ℤ) → Fault
   Align : (address : ℕ) → Fault
@@ -72,14 +72,14 @@ lies_in base all name = or_else (label_address name base all) (cleared (set_addr
 
 -- ---- faults ----
 
--- what distances count from: the instruction's address plus 4, for a literal rounded down to a multiple of 4
+-- what distances count from: a branch's address plus 4, and a literal load's address plus 4, rounded down to a multiple of 4
 abbrev pub branch_base : ℕ → ℕ
 branch_base at = at + 4
 
 abbrev pub literal_base : ℕ → ℕ
 literal_base at = (at + 4) / 4 * 4
 
--- `to` minus `from`
+-- the signed difference: to minus from
 abbrev pub less : ℕ → ℕ → ℤ
 less to from = if nat_le from to then pos (to - from) else negsuc (from - to - 1)
 
@@ -87,13 +87,13 @@ less to from = if nat_le from to then pos (to - from) else negsuc (from - to - 1
 abbrev pub distance : ℕ → ℕ → ℤ
 distance at to = less to (branch_base at)
 
--- the distance of a branch is at least -2 * half and less than 2 * half
+-- a branch's distance is at least - 2 * half and below 2 * half
 abbrev pub branch_fault : ℕ → ℕ → Option ℕ → Option Fault
 branch_fault half at None = None
 branch_fault half at (Some to) =
     if nat_lt to (branch_base at + 2 * half) && nat_le (branch_base at) (to + 2 * half) then None else Some (Range (distance at to))
 
--- a literal lies at a multiple of 4, and 0 to 1020 bytes beyond `literal_base`
+-- a literal lies at a multiple of 4, and 0 to 1020 past the base
 abbrev pub literal_fault : ℕ → Option ℕ → ℕ → Option Fault
 literal_fault at None plus = None
 literal_fault at (Some to) plus =
@@ -129,6 +129,6 @@ abbrev pub faults_from : (Name → Option ℕ) → ℕ → ℕ → List ListingL
 faults_from lies n at [] = None
 faults_from lies n at (l ∷ ls) = or_first n (fault_at lies at l.statement) (faults_from lies (n + 1) (at + size_at l.statement at) ls)
 
--- the lines can be laid out from this base: none has a fault
+-- no line has a fault
 abbrev pub Layable : ℕ → List ListingLine → Type 0
 Layable base ls = faults_from (lies_in base ls) 1 base ls ≡ None

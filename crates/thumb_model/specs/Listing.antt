@@ -1,4 +1,4 @@
--- A listing: its lines, and their places, labels, calls and code points.
+-- A listing: its lines, and their places (numbered instructions and data words), labels, calls and code points (where branches by a word may land).
 use Rattle.std.specs.Prelude.{◌≡◌, ℕ, ◌+◌, ◌&&◌, ◌||◌, Bool, true, false, List, [], ◌∷◌, ◌++◌, length, map, Option, Some, None, slice_get, if◌then◌else◌}
 use Rattle.std.specs.Str.{bytes_eq}
 use Rattle.thumb_instr.specs.declared.instr.Instr.{Instr}
@@ -19,7 +19,7 @@ pub data Value : Type 0 where
   Number : (n : ℕ) → Value
   OfName : (m : Mention) → Value
 
--- what a line says: nothing, an instruction and what it mentions, data words, an alignment that pads `most` bytes at most, or the address set for a name
+-- what a line says: nothing, an instruction with the name that it mentions, words of data, an alignment with at most so many bytes, or the address of a name
 pub data Statement : Type 0 where
   Nothing : Statement
   Instruction : (i : Instr) (mention : Option Mention) → Statement
@@ -119,7 +119,7 @@ is_mentioned name (p ∷ ps) = place_mentions name p || is_mentioned name ps
 
 -- ---- calls ----
 
--- whether the instruction is a call, so that the next place is its return point
+-- whether the instruction is a call; the next place is then its return point
 abbrev pub is_call_instr : Instr → Bool
 is_call_instr (instr.Blx m) = true
 is_call_instr (instr.Call d) = true

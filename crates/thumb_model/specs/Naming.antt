@@ -1,9 +1,9 @@
--- Namings of places and labels by addresses, and that of a layout.
+-- A naming gives each name and return point a word, as a layout does, and leaves open where anything else lies: so two listings can run under one.
 use Rattle.std.specs.Prelude.{◌≡◌, ◌≢◌, ℕ, ◌+◌, ◌%◌, ◌^◌, ◌<◌, ◌==◌, ◌&&◌, Bool, true, false, nat_lt, nat_le, List, [], ◌∷◌, ◌++◌, Some, slice_get, if◌then◌else◌, zero, suc, Option, None}
 use Rattle.thumb_model.specs.Listing.{Name, Place, Label, Code, is_code, has_label, is_mentioned, is_call, Statement, Nothing, Instruction, Words, Aligns, Sets, ListingLine, code_of, place_of, is_call_instr, call_count, places_of}
 use Rattle.thumb_model.specs.Layout.{size_at, end_of, label_address}
 
--- Namings: the words of names and return points, and which of them fit a listing.
+-- Namings: the words of names and return points, and which namings fit a listing.
 
 -- a word for each name and for the return point of each call by its number, and the range of code
 pub record Naming : Type 0 where
@@ -34,7 +34,7 @@ returns_from names k p (x ∷ xs) =
 abbrev pub points : Naming → Code → List (ℕ × ℕ)
 points names code = points_of names code.places code.labels ++ returns_from names 0 0 code.places
 
--- the naming fits the listing
+-- the naming fits the listing: a word then identifies at most one place
 pub record Fits (names : Naming) (code : Code) : Type 0 where
   pub words : (n : Name) → names.word_of n < 2 ^ 32
   pub return_words : (k : ℕ) → names.return_word k < 2 ^ 32
@@ -47,15 +47,15 @@ pub record Fits (names : Naming) (code : Code) : Type 0 where
   -- an external name's word is outside the range
   pub outside : (n : Name) → is_mentioned n code.places ≡ true → has_label n code.labels ≡ false → is_in_range names (names.word_of n) ≡ false
 
--- Where the names of a listing lie: its laid naming.
+-- The naming of a layout.
 
--- the word of a name: a code label's address with bit 0 set, another label's address, and of an external name what is set for it
+-- the word of a name: a code label's address with bit 0 set, another label's address, or for an external name the given word
 abbrev pub word_by : ℕ → Option ℕ → Option ℕ → ℕ
 word_by set None code = set
 word_by set (Some a) None = a
 word_by set (Some a) (Some p) = a + 1
 
--- whether a statement is a call; and the address behind call number k, counted from 0
+-- whether a statement is a call, and the address after call number k, counted from 0
 abbrev pub ends_in_call : Statement → Bool
 ends_in_call Nothing = false
 ends_in_call (Instruction i mention) = is_call_instr i
@@ -68,7 +68,7 @@ return_address k at [] = 0
 return_address zero at (l ∷ ls) = if ends_in_call l.statement then at + size_at l.statement at else return_address zero (at + size_at l.statement at) ls
 return_address (suc k) at (l ∷ ls) = if ends_in_call l.statement then return_address k (at + size_at l.statement at) ls else return_address (suc k) (at + size_at l.statement at) ls
 
--- lines cut at call number k, counted from 0: k calls stand before it
+-- the lines split at call number k, counted from 0: k calls come before it
 pub record IsCutAtCall (lines : List ListingLine) (k : ℕ) (before : List ListingLine) (call : ListingLine) (after : List ListingLine) : Type 0 where
   pub cut : lines ≡ before ++ call ∷ after
   pub calls : ends_in_call call.statement ≡ true
@@ -79,7 +79,7 @@ last_is_call [] = false
 last_is_call (p ∷ []) = is_call p
 last_is_call (p ∷ (q ∷ ps)) = last_is_call (q ∷ ps)
 
--- the laid naming: words are addresses, and the range goes from the base to the end, two bytes further where the last place is a call
+-- the layout's naming; the range goes from the base to the end, and 2 bytes further where a call is last, so that it contains the call's return point
 abbrev pub laid : ℕ → (Name → ℕ) → List ListingLine → Naming
 laid base set all = record {
   word_of = λ name. word_by (set name) (label_address name base all) (place_of (code_of all) name);

@@ -1,13 +1,13 @@
--- The windows of a listing, and its places, labels and lines after a window gives way to other instructions.
+-- The windows of a listing, and its places, labels and lines after one window is replaced.
 use Rattle.std.specs.Prelude.{◌≡◌, ℕ, ◌+◌, ◌-◌, ◌≤◌, ◌⊎◌, min, max, List, ◌++◌, length, take, drop, map, zero, suc, ◌==◌, ◌&&◌, Bool, true, false, [], ◌∷◌, Some, None, slice_get, if◌then◌else◌}
 use Rattle.std.specs.List.{list_all}
 use Rattle.thumb_instr.specs.declared.instr.Instr.{Instr}
 use Rattle.thumb_instr.specs.Window.{is_in_window}
 use Rattle.thumb_model.specs.Listing.{plain, Label, Code, Name, Statement, Nothing, Instruction, Words, Aligns, Sets, ListingLine, places_in, places_of, labels_from}
 
--- The places and labels of a code in which instructions give way to others.
+-- The places and labels after instructions are replaced.
 
--- the new number of place q when `gone` of the places from p on are removed
+-- the number of place q after `gone` places are removed at p
 abbrev pub moved : ℕ → ℕ → ℕ → ℕ
 moved p gone q = max (min q p) (q - gone)
 
@@ -21,7 +21,7 @@ replaced code p count is = record {
   labels = map (move_label p (count - length is)) code.labels;
 }
 
--- The lines of a listing in which instructions give way to others.
+-- The lines after instructions are replaced.
 
 abbrev pub is_op : Statement → Bool
 is_op Nothing = false
@@ -37,13 +37,13 @@ is_align (Words vs) = false
 is_align (Aligns size most) = true
 is_align (Sets name address) = false
 
--- the lines without their first n instructions
+-- the lines without the lines of their first n instructions, whose labels go too
 abbrev pub without : ℕ → List ListingLine → List ListingLine
 without n [] = []
 without zero (l ∷ ls) = l ∷ ls
 without (suc n) (l ∷ ls) = if is_op l.statement then without n ls else l ∷ without (suc n) ls
 
--- what stays of a line whose instruction goes: its labels
+-- what stays of the line of the first instruction that is replaced: its labels, if it has any
 abbrev pub labels_kept : ListingLine → List Name → List ListingLine
 labels_kept l [] = []
 labels_kept l (n ∷ ns) = record { names = n ∷ ns; statement = Nothing; text = l.front; front = l.front } ∷ []

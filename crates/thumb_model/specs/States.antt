@@ -1,10 +1,10 @@
--- What a machine holds and what can be seen of it, and what an instruction may do to it.
+-- The state of a machine, the events that can be seen of its run, and the shape of what an instruction does to it.
 use Rattle.std.specs.Prelude.{◌≡◌, ℕ, ◌%◌, ◌<◌, ◌==◌, List, [], ◌∷◌, if◌then◌else◌}
 use Rattle.thumb_model.specs.Effect.{Values, AreWords, assigned, sp, lr, n_flag, z_flag, c_flag, v_flag}
 
 -- ---- states ----
 
--- what can be seen of a run
+-- what can be seen of a run: accesses, calls and system instructions, and how it ended
 pub data Event : Type 0 where
   Load : (address size : ℕ) → Event
   Store : (address size value : ℕ) → Event
@@ -15,7 +15,7 @@ pub data Event : Type 0 where
   Astray : (word : ℕ) → Event
   Fell : Event
 
--- what the outside answers: what some items hold afterwards, and bytes that it wrote, by address
+-- an answer of the outside to a call, a system instruction or a load from a device: new values of items, and bytes that it wrote, by address
 pub record Answer : Type 0 where
   pub values : Values
   pub bytes : List (ℕ × ℕ)
@@ -64,14 +64,14 @@ pub data Landing : Type 0 where
   Leaves : Landing
   Strays : Landing
 
--- all that an instruction's place decides for it, under a naming of a listing or in an image
+-- what an instruction's place supplies, by a naming and a listing or by an image: branch target, literal, return word, and where words land
 pub record Around : Type 0 where
   pub target : Target
   pub literal : ℕ
   pub link : ℕ
   pub lands : ℕ → Landing
 
--- where a step goes on: at the next instruction, at the same one for want of an answer, at a place, or not at all
+-- where a run goes on: after the instruction, at it again for want of answers, at a place, or nowhere as it is over
 pub data Continuation : Type 0 where
   On : Continuation
   Stay : Continuation
@@ -86,11 +86,11 @@ pub record Act : Type 0 where
   pub events : List Event
   pub next : Continuation
 
--- r0 to r11, sp and lr
+-- the registers that the event `Left` shows: r0 to r11, sp and lr
 abbrev pub registers_left : List ℕ
 registers_left = 0 ∷ 1 ∷ 2 ∷ 3 ∷ 4 ∷ 5 ∷ 6 ∷ 7 ∷ 8 ∷ 9 ∷ 10 ∷ 11 ∷ 13 ∷ 14 ∷ []
 
--- gives items values, and goes on as `next` says
+-- puts values into items, and goes on as `next` says
 abbrev pub puts : List (ℕ × ℕ) → Continuation → World → Act
 puts os next w = record { outputs = os; memory = w.memory; answers = w.answers; events = []; next = next }
 
@@ -98,7 +98,7 @@ puts os next w = record { outputs = os; memory = w.memory; answers = w.answers; 
 abbrev pub ends : Event → World → Act
 ends e w = record { outputs = []; memory = w.memory; answers = w.answers; events = e ∷ []; next = Over }
 
--- adds an event, and goes on at the next instruction
+-- adds an event and goes on
 abbrev pub tells : Event → World → Act
 tells e w = record { outputs = []; memory = w.memory; answers = w.answers; events = e ∷ []; next = On }
 
@@ -107,22 +107,22 @@ abbrev pub takes : (Answer → List Answer → Act) → World → List Answer �
 takes go w [] = puts [] Stay w
 takes go w (a ∷ rest) = go a rest
 
--- the act where the address is a multiple of the size, else a fault alone
+-- does the act, or where the address isn't a multiple of the size ends the run with a fault
 abbrev pub aligned : ℕ → ℕ → World → Act → Act
 aligned address size w a = if address % size == 0 then a else ends (Fault address) w
 
--- what the event of a call out of the listing shows, r0 to r3 and sp; and what its answer gives, r0 to r3, r12, lr and the flags
+-- what a call of the outside shows: r0 to r3 and sp; and what its answer sets: r0 to r3, r12, lr and the flags
 abbrev pub handed : List ℕ
 handed = 0 ∷ 1 ∷ 2 ∷ 3 ∷ sp ∷ []
 
 abbrev pub answered : List ℕ
 answered = 0 ∷ 1 ∷ 2 ∷ 3 ∷ 12 ∷ lr ∷ n_flag ∷ z_flag ∷ c_flag ∷ v_flag ∷ []
 
--- what the answer to an SVC gives: r0 to r3 and r12; the event shows these and sp
+-- what the answer to SVC sets: r0 to r3 and r12; its event shows these and sp
 abbrev pub served : List ℕ
 served = 0 ∷ 1 ∷ 2 ∷ 3 ∷ 12 ∷ []
 
--- each of the items with its value
+-- items, each with its value
 abbrev pub all_at : List ℕ → Values → List (ℕ × ℕ)
 all_at [] v = []
 all_at (x ∷ xs) v = (x, v x) ∷ all_at xs v
@@ -132,6 +132,6 @@ abbrev pub with_bytes : List (ℕ × ℕ) → (ℕ → ℕ) → ℕ → ℕ
 with_bytes [] memory = memory
 with_bytes (b ∷ bs) memory = with_bytes bs (assigned (b ∷ []) memory)
 
--- adds an event, and takes the items and the bytes of an answer
+-- adds an event, and takes some items and the bytes of an answer
 abbrev pub answers_with : List ℕ → Event → World → Answer → List Answer → Act
 answers_with xs e w a rest = record { outputs = all_at xs a.values; memory = with_bytes a.bytes w.memory; answers = rest; events = e ∷ []; next = On }

@@ -1,4 +1,4 @@
--- A listing's run under a naming: what the listing says at a place, and a step.
+-- How a listing runs under a naming: what the listing says at a place, and a step from there.
 use Rattle.std.specs.Prelude.{ℕ, zero, suc, ◌+◌, ◌*◌, ◌/◌, ◌%◌, ◌^◌, ◌==◌, ◌&&◌, not, Bool, true, false, min, List, [], ◌∷◌, ◌++◌, Option, Some, None, slice_get, take, if◌then◌else◌}
 use Rattle.std.specs.Str.{bytes_eq}
 use Rattle.thumb_instr.specs.declared.instr.Instr.{Instr}
@@ -30,7 +30,7 @@ abbrev pub point_among : ℕ → List (ℕ × ℕ) → Option ℕ
 point_among word [] = None
 point_among word (p ∷ ps) = if word == p.0 then least_or p.1 (point_among word ps) else point_among word ps
 
--- a code point's word goes there, any other odd word outside the range leaves, and all else strays
+-- a code point's word goes to its place, another odd word outside the range leaves, and any other strays
 abbrev pub landing : Naming → ℕ → Option ℕ → Landing
 landing names word (Some p) = Goes p
 landing names word None = if is_odd word && not (is_in_range names word) then Leaves else Strays
@@ -62,7 +62,7 @@ word_of_place names None = 0
 word_of_place names (Some (Op i mention)) = 0
 word_of_place names (Some (Word v)) = word_of_value names v
 
--- the word of the data word that lies `plus` bytes behind a label; 0 where there is none
+-- the word of the data word that lies so many bytes after a label
 abbrev pub word_behind : Naming → List Place → ℕ → Option ℕ → ℕ
 word_behind names places plus None = 0
 word_behind names places plus (Some q) = word_of_place names (slice_get places (q + plus / 4))
@@ -71,7 +71,7 @@ abbrev pub literal_word : Naming → Code → Option Mention → ℕ
 literal_word names code None = 0
 literal_word names code (Some m) = word_behind names code.places m.plus (label_place m.name code.labels)
 
--- a literal load gives a data word's word, and ADR its name's
+-- the value that a literal load gets from a data word, and ADR from its name
 abbrev pub literal_at : Naming → Code → Instr → Option Mention → ℕ
 literal_at names code i mention = if loads_literal i then literal_word names code mention else word_of_mention names mention
 
@@ -85,7 +85,7 @@ around_of names code place i mention = record {
 
 -- ---- steps ----
 
--- the position after a step at `here`, where the next instruction is at `following`
+-- the position after a step at `here`, where `following` is the next place
 abbrev pub arrives : ℕ → ℕ → Continuation → Position
 arrives here following On = Here following
 arrives here following Stay = Here here

@@ -1,4 +1,4 @@
-//! Laws of runs. Each is stated as the contract of a function with an empty body.
+//! The model's laws, which other crates rest on. Each is the contract of a function that does nothing.
 
 ghost use Rattle.thumb_model.specs.Cuts.{ReplacedLinesAreACut};
 ghost use Rattle.thumb_model.specs.Laws.{StepsKeepWorlds, OnlyItemsAreLive, PointsArePlaces};
@@ -15,23 +15,23 @@ pub fn only_items_are_live()
     ensures { OnlyItemsAreLive }
 {}
 
-/// The places to which the words of code points lead are those of the code labels and return points.
+/// The places of the code points are the same under every naming: those of code labels and return points.
 pub fn points_are_places()
     ensures { PointsArePlaces }
 {}
 
-/// A replacement keeps the lines before and behind the window, the window's labels and the lines between its instructions.
+/// A replacement keeps the lines before and after the window, the labels of its first line, and the lines between its instructions.
 pub fn replaced_lines_are_a_cut()
     ensures { ReplacedLinesAreACut }
 {}
 
-/// The layout accepts exactly what the encoding's field can hold: even distances of branches, and fewer than 256 words past a literal's rounded base.
+/// The layout accepts exactly what an encoding's field holds: an even distance of a branch, and a number of words past a literal load's rounded address.
 pub fn reaches_are_fields()
     ensures { ReachesAreFields }
 {}
 
-/// Call number k has k calls before it, and its return point is the place right behind it. In the laid naming the return point's word is 1 more than
-/// the address behind the call.
+/// Each call splits the lines: as many calls come before it as its number says, and its return point is the place after it.
+/// Where lines are laid out, the word of the return point is 1 more than the address after the call.
 pub fn returns_are_cuts()
     ensures { ReturnsAreCuts }
 {}

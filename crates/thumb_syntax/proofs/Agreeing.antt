@@ -1,4 +1,4 @@
--- Operands that don't agree with slots don't fill them.
+-- Operands whose sorts don't agree with a form's slots don't fill them, so the reader may skip the form.
 use Rattle.std.proofs.Common.{◌≡◌, inl, inr, false, List, [], ◌∷◌, ◌++◌, None, refl, true≢false}
 use Rattle.std.proofs.lemmas.Bool.{cases_Bool}
 use Rattle.thumb_syntax.specs.declared.form.Slot.{Slot}

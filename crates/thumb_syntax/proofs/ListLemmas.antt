@@ -1,4 +1,4 @@
--- The loop that reads a list of registers: one item more.
+-- Reading the items of a register list.
 use Rattle.std.proofs.Common.{◌≡◌, ℕ, true, List, ◌∷◌, Option, Some, refl}
 use Rattle.thumb_syntax.specs.Operands.{Operand}
 use Rattle.thumb_syntax.specs.Slots.{is_sign, added, items}

@@ -1,4 +1,4 @@
--- Lists of registers that were written are read as what was written.
+-- The text of a register list is read as that list.
 use Rattle.std.proofs.Common.{◌≡◌, ◌∙◌, inl, inr, ℕ, ◌<◌, ◌++◌, ◌&&◌, ◌||◌, ◌==◌, Bool, true, false, List, [], ◌∷◌, map, Option, Some, None, refl, sym, ap, arith, true≢false, eqb-true, append_assoc}
 use Rattle.std.specs.Prelude.{if◌then◌else◌, nat_lt, codes}
 use Rattle.std.proofs.lemmas.Bool.{cases_Bool, and_parts, ltb-true, agree_below, agree_below_at, ne_eqb}
@@ -12,7 +12,7 @@ use Rattle.thumb_syntax.proofs.Words.{word_read, register_read}
 abbrev member : ℕ → ℕ → ℕ
 member extra b = if nat_lt b 8 then b else extra
 
--- the operands of a list after its first register, and all
+-- the operands of a list's text: after its first register, and all of them
 abbrev more_operands : ℕ → ℕ → List ℕ → List Operand
 more_operands extra list [] = sign 125 ∷ []
 more_operands extra list (b ∷ bs) = (if has_bit list b then sign 44 ∷ register (member extra b) ∷ [] else []) ++ more_operands extra list bs
@@ -34,7 +34,7 @@ members_end extra list (b ∷ bs) = elim (cases_Bool (has_bit list b)) [
   | inr no' ↦ rw no' (members_end extra list bs)
 ]
 
--- a member's text, with what follows it
+-- a member's text, with the text after it
 member_reads : (extra list b : ℕ) (bs : List ℕ) → extra < 16 → map operand (tokens (members extra list false bs ++ codes "}")) ≡ more_operands extra list bs
     → map operand (tokens ((member_text extra b ++ members extra list false bs) ++ codes "}")) ≡ register (member extra b) ∷ more_operands extra list bs
 member_reads extra list b bs small rest =
@@ -70,7 +70,7 @@ list_reads extra list bits small =
     ap (map operand) (tokens_mark 123 (members extra list true bits ++ codes "}") refl refl)
     ∙ ap (λ (os : List Operand). sign 123 ∷ os) (members_read extra list bits small)
 
--- ---- the operands of a list are the list
+-- ---- reading these operands yields the list
 
 abbrev is_nil : List Operand → Bool
 is_nil [] = true

@@ -1,4 +1,4 @@
--- The rows that a word's mnemonic has are all that can read it.
+-- Only rows with a text's mnemonic can read the text, so the reader may try these alone.
 use Rattle.std.proofs.Common.{◌≡◌, ◌∙◌, inl, inr, ℕ, zero, suc, ◌-◌, ◌%◌, ◌<◌, ◌≤◌, ◌||◌, ◌==◌, Bool, true, false, not, List, [], ◌∷◌, map, Option, get_or, slice_index_or, refl, sym, ap, subst, true≢false, eqb-true, eq-eqb}
 use Rattle.std.specs.Prelude.{nat_lt, nat_le}
 use Rattle.std.specs.Borrow.{Bor}
@@ -14,7 +14,7 @@ use Rattle.thumb_syntax.specs.Mnemonics.{Group, group_of, groups_at, rows_of, na
 use Rattle.thumb_syntax.proofs.RowRelation.{all_rows}
 use Rattle.thumb_syntax.proofs.Spelled.{lowered_alike, spelled_alike, lowered_place}
 
--- ---- the place of a word
+-- ---- the index of a word
 
 pub same_place : (w n : List ℕ) → map to_ascii_lowercase w ≡ map to_ascii_lowercase n → place_of w ≡ place_of n
 same_place [] [] e = refl
@@ -80,7 +80,7 @@ rows_at_place w gs same all = elim (cases_Bool (is_named w gs)) [
   | inr none ↦ none_found w gs none ∙ sym (none_named w gs rows all none)
 ]
 
--- ---- the table of a part of the places
+-- ---- one part of the table
 
 group_at : (ms : List (Bor (List Mnemonic))) (i : ℕ) → get_or (groups_at ms) i [] ≡ map group_of (slice_index_or ms i (record { ref_ptr = (0, 0); now = [] })).now
 group_at [] i = refl
@@ -119,7 +119,7 @@ all_at ms least end place i from to at e =
     subst (λ (gs : List Group). are_there_at place gs ≡ true) (ap (λ (k : ℕ). get_or (groups_at ms) k []) at ∙ group_at ms i)
     (all_so _ _ (there_then least end place (groups_at ms) (le-leb least place from) (lt-ltb place end to)) rows e)
 
--- ---- what they read
+-- ---- what the rows read
 
 first_named : (w : List ℕ) (os : List Operand) (rs : List Row)
     → first_some (read_as w os) rs ≡ first_some (read_by os) (filter (λ r. is_spelled w r.mnemonic) rs)

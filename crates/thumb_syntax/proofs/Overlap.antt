@@ -25,7 +25,7 @@ use Rattle.thumb_syntax.specs.RowLaws.{rows}
 use Rattle.thumb_syntax.specs.Agreeing.{takes_one}
 use Rattle.thumb_syntax.proofs.Steps.{and_then_some, map_some, kept_some, took, none_left, class, same_class, register_filled, same_filled, sp_filled, mark_filled, least_of, most_of, number_between, is_number, number_put}
 
--- ---- a place that a slot leaves as it is
+-- ---- a field that a slot leaves unchanged
 
 abbrev differs : OperandPosition → OperandPosition → Bool
 differs position.First position.First = false
@@ -74,7 +74,7 @@ all_leave p (s ∷ ss) f os x e h =
 
 -- ---- slots that can't both be filled
 
--- no operand suits both
+-- no operand is accepted by both slots
 abbrev slots_clash : Slot → Slot → Bool
 slots_clash slot.Primask slot.Ipsr = true
 slots_clash slot.Ipsr slot.Primask = true
@@ -111,7 +111,7 @@ not_both slot.Primask slot.Ipsr f g o x y c a b = masks_clash f g o x y a b
 not_both slot.Ipsr slot.Primask f g o x y c a b = masks_clash g f o y x b a
 not_both s t f g o x y c a b = by_class s t f g o x y c a b
 
--- an instruction of the kind has a low register there
+-- an instruction of the kind has a low register in this position
 abbrev is_low_at : Kind → OperandPosition → Bool
 is_low_at kind.StackAddress position.First = true
 is_low_at (kind.Offset x) position.Second = true
@@ -128,7 +128,7 @@ low_there kind.StackAddress position.First f m e h = below_eight f.first (and_pa
 low_there (kind.Offset x) position.Second f m e h = below_eight f.second (and_parts _ _ (and_parts _ _ (when_some _ _ m h).0).1).0
 low_there k p f m e h = absurd (true≢false (sym e))
 
--- a low register on one side, sp on the other
+-- a low register in one form, sp in the other
 abbrev low_and_sp : Kind → Slot → List Slot → Slot → Bool
 low_and_sp k (slot.Register p) ss slot.Sp = is_low_at k p && list_all (leaves p) ss
 low_and_sp k s ss t = false
@@ -146,7 +146,7 @@ never_sp k (slot.Register p) slot.Sp ss f g o os h y x m c a b fill is =
     omega arith
 never_sp k s t ss f g o os h y x m c a b fill is = absurd (true≢false (sym c))
 
--- no operands fill both so that both are instructions
+-- no operands fill both forms such that both are instructions
 abbrev clash : Kind → Kind → List Slot → List Slot → Bool
 clash k l [] [] = false
 clash k l [] (t ∷ ts) = takes_one t
@@ -180,7 +180,7 @@ clash_apart k l (s ∷ ss) (t ∷ ts) f g os x y m n c a b p q =
       ]
     ]
 
--- ---- slots that are filled alike
+-- ---- slots that are filled in the same way
 
 -- `d, d, m` and `d, m, d`
 abbrev is_same_first : List Slot → Bool
@@ -208,7 +208,7 @@ record SameLast (os : List Operand) (x : Fields) : Type 0 where
   is : os ≡ register d ∷ commas.0 ∷ register m ∷ commas.1 ∷ register d ∷ []
   fields : two_fields d m ≡ x
 
--- one more register, mark or end
+-- what a register's slot, a mark's slot, or the end of the slots consumed
 register_took : (p : OperandPosition) (ss : List Slot) (f : Fields) (os : List Operand) (x : Fields) → filled (slot.Register p ∷ ss) f os ≡ Some x → (r : ℕ) × (ps : List Operand) × (os ≡ register r ∷ ps) × (filled ss (put f p r) ps ≡ Some x)
 register_took p ss f os x e =
     let t = took (slot.Register p) ss f os x refl e in
@@ -270,7 +270,7 @@ filled_alike ss ts os x y c d a b =
     let six : two_fields u.d u.m ≡ two_fields v.d v.m = cc in
     cc
 
--- the kinds that are written both ways, by a number
+-- the kinds that are read both as `d, d, m` and as `d, m, d`, each with a number of its own; others have 0
 abbrev turned : Kind → ℕ
 turned (kind.Two operation.And) = 1
 turned (kind.Two operation.Eor) = 2
@@ -342,7 +342,7 @@ both_comparisons a b e h =
 abbrev other_mnemonic : Row → Row → Bool
 other_mnemonic a b = not (bytes_eq (map to_ascii_lowercase a.mnemonic) (map to_ascii_lowercase b.mnemonic))
 
--- two rows never give different instructions
+-- two rows never read operands as different instructions
 abbrev agree : Row → Row → Bool
 agree a b = other_mnemonic a b || (clash a.kind b.kind a.slots b.slots || (are_turned a b || (are_turned b a || (are_comparisons a b || are_comparisons b a))))
 
@@ -435,7 +435,7 @@ agree_in (x ∷ xs) zero (suc k) a b all less p q =
     agree_with a xs k b (subst (λ (y : Row). list_all (agree y) xs ≡ true) s (and_parts (list_all (agree x) xs) (all_agree xs) all).0) q
 agree_in (x ∷ xs) (suc j) (suc k) a b all less p q = agree_in xs j k a b (and_parts (list_all (agree x) xs) (all_agree xs) all).1 (omega arith) p q
 
--- two rows of the table that read one text read it alike
+-- two rows of the table that read one text read it as the same
 pub rows_alike : (w : List ℕ) (os : List Operand) (j k : ℕ) (a b : Row) (s t : Shown) → slice_get rows j ≡ Some a → slice_get rows k ≡ Some b → read_as w os a ≡ Some s → read_as w os b ≡ Some t → s ≡ t
 rows_alike w os j k a b s t p q u v = elim (cases_order j k) [
   | inl e ↦ (

@@ -1,4 +1,4 @@
--- What is read is an instruction with the label that its text names.
+-- What is read is an instruction with the label that its text names: `is_whole` holds of it.
 use Rattle.std.proofs.Common.{◌≡◌, ◌∙◌, inl, inr, ℕ, zero, suc, ◌<◌, ◌^◌, ◌&&◌, ◌==◌, Bool, true, false, List, [], ◌∷◌, map, length, Option, Some, None, refl, sym, ap, subst, arith, true≢false, eq-eqb, eqb-true, lt-ltb}
 use Rattle.std.specs.Prelude.{if◌then◌else◌, nat_lt, slice_get}
 use Rattle.std.specs.List.{list_all}
@@ -200,7 +200,7 @@ label_sum_from p m g os x all e =
 
 -- ---- a form names a label exactly where its kind does
 
--- no label 0, a label 1, a label with a number added 2
+-- 0: no label; 1: a label; 2: a label with an added number
 abbrev label_of : Kind → ℕ
 label_of kind.Literal = 2
 label_of kind.Address = 2
@@ -251,9 +251,9 @@ few_labels : (k : Kind) → label_of k < 3
 few_labels kind.Literal = omega arith
 few_labels k = omega arith
 
--- ---- an instruction has no distance where it names a label
+-- ---- an instruction that names a label has distance 0
 
--- what stands in a label's place
+-- the distance field of an instruction that names a label
 abbrev distance : ℕ → ℕ → ℕ → ℕ
 distance zero a b = 0
 distance (suc zero) a b = a

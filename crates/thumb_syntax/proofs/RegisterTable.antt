@@ -1,4 +1,4 @@
--- A register is found among those at the place of its second byte.
+-- Searching only the registers with a word's second byte finds what a search of all registers finds.
 use Rattle.std.proofs.Common.{◌≡◌, ◌∙◌, inl, inr, ℕ, zero, suc, ◌%◌, ◌<◌, ◌==◌, true, List, [], ◌∷◌, map, Option, ◌+◌, get_or, slice_index_or, arith, refl, sym, ap, eq-eqb}
 use Rattle.std.specs.Borrow.{Bor}
 use Rattle.std.specs.List.{filter}

@@ -1,4 +1,4 @@
--- What is written is read as what was written.
+-- The canonical text of an instruction is read as that instruction.
 use Rattle.std.proofs.Common.{◌≡◌, ◌∙◌, ℕ, zero, suc, ◌++◌, Bool, true, false, List, [], ◌∷◌, map, Option, Some, refl, sym, ap, subst, true≢false}
 use Rattle.std.specs.Prelude.{option_map, option_and_then, slice_get}
 use Rattle.std.specs.List.{list_all}

@@ -1,4 +1,4 @@
--- Reading by the first form is reading by some form.
+-- Reading by the first form that reads a text is the same as reading by any form that does.
 use Rattle.std.proofs.Common.{◌≡◌, ◌∙◌, ◌⊎◌, inl, inr, ℕ, zero, suc, List, [], ◌∷◌, ◌++◌, map, Option, Some, None, refl, sym, ap}
 use Rattle.std.specs.Prelude.{slice_get}
 use Rattle.ascii_scan.specs.Tokens.{Token, word, mark, tokens}
@@ -11,7 +11,7 @@ pub some_or_none : {B : Type 0} → (o : Option B) → (o ≡ None) ⊎ ((y : B)
 some_or_none None = inl refl
 some_or_none (Some y) = inr (y, refl)
 
--- the first answer is that of some member
+-- the first result is that of some member
 first_from : {A B : Type 0} → (f : A → Option B) (xs : List A) (y : B) → first_some f xs ≡ Some y → (k : ℕ) × (x : A) × (slice_get xs k ≡ Some x) × (f x ≡ Some y)
 first_from f [] y e = absurd (cc)
 first_from f (x ∷ xs) y e = elim (some_or_none (f x)) [
@@ -19,7 +19,7 @@ first_from f (x ∷ xs) y e = elim (some_or_none (f x)) [
   | inr some ↦ (zero, x, refl, some.1 ∙ (rw some.1 at e))
 ]
 
--- where a member answers there is a first answer
+-- where some member has a result, there is a first result
 first_any : {A B : Type 0} → (f : A → Option B) (xs : List A) (k : ℕ) (x : A) (y : B) → slice_get xs k ≡ Some x → f x ≡ Some y → (z : B) × (first_some f xs ≡ Some z)
 first_any f [] k x y p q = absurd (cc)
 first_any f (a ∷ as') zero x y p q = let s : a ≡ x = cc in (y, rw (ap f s ∙ q) refl)

@@ -1,4 +1,4 @@
--- Slots that were written are filled by what was written.
+-- The text that is written for slots is read by these slots as the fields that were written.
 use Rattle.std.proofs.Common.{◌≡◌, ◌∙◌, inl, inr, ℕ, ◌*◌, ◌/◌, ◌%◌, ◌<◌, ◌^◌, ◌++◌, ◌&&◌, ◌||◌, ◌==◌, Bool, true, false, not, List, [], ◌∷◌, map, Option, Some, None, refl, sym, ap, arith, true≢false, eqb-true, eq-eqb}
 use Rattle.std.specs.Prelude.{nat_lt, nat_le, codes, option_map, option_and_then}
 use Rattle.std.proofs.Math.Nat.{mul-mod_left}
@@ -20,7 +20,7 @@ use Rattle.thumb_syntax.proofs.ListText.{low_list_read, lr_list_read, pc_list_re
 abbrev labelled : Fields → Option (List ℕ × ℕ) → Fields
 labelled g l = record { first = g.first; second = g.second; third = g.third; label = l }
 
--- what a slot adds of the fields f to those before
+-- the fields g, after the slot has stored what the fields f have for it
 abbrev pub stored_by : Slot → Fields → Fields → Fields
 stored_by (slot.Register p) g f = put g p (at f p)
 stored_by (slot.Base p) g f = put g p (at f p)
@@ -38,7 +38,7 @@ stored (s ∷ ss) g f = stored ss (stored_by s g f) f
 abbrev pub number_fits : ℕ → ℕ → ℕ → ℕ → Bool
 number_fits least most step v = nat_lt 0 step && (nat_le least (v * step) && (nat_le (v * step) most && nat_lt (v * step) (2 ^ 32)))
 
--- the text of the fields f in the slot is read as these
+-- the text that the slot writes for the fields f is read as these
 abbrev pub slot_fits : Slot → Fields → Fields → Bool
 slot_fits (slot.Register p) g f = nat_lt (at f p) 16
 slot_fits (slot.Twice p q) g f = false
@@ -55,7 +55,7 @@ slot_fits (slot.InList p q) g f = is_in_list (at g p) (at g q)
 slot_fits (slot.NotInList p q) g f = not (is_in_list (at g p) (at g q))
 slot_fits s g f = true
 
--- slots without a text
+-- slots without text
 abbrev is_silent : List Slot → Bool
 is_silent [] = true
 is_silent (slot.InList p q ∷ []) = true
@@ -95,7 +95,7 @@ follows s ss = is_marked ss
 
 -- ---- one slot
 
--- what a slot takes of a text
+-- what a slot consumes of a text
 abbrev from_text : Slot → Fields → List ℕ → Option (Fields × List Operand)
 from_text s g bs = taken s g (map operand (tokens bs))
 
@@ -204,7 +204,7 @@ label_sum_from g (Some l) bs e ends =
     ap (taken slot.LabelSum g) (word_read (sum_text l.0 l.1) bs (sum_operand l.0 l.1) (label_sum_read l.0 l.1 parts.0 (ltb-true l.1 (2 ^ 32) parts.1)) ends)
     ∙ sum_taken g l.0 l.1 (map operand (tokens bs))
 
--- a list's text is the last
+-- the text of a list comes last
 at_end : (w bs : List ℕ) → bs ≡ [] → w ++ bs ≡ w
 at_end w bs e = ap (λ (x : List ℕ). w ++ x) e ∙ append-nil w
 

@@ -1,4 +1,4 @@
--- Words that are equal, ignoring the case of letters.
+-- Words that are equal except for the case of letters.
 use Rattle.std.proofs.Common.{◌≡◌, inl, inr, ℕ, ◌%◌, true, List, map, refl, ap, arith}
 use Rattle.std.specs.Prelude.{nat_lt}
 use Rattle.std.specs.Str.{bytes_eq}

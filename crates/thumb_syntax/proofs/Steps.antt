@@ -1,4 +1,4 @@
--- From slots that were filled back to the operands that they took.
+-- Which operands slots consumed, if they were filled.
 use Rattle.std.proofs.Common.{◌≡◌, ◌∙◌, inl, inr, ℕ, ◌+◌, ◌/◌, ◌%◌, ◌≤◌, ◌||◌, ◌==◌, Bool, true, false, not, List, [], ◌∷◌, Option, Some, None, refl, sym, ap, arith, true≢false, eqb-true}
 use Rattle.std.specs.Prelude.{nat_lt, option_and_then, option_map}
 use Rattle.std.proofs.lemmas.Bool.{cases_Bool, or_parts, ltb-false}
@@ -28,7 +28,7 @@ taken_next (slot.InList p q) f os e = absurd (true≢false (sym e))
 taken_next (slot.NotInList p q) f os e = absurd (true≢false (sym e))
 taken_next s f os e = refl
 
--- the operand that a slot took, and the fields after it
+-- the operand that a slot consumed, and the fields after it
 pub record Took (s : Slot) (ss : List Slot) (f : Fields) (os : List Operand) (x : Fields) : Type 0 where
   pub operand : Operand
   pub after : List Operand
@@ -53,9 +53,9 @@ pub none_left : (f : Fields) (os : List Operand) (x : Fields) → filled [] f os
 none_left f [] x e = (refl, cc)
 none_left f (o ∷ os) x e = absurd (cc)
 
--- ---- what one operand is, by the slot that took it
+-- ---- the sort of an operand, by the slot that consumed it
 
--- a register 0, a register with `!` 1, a number 2, a name 3, and a mark by its byte
+-- 0: a register; 1: a register with `!`; 2: a number; 3: a name; a mark has its byte
 abbrev pub class : Slot → ℕ
 class (slot.Register p) = 0
 class (slot.Twice p q) = 0
@@ -118,7 +118,7 @@ number_kept f p least most step n g e = elim (cases_Bool (step == 0 || (nat_lt n
       (ltb-false n least low.0, ltb-false most n high.0, cc))
 ]
 
--- the numbers that a slot takes
+-- the numbers that a slot accepts
 abbrev pub least_of : Slot → ℕ
 least_of (slot.Number p least most step) = least
 least_of (slot.Exactly n) = n

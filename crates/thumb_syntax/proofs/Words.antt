@@ -1,4 +1,4 @@
--- Words that were written, and the operands that they are read as.
+-- The words that are written are read as the operands that they were written for.
 use Rattle.std.proofs.Common.{◌≡◌, ◌∙◌, inl, inr, ℕ, zero, suc, ◌<◌, ◌≤◌, ◌^◌, ◌++◌, ◌&&◌, ◌||◌, ◌==◌, Bool, true, false, not, List, [], ◌∷◌, map, length, None, refl, sym, ap, subst, arith, true≢false, eqb-true}
 use Rattle.std.specs.Prelude.{if◌then◌else◌, nat_le, codes}
 use Rattle.std.specs.List.{list_all, list_any}
@@ -17,7 +17,7 @@ use Rattle.ascii_scan.proofs.NumeralLemmas.{numeral_decimal}
 use Rattle.thumb_syntax.specs.Operands.{register_named, register_in, registers, Operand, register, base, number, name, sum, operand, or_stray, sum_of, is_plain, is_name}
 use Rattle.thumb_syntax.specs.Spelling.{register_text, number_text, sum_text}
 
--- a text is one word, which is read as the operand
+-- a text is one word, which is read as this operand
 pub record IsRead (w : List ℕ) (o : Operand) : Type 0 where
   pub first : ℕ
   pub after : List ℕ
@@ -187,7 +187,7 @@ name_of (b ∷ bs) e = elim (cases_Bool (is_opening b && not (is_register (front
   | inr no' ↦ absurd (let out : false ≡ true = rw no' at e in true≢false (sym out))
 ]
 
--- a word that is none of the names is spelled as none
+-- a word that is different from each of the names is spelled like none of them
 spelled_none : (w n : List ℕ) (ns : List (List ℕ)) → list_any (bytes_eq n) ns ≡ true → list_any (is_spelled w) ns ≡ false → is_spelled w n ≡ false
 spelled_none w n [] a b = absurd (true≢false (sym a))
 spelled_none w n (x ∷ xs) a b =

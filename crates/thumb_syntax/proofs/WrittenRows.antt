@@ -1,4 +1,4 @@
--- Each instruction with its label is written in the slots of one of the forms, and filled by what was written.
+-- For each instruction with its label: the form in which it is written, whose slots read its text back.
 use Rattle.std.proofs.Common.{◌≡◌, ◌∙◌, inl, inr, ℕ, ◌*◌, ◌<◌, ◌≤◌, ◌^◌, ◌&&◌, ◌||◌, ◌==◌, true, List, [], ◌∷◌, Option, Some, None, refl, sym, ap, subst, arith, true≢false, eqb-true, eq-eqb, lt-ltb}
 use Rattle.std.specs.Prelude.{nat_lt, nat_le, slice_get, if◌then◌else◌}
 use Rattle.std.proofs.lemmas.Bool.{cases_Bool, and_parts, and_from, le-leb, le-ltb, agree_below, agree_below_at}
@@ -23,11 +23,11 @@ fields a b c l = record { first = a; second = b; third = c; label = l }
 abbrev pub row_at : List ℕ → List Slot → Kind → Row
 row_at m ss k = record { mnemonic = m; slots = ss; kind = k }
 
--- a form is at this place of the table
+-- a form is at this index of the table
 abbrev pub Stands : ℕ → Kind → List Slot → Type 0
 Stands n k ss = slice_get rows n ≡ Some (row_at (mnemonic k) ss k)
 
--- the text of an instruction and its label in the slots of a form
+-- the text of an instruction and its label as the slots of a form write it
 pub record Written (m : Parts) (l : Option (List ℕ × ℕ)) : Type 0 where
   pub place : ℕ
   pub slots : List Slot
@@ -86,7 +86,7 @@ three_row k n a b c l there slots' p q r none = plain_row (of k a b c) l n three
 pub indexed_row : (k : Kind) (n a b c : ℕ) (l : Option (List ℕ × ℕ)) → Stands n k indexed → canonical k a b c ≡ indexed → a < 8 → b < 8 → c < 8 → is_unlabelled l ≡ true → Written (of k a b c) l
 indexed_row k n a b c l there slots' p q r none = plain_row (of k a b c) l n indexed there slots' (rw (low16 a p, low16 b q, low16 c r) refl) refl none
 
--- the numbers below an end fit their slot
+-- the numbers below an end fit the slot of that range
 abbrev all_fit : ℕ → ℕ → ℕ → ℕ → Type 0
 all_fit least most step end = agree_below (λ v. nat_lt v least || number_fits least most step v) (λ v. true) end ≡ true
 
@@ -131,7 +131,7 @@ label_row k n l there slots' e = record {
   back = refl;
 }
 
--- with a distance of 0 in a label's place
+-- kinds with a label have distance 0
 pub jump_row : (k : Kind) (n i : ℕ) (l : Option (List ℕ × ℕ)) → Stands n k label → canonical k 0 0 0 ≡ label → ((i == 0) && is_label l) ≡ true → Written (of k i 0 0) l
 jump_row k n i l there slots' e =
     let parts = and_parts (i == 0) (is_label l) e in
@@ -184,7 +184,7 @@ load_row k n m a b l apart within' slots' p q r none =
       | inr e ↦ plain_row (of k a b 0) l n load_apart apart (slots' ∙ rw e refl) (rw (e, lt-ltb a 8 p, lt-ltb 0 b q, lt-ltb b 256 r) refl) refl none
     ]
 
--- slots without a register or number
+-- forms whose slots hold no register or number
 pub fixed_row : (k : Kind) (n : ℕ) (ss : List Slot) (l : Option (List ℕ × ℕ)) → Stands n k ss → canonical k 0 0 0 ≡ ss → slots_fit ss empty (fields 0 0 0 l) ≡ true → stored ss empty (fields 0 0 0 l) ≡ empty
     → is_unlabelled l ≡ true → Written (of k 0 0 0) l
 fixed_row k n ss l there slots' fit back none = plain_row (of k 0 0 0) l n ss there slots' fit back none

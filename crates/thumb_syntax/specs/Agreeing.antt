@@ -1,10 +1,10 @@
--- A quick test of forms, by what each operand stands for alone: operands that fail it don't fill the slots, so most forms needn't be tried.
+-- Which slots may accept which operands, judged by the operands' sorts alone. Where one doesn't, the operands don't fill the slots.
 use Rattle.std.specs.Prelude.{ℕ, ◌==◌, ◌&&◌, ◌||◌, not, Bool, true, false, List, [], ◌∷◌}
 use Rattle.thumb_syntax.specs.declared.form.Slot.{Slot}
 use Rattle.thumb_syntax.specs.declared.form.Slot.TheVariants as slot
 use Rattle.thumb_syntax.specs.Operands.{Operand, register, base, number, sign}
 
--- a slot that takes one operand
+-- a slot that consumes exactly one operand
 abbrev pub takes_one : Slot → Bool
 takes_one (slot.LowList p) = false
 takes_one (slot.StackList p extra) = false
@@ -28,7 +28,7 @@ abbrev pub is_mark : ℕ → Operand → Bool
 is_mark m (sign s) = m == s
 is_mark m o = false
 
--- a slot that takes a name or an option passes every operand
+-- a slot for a name, like one for a list, accepts every operand here
 abbrev pub agrees : Slot → Operand → Bool
 agrees (slot.Register p) o = is_register o
 agrees (slot.Twice p q) o = is_register o
@@ -40,7 +40,7 @@ agrees (slot.Exactly m) o = is_number o
 agrees (slot.Mark m) o = is_mark m o
 agrees s o = true
 
--- tests the operands before the first slot that takes a list or none; where the operands at hand end, more may follow
+-- compares operands with slots up to the first slot that takes a list, or to the end of the operands, which may be only the first few
 abbrev pub agree : List Slot → List Operand → Bool
 agree [] [] = true
 agree [] (o ∷ os) = false

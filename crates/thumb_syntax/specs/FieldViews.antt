@@ -1,4 +1,4 @@
--- Fields and forms as the definitions have them: lists in place of borrowed slices.
+-- The values of fields and forms without the borrows that hold them, so that contracts can speak of them.
 use Rattle.std.specs.Prelude.{ℕ, List, option_map, map}
 use Rattle.thumb_syntax.specs.declared.fields.Label.{Label}
 use Rattle.thumb_syntax.specs.declared.fields.Fields.{Fields as Slices}
@@ -12,6 +12,6 @@ label_of l = (l.name.now, l.added)
 abbrev pub fields_view : Slices → Fields
 fields_view f = record { first = f.first; second = f.second; third = f.third; label = option_map label_of f.label }
 
--- the forms as lists, in place of borrowed slices
+-- the forms without their borrows
 abbrev pub forms_at : List (Bor (List Slot)) → List (List Slot)
 forms_at fs = map (λ (ss : Bor (List Slot)). ss.now) fs

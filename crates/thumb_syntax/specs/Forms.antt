@@ -1,4 +1,4 @@
--- The one table of texts: each kind of instruction with its mnemonic, and what may follow it.
+-- The one table of texts: the mnemonic of each kind of instruction, and the forms that may follow it.
 use Rattle.std.specs.Prelude.{ℕ, List, [], ◌∷◌, codes}
 use Rattle.thumb_instr.specs.declared.operation.SumOperation.TheVariants as sum
 use Rattle.thumb_instr.specs.declared.operation.Right.TheVariants as right
@@ -28,7 +28,7 @@ pub record Spelling : Type 0 where
 abbrev pub spelled : List ℕ → List (List Slot) → Spelling
 spelled m fs = record { mnemonic = m; forms = fs }
 
--- of each kind the first form is written, or the second (`is_second`)
+-- the first form of each kind is the one that is written, or the second where `is_second` says so
 abbrev pub spelling : Kind → Spelling
 spelling kind.Movs = spelled (codes "movs") (two ∷ [])
 spelling kind.ShiftLeft = spelled (codes "lsls") (amount 1 31 ∷ twice_amount 1 31 ∷ [])

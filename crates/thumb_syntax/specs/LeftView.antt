@@ -1,4 +1,4 @@
--- The operands that are still to be read as one list, whether read ahead or not.
+-- The operands that are still to be read as one list: those scanned in advance, and those of the remaining bytes.
 use Rattle.std.specs.Prelude.{List, ◌++◌, map}
 use Rattle.ascii_scan.specs.Tokens.{tokens}
 use Rattle.thumb_syntax.specs.declared.left.Left.{Left}

@@ -1,4 +1,4 @@
--- The mnemonics with their forms, and what operands are by a form whose mnemonic is known.
+-- The table grouped by mnemonic, as the reader searches it: the forms of a word's mnemonic, and the instruction that operands are by one of them.
 use Rattle.std.specs.Prelude.{ℕ, ◌%◌, ◌-◌, ◌==◌, ◌&&◌, ◌||◌, not, nat_le, nat_lt, Bool, List, [], ◌∷◌, Option, map, get_or, if◌then◌else◌, option_and_then}
 use Rattle.std.specs.List.{filter, list_all, list_any}
 use Rattle.std.specs.Borrow.{Bor}
@@ -26,14 +26,14 @@ groups_at places = map (λ (ms : Bor (List Mnemonic)). map group_of ms.now) plac
 abbrev pub forms_of : Group → List Row
 forms_of g = g.forms
 
--- the rows whose mnemonic the word spells, in order
+-- the rows whose mnemonic equals the word, in order
 abbrev pub rows_of : List ℕ → List Row
 rows_of w = filter (λ r. is_spelled w r.mnemonic) rows
 
 abbrev pub named_forms : Group → List Row
 named_forms g = rows_of g.name
 
--- the place of a word's first letter, the same in either case
+-- the index of a word in the table of mnemonics, by its first letter, the same in either case
 abbrev pub place_of : List ℕ → ℕ
 place_of [] = 0
 place_of (b ∷ bs) = b % 32
@@ -41,23 +41,23 @@ place_of (b ∷ bs) = b % 32
 abbrev pub is_named : List ℕ → List Group → Bool
 is_named w gs = list_any (λ g. is_spelled w g.name) gs
 
--- each row whose first letter is at the place has its mnemonic among these
+-- each row whose first letter has this index has its mnemonic among these groups
 abbrev pub are_there_at : ℕ → List Group → Bool
 are_there_at place gs = list_all (λ r. not (place_of r.mnemonic == place) || is_named r.mnemonic gs) rows
 
 abbrev pub is_between : ℕ → ℕ → ℕ → Bool
 is_between least end n = nat_le least n && nat_lt n end
 
--- each row whose first letter is at a place from the least on and before the end has its mnemonic there
+-- so it is for each index from the least to below the end
 abbrev pub are_there : ℕ → ℕ → List (List Group) → Bool
 are_there least end places =
     list_all (λ r. not (is_between least end (place_of r.mnemonic)) || is_named r.mnemonic (get_or places (place_of r.mnemonic - least) [])) rows
 
--- the forms of the first mnemonic that the word spells
+-- the forms of the first mnemonic that equals the word
 abbrev pub rows_in : List Group → List ℕ → List Row
 rows_in [] w = []
 rows_in (g ∷ gs) w = if is_spelled w g.name then g.forms else rows_in gs w
 
--- what operands are read as by a form
+-- the instruction that operands are by a form
 abbrev pub read_by : List Operand → Row → Option Shown
 read_by os r = option_and_then (shown_by r.kind) (filled r.slots empty os)

@@ -1,4 +1,4 @@
--- What may follow a mnemonic: the forms of instructions' operands, as lists of slots.
+-- The forms that may follow a mnemonic, as lists of slots, with names for those that several kinds share.
 use Rattle.std.specs.Prelude.{ℕ, List, [], ◌∷◌}
 use Rattle.thumb_syntax.specs.declared.form.OperandPosition.TheVariants as position
 use Rattle.thumb_syntax.specs.declared.form.Slot.{Slot}
@@ -13,7 +13,7 @@ second = slot.Register position.Second
 abbrev pub third : Slot
 third = slot.Register position.Third
 
--- one register for the first two
+-- one register that is both the first and the second
 abbrev pub twice : Slot
 twice = slot.Twice position.First position.Second
 
@@ -30,7 +30,7 @@ open' = slot.Mark 91
 abbrev pub close : Slot
 close = slot.Mark 93
 
--- what may follow a mnemonic
+-- the forms
 abbrev pub one : List Slot
 one = first ∷ []
 

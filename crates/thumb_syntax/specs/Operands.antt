@@ -1,4 +1,4 @@
--- What the words and marks of an instruction's operands stand for, and the names of registers.
+-- What the words and marks of an instruction's operands are, and the names of registers.
 use Rattle.std.specs.Prelude.{ℕ, List, [], ◌∷◌, Option, Some, None, codes, if◌then◌else◌, ◌==◌, ◌||◌, not, Bool, false, length}
 use Rattle.ascii_scan.specs.Names.{is_spelled, name_length}
 use Rattle.ascii_scan.specs.Tokens.{Token, word, mark, front, rest}
@@ -15,7 +15,7 @@ abbrev pub or_else : {B : Type 0} → Option B → Option B → Option B
 or_else None next = next
 or_else (Some x) next = Some x
 
--- the first result of `f` along the list that isn't None
+-- the first result that is there
 abbrev pub first_some : {A B : Type 0} → (A → Option B) → List A → Option B
 first_some f [] = None
 first_some f (x ∷ xs) = or_else (f x) (first_some f xs)
@@ -26,7 +26,7 @@ number_if w r = if is_spelled w r.0 then Some r.1 else None
 abbrev pub register_in : List (List ℕ × ℕ) → List ℕ → Option ℕ
 register_in rs w = first_some (number_if w) rs
 
--- the register of this name, in either case
+-- the register with this name, in either case
 unfoldable pub register_named : List ℕ → Option ℕ
 register_named w = register_in registers w
 
@@ -51,7 +51,7 @@ abbrev pub range_to : ℕ → Option ℕ → Operand
 range_to a None = stray
 range_to a (Some b) = range a b
 
--- what a register's name stands for together with the bytes after it
+-- what a word is that begins with a register's name, by the bytes after the name
 abbrev pub after_register : ℕ → List ℕ → Operand
 after_register a [] = register a
 after_register a (b ∷ []) = if b == 33 then base a else stray
@@ -78,7 +78,7 @@ abbrev pub is_some_of : Option ℕ → ℕ → Bool
 is_some_of None n = false
 is_some_of (Some m) n = m == n
 
--- all its bytes are a name
+-- whether all the bytes are one name
 abbrev pub is_name : List ℕ → Bool
 is_name w = is_some_of (name_length w) (length w)
 

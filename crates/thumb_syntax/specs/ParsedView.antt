@@ -1,4 +1,4 @@
--- What was read as the definitions have it: the label as a list of bytes, in place of a borrowed slice.
+-- The value of an instruction that was read, without the borrow of its label.
 use Rattle.std.specs.Prelude.{option_map}
 use Rattle.thumb_syntax.specs.declared.reading.Parsed.{Parsed}
 use Rattle.thumb_syntax.specs.FieldViews.{label_of}

@@ -1,4 +1,4 @@
--- The registers by the second byte of their names.
+-- The registers grouped by the second byte of their names, as the reader looks them up.
 use Rattle.std.specs.Prelude.{ℕ, ◌%◌, ◌==◌, List, [], ◌∷◌, map}
 use Rattle.std.specs.List.{filter, range_with_len}
 use Rattle.std.specs.Borrow.{Bor}
@@ -6,7 +6,7 @@ use Rattle.thumb_syntax.specs.declared.registers.Register.{Register}
 use Rattle.thumb_syntax.specs.Operands.{registers}
 use Rattle.thumb_syntax.specs.RegisterView.{named}
 
--- the place of a word's second byte, the same in either case
+-- the index of a word in the table of registers: its second byte modulo 32, the same in either case
 abbrev pub second_place : List ℕ → ℕ
 second_place [] = 0
 second_place (a ∷ []) = 0

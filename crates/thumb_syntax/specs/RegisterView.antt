@@ -1,4 +1,4 @@
--- A register's name and number.
+-- A register's name and number without the borrow of the name.
 use Rattle.std.specs.Prelude.{ℕ, List}
 use Rattle.thumb_syntax.specs.declared.registers.Register.{Register}
 

@@ -1,4 +1,4 @@
--- The forms as a relation between texts and what they are read as: their order doesn't matter.
+-- The forms as a relation between texts and what they are read as, in which their order doesn't matter.
 use Rattle.std.specs.Prelude.{◌≡◌, ◌↔◌, ℕ, List, [], ◌∷◌, ◌++◌, map, Option, Some, None, slice_get}
 use Rattle.ascii_scan.specs.Tokens.{Token, word as text, mark, tokens}
 use Rattle.thumb_syntax.specs.Operands.{operand}
@@ -14,14 +14,14 @@ by_row r [] = None
 by_row r (text w ∷ ts) = read_as w (map operand ts) r
 by_row r (mark m ∷ ts) = None
 
--- some form reads the text so
+-- some form reads the text as this
 pub record Reads (bytes : List ℕ) (s : Shown) : Type 0 where
   pub place : ℕ
   pub row : Row
   pub is_there : slice_get rows place ≡ Some row
   pub reads : by_row row (tokens bytes) ≡ Some s
 
--- a text is an instruction exactly where some form reads it so
+-- a text is read as an instruction exactly where some form reads it as that
 abbrev pub ReadsBySomeRow : Type 0
 ReadsBySomeRow = (bytes : List ℕ) (s : Shown) → (reading bytes ≡ Some s) ↔ Reads bytes s
 

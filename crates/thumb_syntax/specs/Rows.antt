@@ -1,4 +1,4 @@
--- The forms of instructions' texts, and what a text is by them. Their order doesn't matter for which texts are read.
+-- The list of all forms, and what a text is read as by them.
 use Rattle.std.specs.Prelude.{ℕ, List, [], ◌∷◌, ◌++◌, Option, None, codes, map, flat_map, if◌then◌else◌, option_map, option_and_then}
 use Rattle.thumb_instr.specs.declared.operation.SumOperation.TheVariants as sum
 use Rattle.thumb_instr.specs.declared.operation.Right.TheVariants as right
@@ -36,11 +36,11 @@ pub record Row : Type 0 where
 abbrev row : List ℕ → List Slot → Kind → Row
 row m ss k = record { mnemonic = m; slots = ss; kind = k }
 
--- a mnemonic with some forms of a kind
+-- one row for each of these forms of a kind, with this mnemonic
 abbrev pub rows_as : List ℕ → List (List Slot) → Kind → List Row
 rows_as m forms k = map (λ ss. row m ss k) forms
 
--- each kind's own mnemonic with its forms
+-- the rows of each kind with the mnemonic that it is written with
 abbrev pub own_rows : List Kind → List Row
 own_rows ks = flat_map (λ k. rows_as (mnemonic k) (forms k) k) ks
 
@@ -56,7 +56,7 @@ data_kinds =
     ∷ kind.Extend extension.Sxtb ∷ kind.Extend extension.Uxth ∷ kind.Extend extension.Uxtb ∷ kind.Reverse reversal.Rev
     ∷ kind.Reverse reversal.Rev16 ∷ kind.Reverse reversal.Revsh ∷ []
 
--- their texts, and other spellings that are read
+-- their rows, with other spellings that are read
 unfoldable pub data_rows : List Row
 data_rows =
     own_rows data_kinds
@@ -72,14 +72,14 @@ memory_kinds =
     ∷ kind.Stack word.Str ∷ kind.Stack word.Ldr ∷ kind.StackAddress ∷ kind.StackMove sum.Add ∷ kind.StackMove sum.Sub ∷ kind.Push ∷ kind.Pop
     ∷ kind.StoreMany ∷ kind.LoadMany ∷ []
 
--- their texts, and other spellings that are read
+-- their rows, with other spellings that are read
 unfoldable pub memory_rows : List Row
 memory_rows =
     own_rows memory_kinds
     ++ (rows_as (codes "stmia") (forms kind.StoreMany) kind.StoreMany
     ++ rows_as (codes "ldmia") (forms kind.LoadMany) kind.LoadMany)
 
--- branches, hints and what speaks to the system
+-- branches, hints and instructions for the system
 abbrev pub control_kinds : List Kind
 control_kinds =
     kind.Bx ∷ kind.Blx ∷ kind.Breakpoint ∷ kind.Service ∷ kind.Hint hint.Nop ∷ kind.Hint hint.Yield ∷ kind.Hint hint.Wfe ∷ kind.Hint hint.Wfi
@@ -90,14 +90,14 @@ control_kinds =
     ∷ kind.BranchIf condition.Le ∷ kind.Branch ∷ kind.Call ∷ kind.Barrier barrier.Dsb ∷ kind.Barrier barrier.Dmb ∷ kind.Barrier barrier.Isb
     ∷ kind.ReadSpecial special.Primask ∷ kind.ReadSpecial special.Ipsr ∷ kind.WriteMask ∷ []
 
--- their texts, and other spellings that are read
+-- their rows, with other spellings that are read
 unfoldable pub control_rows : List Row
 control_rows =
     own_rows control_kinds
     ++ (rows_as (codes "bhs") (forms (kind.BranchIf condition.Cs)) (kind.BranchIf condition.Cs)
     ++ rows_as (codes "blo") (forms (kind.BranchIf condition.Cc)) (kind.BranchIf condition.Cc))
 
--- an instruction and its label, with what is added
+-- an instruction and its label, with the number added to it
 pub record Shown : Type 0 where
   pub made : Parts
   pub label : Option (List ℕ × ℕ)
@@ -118,7 +118,7 @@ read_as w os r = if is_spelled w r.mnemonic then option_and_then (shown_by r.kin
 abbrev pub read_in : List Row → List ℕ → List Operand → Option Shown
 read_in rs w os = first_some (read_as w os) rs
 
--- what they are read as by some form
+-- what they are read as by the first form that reads them
 abbrev pub read_all : List ℕ → List Operand → Option Shown
 read_all w os = or_else (read_in data_rows w os) (or_else (read_in memory_rows w os) (read_in control_rows w os))
 

@@ -1,4 +1,4 @@
--- What the slots of a form take, and what they hold then. A list of registers is a set of bits: 0 to 7 for r0 to r7, and 8 for lr or pc where allowed.
+-- What a form's slots accept and store. A register list is a number: bit n is register n, r0 to r7, and bit 8 is lr or pc where the list may have it.
 use Rattle.std.specs.Prelude.{ℕ, ◌+◌, ◌-◌, ◌^◌, ◌==◌, ◌&&◌, Bool, false, List, [], ◌∷◌, Option, Some, None, if◌then◌else◌, nat_lt, option_and_then, bit_and, bit_or, ◌/◌, ◌%◌, ◌||◌, not, codes, option_map}
 use Rattle.thumb_syntax.specs.Operands.{Operand, register, range, sign, is_some_of, base, number, name, sum}
 use Rattle.std.specs.Str.{bytes_eq}
@@ -14,34 +14,34 @@ abbrev pub is_sign : ℕ → Operand → Bool
 is_sign m (sign s) = m == s
 is_sign m _ = false
 
--- the bits of a register, and of a range, which goes from a lower to a higher register
+-- the bits of a register, or of a range, which goes from a lower to a higher register
 abbrev pub bits_of : Option ℕ → Operand → Option ℕ
 bits_of extra (register r) = if nat_lt r 8 then Some (2 ^ r) else if is_some_of extra r then Some 256 else None
 bits_of extra (range a b) = if nat_lt a b && nat_lt b 8 then Some (2 ^ (b + 1) - 2 ^ a) else None
 bits_of extra _ = None
 
--- the list with more bits; None where it has some of them already
+-- the list with more bits, where it has none of them yet
 abbrev pub joined : ℕ → ℕ → Option ℕ
 joined list bits = if bit_and list bits == 0 then Some (bit_or list bits) else None
 
 abbrev pub added : Option ℕ → ℕ → Operand → Option ℕ
 added extra list o = option_and_then (joined list) (bits_of extra o)
 
--- a list, from after its opening brace or a comma on, and what follows its closing brace
+-- a list, from after its opening brace or a comma on, and the operands after its closing brace
 abbrev pub items : Option ℕ → ℕ → List Operand → Option (ℕ × List Operand)
 items extra list [] = None
 items extra list (o ∷ []) = None
 items extra list (o ∷ s ∷ os) =
     option_and_then (λ more. if is_sign 44 s then items extra more os else if is_sign 125 s then Some (more, os) else None) (added extra list o)
 
--- a list in braces, and what follows it
+-- a list in braces, and the operands after it
 abbrev pub listed : Option ℕ → List Operand → Option (ℕ × List Operand)
 listed extra [] = None
 listed extra (o ∷ os) = if is_sign 123 o then items extra 0 os else None
 
 -- ---- slots ----
 
--- the registers and numbers of an instruction in the order of its canonical text, and its label with what is added
+-- the registers and numbers of an instruction in the order of its canonical text, and its label with the number added to it
 pub record Fields : Type 0 where
   pub first : ℕ
   pub second : ℕ
@@ -70,12 +70,12 @@ is_in_list r list = nat_lt r 8 && list / 2 ^ r % 2 == 1
 abbrev pub kept_if : Bool → Fields → Option Fields
 kept_if b f = if b then Some f else None
 
--- a number from the least to the most, a multiple of the step, in units of it
+-- a number from the least to the most, a multiple of the step, is stored in units of the step
 abbrev pub number_filled : Fields → OperandPosition → ℕ → ℕ → ℕ → ℕ → Option Fields
 number_filled f p least most step n =
     if step == 0 || (nat_lt n least || (nat_lt most n || not (n % step == 0))) then None else Some (put f p (n / step))
 
--- the fields after an operand that the slot takes
+-- the fields after an operand, where the slot accepts it
 abbrev pub filled_by : Slot → Fields → Operand → Option Fields
 filled_by (slot.Register p) f (register r) = Some (put f p r)
 filled_by (slot.Twice p q) f (register r) = Some (put (put f p r) q r)
@@ -101,7 +101,7 @@ abbrev pub next_filled : Slot → Fields → List Operand → Option (Fields × 
 next_filled s f [] = None
 next_filled s f (o ∷ os) = option_map (λ g. (g, os)) (filled_by s f o)
 
--- the fields after what the slot takes, and the operands after it
+-- the fields after the operands that the slot consumes, and the operands after those
 abbrev pub taken : Slot → Fields → List Operand → Option (Fields × List Operand)
 taken (slot.LowList p) f os = list_filled f p (listed None os)
 taken (slot.StackList p extra) f os = list_filled f p (listed (Some extra) os)
@@ -113,7 +113,7 @@ abbrev pub ended : Fields → List Operand → Option Fields
 ended f [] = Some f
 ended f (o ∷ os) = None
 
--- the fields of operands that fill the slots, in order and with none left
+-- the fields of operands that fill the slots in order, with no operand left
 abbrev pub filled : List Slot → Fields → List Operand → Option Fields
 filled [] f os = ended f os
 filled (s ∷ ss) f os = option_and_then (λ r. filled ss r.0 r.1) (taken s f os)

@@ -1,4 +1,4 @@
--- The canonical text of an instruction.
+-- The canonical text of an instruction, which the writer produces.
 use Rattle.std.specs.Prelude.{ℕ, ◌*◌, ◌/◌, ◌%◌, ◌^◌, ◌++◌, ◌==◌, ◌&&◌, Bool, true, false, List, [], ◌∷◌, Option, Some, None, codes, if◌then◌else◌, nat_lt}
 use Rattle.std.specs.Fmt.{decimal}
 use Rattle.thumb_syntax.specs.declared.form.Slot.{Slot}
@@ -11,7 +11,7 @@ use Rattle.thumb_instr.specs.declared.kind.Kind.TheVariants as kind
 
 -- ---- which form is written ----
 
--- an offset of 0 isn't written, and the base is written with `!` exactly where it isn't in the list
+-- an offset of 0 isn't written; LDM's base is written without `!` exactly where it is in the list
 abbrev pub is_second : Kind → ℕ → ℕ → ℕ → Bool
 is_second (kind.Offset x) a b c = c == 0
 is_second (kind.Stack x) a b c = b == 0
@@ -26,7 +26,7 @@ abbrev pub second_of : List (List Slot) → List Slot
 second_of [] = []
 second_of (ss ∷ more) = first_of more
 
--- what follows the mnemonic of a kind with these registers and numbers
+-- the form that follows the mnemonic of an instruction with these registers and numbers
 abbrev pub slots : Kind → ℕ → ℕ → ℕ → List Slot
 slots k a b c = if is_second k a b c then second_of (forms k) else first_of (forms k)
 
@@ -39,7 +39,7 @@ register_text r = if nat_lt r 13 then 114 ∷ decimal r else if r == 13 then cod
 abbrev pub number_text : ℕ → List ℕ
 number_text n = 35 ∷ decimal n
 
--- a blank stands after a comma
+-- a comma is followed by a blank
 abbrev pub mark_text : ℕ → List ℕ
 mark_text m = if m == 44 then codes ", " else m ∷ []
 
@@ -47,15 +47,15 @@ mark_text m = if m == 44 then codes ", " else m ∷ []
 abbrev pub has_bit : ℕ → ℕ → Bool
 has_bit list b = nat_lt b 9 && list / 2 ^ b % 2 == 1
 
--- the register of a bit: one more than r0 to r7 has bit 8
+-- the register that a bit of a list means: bit 8 is the register that the list may have besides r0 to r7
 abbrev pub member_text : ℕ → ℕ → List ℕ
 member_text extra b = register_text (if nat_lt b 8 then b else extra)
 
--- what stands before a register of a list
+-- the text before a register of a list: a comma unless it is the first
 abbrev pub separator : Bool → List ℕ
 separator is_first = if is_first then [] else codes ", "
 
--- those of the bits that the list has, with commas between
+-- the registers of the list that are among these bits, separated by commas
 abbrev pub members : ℕ → ℕ → Bool → List ℕ → List ℕ
 members extra list is_first [] = []
 members extra list is_first (b ∷ bs) =
@@ -107,7 +107,7 @@ abbrev pub slots_text : List Slot → Fields → List ℕ
 slots_text [] f = []
 slots_text (s ∷ ss) f = slot_text s f ++ slots_text ss f
 
--- a blank stands before operands
+-- operands are preceded by a blank
 abbrev pub operands_text : List Slot → Fields → List ℕ
 operands_text [] f = []
 operands_text (s ∷ ss) f = 32 ∷ slots_text (s ∷ ss) f

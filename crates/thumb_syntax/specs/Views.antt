@@ -1,4 +1,4 @@
--- An operand as the definitions have it: its bytes as a list, in place of a borrowed slice.
+-- The value of an operand, without the borrow of its name.
 use Rattle.thumb_syntax.specs.declared.operands.Operand.{Operand as Slices}
 use Rattle.thumb_syntax.specs.declared.operands.Operand.TheVariants as of
 use Rattle.thumb_syntax.specs.Operands.{Operand, register, base, range, number, sign, name, sum, stray}

@@ -1,4 +1,4 @@
-//! The form of each instruction's canonical text: some kinds have two that are written, and the registers and numbers decide between them.
+//! Which of the forms that are read an instruction's canonical text has: the writer goes by it.
 ghost use Rattle.std.specs.Prelude.{◌≡◌};
 ghost use Rattle.thumb_syntax.specs.FieldViews.{forms_at};
 ghost use Rattle.thumb_syntax.specs.Spelling.{is_second, first_of, second_of, slots};
@@ -8,7 +8,7 @@ use crate::form::Slot;
 use crate::table::forms;
 use thumb_instr::Kind;
 
-/// Whether the second form of a kind is written with these registers and numbers, and not the first.
+/// Whether an instruction with these registers and numbers is written in its kind's second form, and not in the first.
 fn is_second(kind: Kind, a: u32, b: u32, c: u32) -> bool
     ensures { result ≡ is_second kind a b c }
 {

@@ -1,4 +1,4 @@
-//! What the operands of a form hold: registers, numbers and a label, each in the range of its place, gathered one operand after the other.
+//! Matches the operands of a text against the slots of a form, one after the other, and collects the registers, numbers and label that they hold.
 ghost use Rattle.std.specs.Prelude.{◌≡◌, map, option_map};
 ghost use Rattle.thumb_syntax.specs.Views.{view};
 ghost use Rattle.thumb_syntax.specs.FieldViews.{fields_view};
@@ -98,7 +98,7 @@ fn kept_if<'a>(holds: bool, fields: Fields<'a>) -> Option<Fields<'a>>
     if holds { Some(fields) } else { None }
 }
 
-/// The fields with a number in units of `step`, where it is in the range and a multiple.
+/// The fields with a number stored in units of `step`. None where it is out of the range or no multiple of `step`.
 fn number_filled<'a>(
     fields: Fields<'a>,
     place: OperandPosition,
@@ -116,7 +116,7 @@ fn number_filled<'a>(
     }
 }
 
-/// The fields after an operand that the slot takes.
+/// The fields after an operand. None where the slot doesn't accept the operand.
 fn filled_by<'a>(slot: &Slot, fields: Fields<'a>, operand: Operand<'a>) -> Option<Fields<'a>>
     ensures { option_map fields_view result ≡ filled_by slot.now (fields_view fields.entry) (view operand.entry) }
 {
@@ -182,7 +182,7 @@ fn filled_by<'a>(slot: &Slot, fields: Fields<'a>, operand: Operand<'a>) -> Optio
     }
 }
 
-/// The fields after what the slot takes, and what is left after that.
+/// The fields after the operands that the slot consumes, and the operands after those.
 fn taken<'a, 'r>(
     slot: &Slot,
     fields: Fields<'a>,
@@ -223,7 +223,7 @@ fn taken<'a, 'r>(
     }
 }
 
-/// The fields after operands that fill the slots, with none left.
+/// The fields after operands that fill the slots exactly, with no operand left.
 fn filled_from<'a>(slots: &[Slot], fields: Fields<'a>, operands: Left<'a, '_>) -> Option<Fields<'a>>
     ensures { option_map fields_view result ≡ filled slots.now (fields_view fields.entry) (left operands.entry) }
 {
@@ -239,7 +239,7 @@ fn filled_from<'a>(slots: &[Slot], fields: Fields<'a>, operands: Left<'a, '_>) -
     }
 }
 
-/// Whether the slot may take the operand, by what the operand stands for.
+/// Whether the slot may accept the operand, judged by the operand's sort alone: a quick test before `filled`.
 fn agrees(slot: &Slot, operand: &Operand<'_>) -> bool
     ensures { result ≡ agrees slot.now (view operand.now) }
 {
@@ -257,7 +257,7 @@ fn agrees(slot: &Slot, operand: &Operand<'_>) -> bool
     }
 }
 
-/// Whether the slot takes one operand, and not a list or none.
+/// Whether the slot consumes one operand, and neither a list nor nothing.
 fn takes_one(slot: &Slot) -> bool
     ensures { result ≡ takes_one slot.now }
 {
@@ -267,7 +267,7 @@ fn takes_one(slot: &Slot) -> bool
     )
 }
 
-/// Whether the slots may take the first operands.
+/// Whether the slots may accept the first operands, judged by their sort alone.
 fn agree(slots: &[Slot], operands: &[Operand<'_>]) -> bool
     ensures { result ≡ agree slots.now (map view operands.now) }
 {
@@ -282,7 +282,7 @@ fn agree(slots: &[Slot], operands: &[Operand<'_>]) -> bool
     }
 }
 
-/// The fields of operands that fill the slots, with none left.
+/// The fields of operands that fill the slots exactly, with no operand left.
 #[tactic(auto, using(crate::proofs::Agreeing::none_filled))]
 pub fn filled<'a>(slots: &[Slot], operands: Left<'a, '_>) -> Option<Fields<'a>>
     ensures { option_map fields_view result ≡ filled slots.now empty (left operands.entry) }

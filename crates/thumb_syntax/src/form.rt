@@ -1,4 +1,4 @@
-//! The forms that texts of instructions have: for each mnemonic, which operands stand behind it in which order. Reading goes by them.
+//! The forms of an instruction's text: for each mnemonic, which operands follow it in which order. The reader goes by them.
 use thumb_instr::Kind;
 
 /// A register or number of an instruction, in the order of its canonical text.
@@ -9,22 +9,22 @@ pub enum OperandPosition {
     Third,
 }
 
-/// What stands at a place of a form.
+/// An element of a form: an operand, a mark, or a condition on the operands.
 #[derive(Clone, Copy)]
 pub enum Slot {
     /// a register
     Register(OperandPosition),
-    /// a register that stands for two
+    /// one register, written once, that is two of the instruction's registers
     Twice(OperandPosition, OperandPosition),
-    /// the register of an earlier place once more
+    /// the register of an earlier slot once more
     Same(OperandPosition),
     /// sp
     Sp,
     /// a register and `!`
     Base(OperandPosition),
-    /// a number from the second field to the third and a multiple of the fourth; it is kept divided by the fourth
+    /// a number from the second field to the third, a multiple of the fourth; it is stored in units of the fourth
     Number(OperandPosition, u32, u32, u32),
-    /// one number
+    /// this number
     Exactly(u32),
     /// a comma or a bracket
     Mark(u8),
@@ -38,19 +38,19 @@ pub enum Slot {
     Ipsr,
     /// a label
     Label,
-    /// a label, also with a number added
+    /// a label, or a label and a number that is added to it
     LabelSum,
     /// a list of low registers
     LowList(OperandPosition),
-    /// a list of low registers and one more
+    /// a list of low registers and perhaps one more register, whose number is the second field
     StackList(OperandPosition, u32),
-    /// no operand, but a condition: the register of the first position is in the list of the second
+    /// no text: the first is a register in the list that is the second
     InList(OperandPosition, OperandPosition),
-    /// no operand, but a condition: the register isn't in the list
+    /// no text: the first is a register that isn't in the list that is the second
     NotInList(OperandPosition, OperandPosition),
 }
 
-/// A form: a mnemonic, what follows it, and what instruction it is.
+/// A form: a mnemonic, what follows it, and the kind of instruction that it is read as.
 pub struct Form {
     pub mnemonic: &'static [u8],
     pub slots: &'static [Slot],

@@ -1,8 +1,8 @@
-//! What holds of the forms, and of reading and writing together. Each law is stated as the contract of a function with an empty body.
+//! What is proved of the forms, and of reading and writing together. Each law is the contract of a function that does nothing.
 ghost use Rattle.thumb_syntax.specs.RowLaws.{ReadsBySomeRow, RowsAgree};
 ghost use Rattle.thumb_syntax.specs.Whole.{ReadingIsWhole, WritingReadsBack};
 
-/// A text is read as an instruction exactly where some form reads it so: the order of the forms doesn't matter.
+/// A text is read as an instruction exactly where some form reads it as that instruction: the order of the forms doesn't matter.
 pub fn some_form_reads()
     ensures { ReadsBySomeRow }
 {}
@@ -17,7 +17,7 @@ pub fn writing_reads_back()
     ensures { WritingReadsBack }
 {}
 
-/// What is read is whole (`is_whole`): so its canonical text is read as the same again.
+/// What is read is an instruction with the label that its text names; its canonical text is read as the same instruction and label.
 pub fn reading_is_whole()
     ensures { ReadingIsWhole }
 {}

@@ -1,4 +1,4 @@
-//! Operands that are still to be read. The first few are read ahead, so that each form that is tried doesn't read them again.
+//! Operands that are still to be read. The first few are scanned in advance, so that they aren't scanned again for each form that is tried.
 ghost use Rattle.std.specs.Prelude.{◌≡◌, ◌∷◌, ◌++◌, [], MatchOption, map};
 ghost use Rattle.ascii_scan.specs.Tokens.{tokens};
 ghost use Rattle.thumb_syntax.specs.Operands.{operand};
@@ -8,10 +8,10 @@ ghost use Rattle.thumb_syntax.specs.LeftView.{left};
 use crate::operands::{Operand, next_operand};
 use arrayvec::ArrayVec;
 
-/// How many operands are read ahead, so that the forms which are tried don't read them again: most instructions have no more.
+/// How many operands are scanned in advance: most instructions have no more.
 pub const AHEAD: usize = 8;
 
-/// Operands that are still to be read: those that were read ahead, and then those of the bytes.
+/// Operands that are still to be read: those that were scanned in advance, and then those of the bytes.
 #[derive(Clone, Copy)]
 pub struct Left<'a, 'r> {
     pub ahead: &'r [Operand<'a>],

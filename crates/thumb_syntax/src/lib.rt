@@ -1,4 +1,4 @@
-//! Instructions as text: the canonical spelling of the ARM manual's unified syntax, and the other spellings that are read.
+//! Reads and writes instructions as text: the canonical spelling of the Arm manual's unified syntax, and other spellings that are only read.
 #![tactic(auto)]
 
 mod canonical;

@@ -1,4 +1,4 @@
-//! Lists of registers in braces, such as those of `push` and `ldm`, read as the bits that their code holds.
+//! Reads lists of registers in braces, such as those of `push` and `ldm`, as the bits that their code holds.
 ghost use Rattle.std.specs.Prelude.{◌≡◌, ◌<◌, ◌≤◌, ◌+◌, ◌-◌, ◌^◌, option_map};
 ghost use Rattle.thumb_syntax.specs.Views.{view};
 ghost use Rattle.thumb_syntax.specs.LeftView.{left};
@@ -23,7 +23,7 @@ fn bit(register: u32) -> u32
     1 << register
 }
 
-/// The bits from the least register to the greatest.
+/// The bits of the registers from the least to the greatest, both included.
 #[tactic(auto, using(std::proofs::lemmas::Nat::pow_below))]
 fn range_bits(least: u32, most: u32) -> u32
     requires order { least < most }
@@ -33,7 +33,7 @@ fn range_bits(least: u32, most: u32) -> u32
     bit(most + 1) - bit(least)
 }
 
-/// The bits of a register or a range of them: bit 8 for the register that the list may have beside r0 to r7.
+/// The bits of a register or a range of registers. `extra` is the register that the list may have besides r0 to r7: it is bit 8.
 fn bits_of(extra: Option<u32>, item: &Operand<'_>) -> Option<u32>
     ensures { result ≡ bits_of extra (view item.now) }
 {
@@ -58,7 +58,7 @@ fn bits_of(extra: Option<u32>, item: &Operand<'_>) -> Option<u32>
     }
 }
 
-/// The list with more bits. None where it has some of them already.
+/// The list with more bits. None where it already has one of them.
 fn joined(list: u32, bits: u32) -> Option<u32>
     ensures { result ≡ joined list bits }
 {
@@ -69,7 +69,7 @@ fn joined(list: u32, bits: u32) -> Option<u32>
     }
 }
 
-/// The list with one more item.
+/// The list with one more item. None where it isn't a register or range, or is already in the list.
 fn added(extra: Option<u32>, list: u32, item: &Operand<'_>) -> Option<u32>
     ensures { result ≡ added extra list (view item.now) }
 {
@@ -79,7 +79,7 @@ fn added(extra: Option<u32>, list: u32, item: &Operand<'_>) -> Option<u32>
     }
 }
 
-/// The list with the items up to the closing brace, and what is left after it.
+/// The list with the items up to the closing brace, and the operands after the brace.
 fn items<'a, 'r>(
     extra: Option<u32>,
     list: u32,
@@ -107,7 +107,7 @@ fn items<'a, 'r>(
     }
 }
 
-/// A list in braces, which may have one register more than r0 to r7, and what is left after it.
+/// A list in braces, which may have the register `extra` besides r0 to r7, and the operands after it.
 pub fn listed<'a, 'r>(extra: Option<u32>, operands: Left<'a, 'r>) -> Option<(u32, Left<'a, 'r>)>
     ensures { option_map (λ r. (r.0, left r.1)) result ≡ listed extra (left operands.entry) }
 {

@@ -1,4 +1,4 @@
-//! What a word or mark among an instruction's operands stands for, before it is known which form it is to fill.
+//! What a word or mark among an instruction's operands is, before it is known which form it belongs to.
 ghost use Rattle.std.specs.Prelude.{◌≡◌, ◌∷◌, [], MatchOption, map};
 ghost use Rattle.std.specs.List.{prefix_len};
 ghost use Rattle.ascii_scan.specs.Tokens.{tokens, front, rest};
@@ -9,7 +9,7 @@ ghost use Rattle.thumb_syntax.specs.Views.{view};
 use crate::registers::register_named;
 use ascii_scan::{Token, name, next_token, number};
 
-/// What a word or a mark of the operands stands for.
+/// What a word or a mark among the operands is.
 #[derive(Clone, Copy)]
 pub enum Operand<'a> {
     /// `r0`, by its number
@@ -36,7 +36,7 @@ impl Default for Operand<'_> {
 
     ghost is_default = { λ o. o ≡ Stray };
 
-    /// A stray one.
+    /// An operand that no form accepts.
     fn default() -> Self {
         Operand::Stray
     }

@@ -1,4 +1,4 @@
-//! Which instruction a text is: of the forms that its mnemonic has, the first that its operands fill.
+//! Reads an instruction's text: of its mnemonic's forms, the first that its operands fill decides.
 ghost use Rattle.std.specs.Prelude.{◌≡◌, ◌<◌, map, option_map};
 ghost use Rattle.ascii_scan.specs.Tokens.{tokens};
 ghost use Rattle.thumb_syntax.specs.Operands.{operand, first_some};
@@ -16,7 +16,7 @@ use crate::table::mnemonics;
 use ascii_scan::{Token, next_token};
 use thumb_instr::{Instr, Kind, made};
 
-/// An instruction that was read, and the label that it names. Where it names one, its distance is 0.
+/// An instruction that was read, and the label that it names. Where it names a label, the instruction's distance is 0.
 #[derive(Clone, Copy)]
 pub struct Parsed<'a> {
     pub instr: Instr,
@@ -35,7 +35,7 @@ fn with_fields<'a>(kind: Kind, fields: Fields<'a>) -> Option<Parsed<'a>>
     }
 }
 
-/// The forms of the first mnemonic that the word spells.
+/// The forms of the first mnemonic that equals the word.
 fn forms_in(mnemonics: &'static [Mnemonic], word: &[u8]) -> &'static [Form]
     ensures { map row_of result.now ≡ rows_in (map group_of mnemonics.now) word.now }
 {
@@ -47,7 +47,7 @@ fn forms_in(mnemonics: &'static [Mnemonic], word: &[u8]) -> &'static [Form]
     &[]
 }
 
-/// The place of a word in the table of mnemonics, by its first letter in either case.
+/// The index of a word in the table of mnemonics: by its first letter, in either case.
 fn place_of(word: &[u8]) -> usize
     ensures place { result ≡ place_of word.now }
     ensures within { result < 32 }
@@ -58,14 +58,14 @@ fn place_of(word: &[u8]) -> usize
     }
 }
 
-/// The forms whose mnemonic the word is.
+/// The forms whose mnemonic equals the word.
 fn forms_of(word: &[u8]) -> &'static [Form]
     ensures { map row_of result.now ≡ rows_of word.now }
 {
     forms_in(mnemonics(place_of(word)), word)
 }
 
-/// What operands are read as by a form.
+/// The instruction that operands are by one form.
 fn read_by<'a>(form: &Form, operands: Left<'a, '_>) -> Option<Parsed<'a>>
     ensures { option_map shown result ≡ read_by (left operands.entry) (row_of form.now) }
 {
@@ -75,7 +75,7 @@ fn read_by<'a>(form: &Form, operands: Left<'a, '_>) -> Option<Parsed<'a>>
     }
 }
 
-/// What operands are read as by the first form that they fill.
+/// The instruction that operands are by the first form that they fill.
 fn read_in<'a>(forms: &[Form], operands: Left<'a, '_>) -> Option<Parsed<'a>>
     ensures { option_map shown result ≡ first_some (read_by (left operands.entry)) (map row_of forms.now) }
 {
@@ -87,7 +87,7 @@ fn read_in<'a>(forms: &[Form], operands: Left<'a, '_>) -> Option<Parsed<'a>>
     None
 }
 
-/// What a mnemonic and operands are read as by some form.
+/// The instruction that a mnemonic and operands are by some form.
 fn read_all<'a>(word: &[u8], bytes: &'a [u8]) -> Option<Parsed<'a>>
     ensures { option_map shown result ≡ read_all word.now (map operand (tokens bytes.now)) }
 {
@@ -100,7 +100,7 @@ fn read_all<'a>(word: &[u8], bytes: &'a [u8]) -> Option<Parsed<'a>>
     read_in(forms, operands)
 }
 
-/// The instruction that a text is, in canonical or another spelling, without the listing's labels and comments. None where no form reads it.
+/// The instruction that a text is, in canonical or another spelling; the text has no labels before it and no comment. None where no form accepts it.
 /// An instruction that names a label has distance 0.
 pub fn read_instr(text: &[u8]) -> Option<Parsed<'_>>
     ensures { option_map shown result ≡ reading text.now }

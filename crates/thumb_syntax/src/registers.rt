@@ -1,4 +1,4 @@
-//! The names of registers, in either case, with the synonyms of the procedure call standard. A name is looked up by its second byte, among very few.
+//! The names of registers, in either case, with the calling standard's second names. The second byte of a name selects the few that are searched.
 ghost use Rattle.std.specs.Prelude.{◌≡◌, ◌<◌, map, length};
 ghost use Rattle.ascii_scan.specs.Names.{is_spelled};
 ghost use Rattle.thumb_syntax.specs.Operands.{register_named, register_in};
@@ -20,7 +20,7 @@ macro_rules! register {
     };
 }
 
-/// The registers, each at the place that the second byte of its name has modulo 32.
+/// The registers, indexed by the second byte of their name modulo 32.
 static REGISTERS: [&[Register]; 32] = [
     &[],
     &[],
@@ -75,7 +75,7 @@ fn registers() -> &'static [&'static [Register]]
     &REGISTERS
 }
 
-/// The place of a word among the registers, by its second byte.
+/// The index of a word in the table of registers, by its second byte.
 fn place_of(word: &[u8]) -> usize
     ensures place { result ≡ second_place word.now }
     ensures within { result < 32 }

@@ -1,4 +1,4 @@
-//! The one table of texts: each mnemonic with its kinds of instructions, and what may follow it. Reader and writer both go by it.
+//! The one table of texts: each mnemonic with its kinds of instructions, and what may follow it. Reader and writer both use it.
 ghost use Rattle.std.specs.Prelude.{◌≡◌, ◌<◌, true, map, length};
 ghost use Rattle.thumb_syntax.specs.Mnemonics.{are_there, are_there_at, forms_of, group_of, named_forms, groups_at};
 ghost use Rattle.thumb_syntax.specs.Forms.{mnemonic, forms};
@@ -16,7 +16,7 @@ const SECOND: Slot = Slot::Register(OperandPosition::Second);
 
 const THIRD: Slot = Slot::Register(OperandPosition::Third);
 
-/// One register for the first two.
+/// One register that is both the first and the second.
 const TWICE: Slot = Slot::Twice(OperandPosition::First, OperandPosition::Second);
 
 /// The first register once more.
@@ -34,16 +34,16 @@ const ONE: &[Slot] = &[FIRST];
 /// Two registers.
 const TWO: &[Slot] = &[FIRST, COMMA, SECOND];
 
-/// Two registers, of which the first is written twice: before the second.
+/// Two registers, the first of which is written twice, before the second.
 const SAME_FIRST: &[Slot] = &[FIRST, COMMA, SAME, COMMA, SECOND];
 
-/// The same, with the first again behind the second.
+/// The same, where the repetition of the first comes after the second.
 const SAME_LAST: &[Slot] = &[FIRST, COMMA, SECOND, COMMA, SAME];
 
 /// Three registers.
 const THREE: &[Slot] = &[FIRST, COMMA, SECOND, COMMA, THIRD];
 
-/// Three registers, of which the first two are one.
+/// Three registers, the first two of which are the same and written once.
 const TWICE_AND_THIRD: &[Slot] = &[TWICE, COMMA, THIRD];
 
 /// Two registers and a number.
@@ -53,7 +53,7 @@ macro_rules! amount {
     };
 }
 
-/// The same, where the two are one.
+/// The same, where the two registers are the same and written once.
 macro_rules! twice_amount {
     ($least:literal, $most:literal) => {
         &[TWICE, COMMA, Slot::Number(OperandPosition::Third, $least, $most, 1)]
@@ -67,7 +67,7 @@ const BYTE_NUMBER: &[Slot] = &[
     Slot::Number(OperandPosition::Second, 0, 255, 1),
 ];
 
-/// A register twice and a byte that doesn't fit the form with two registers and a number.
+/// A register twice and a byte that is too large for the form with two registers and a number.
 const SAME_AND_BYTE: &[Slot] = &[
     FIRST,
     COMMA,
@@ -82,13 +82,13 @@ const BYTE_ALONE: &[Slot] = &[Slot::Number(OperandPosition::First, 0, 255, 1)];
 /// A label.
 const LABEL: &[Slot] = &[Slot::Label];
 
-/// A register and a label with what is added.
+/// A register and a label, to which a number may be added.
 const LABELLED: &[Slot] = &[FIRST, COMMA, Slot::LabelSum];
 
-/// A register, and an address that is the sum of two registers.
+/// A register, and an address of a base and an index register.
 const INDEXED: &[Slot] = &[FIRST, COMMA, OPEN, SECOND, COMMA, THIRD, CLOSE];
 
-/// A register, and an address that is a register and an offset.
+/// A register, and an address of a base register and an offset.
 macro_rules! with_offset {
     ($most:literal, $step:literal) => {
         &[FIRST, COMMA, OPEN, SECOND, COMMA, Slot::Number(OperandPosition::Third, 0, $most, $step), CLOSE]
@@ -98,7 +98,7 @@ macro_rules! with_offset {
 /// The same without an offset.
 const WITHOUT_OFFSET: &[Slot] = &[FIRST, COMMA, OPEN, SECOND, CLOSE];
 
-/// A register, and an address from sp on.
+/// A register, and an address of sp and an offset.
 const FROM_SP: &[Slot] = &[
     FIRST,
     COMMA,
@@ -128,14 +128,14 @@ const SP_ALONE: &[Slot] = &[
     Slot::Number(OperandPosition::First, 0, 508, 4),
 ];
 
-/// A base that is written back, and a list.
+/// A base register with write-back, and a list.
 const WRITTEN_BACK: &[Slot] = &[
     Slot::Base(OperandPosition::First),
     COMMA,
     Slot::LowList(OperandPosition::Second),
 ];
 
-/// The same, where the base isn't in the list.
+/// The same, where the list doesn't have the base.
 const LOAD_APART: &[Slot] = &[
     Slot::Base(OperandPosition::First),
     COMMA,
@@ -143,7 +143,7 @@ const LOAD_APART: &[Slot] = &[
     Slot::NotInList(OperandPosition::First, OperandPosition::Second),
 ];
 
-/// A base and a list that it is in.
+/// A base register without `!`, and a list that has it.
 const LOAD_WITHIN: &[Slot] = &[
     FIRST,
     COMMA,
@@ -151,9 +151,9 @@ const LOAD_WITHIN: &[Slot] = &[
     Slot::InList(OperandPosition::First, OperandPosition::Second),
 ];
 
-/// The table, handed to another macro. It goes by first letters, in four parts; at each letter stand its mnemonics, the ones most used by compilers first.
-/// A mnemonic has a row for each kind that is written with it: its forms, the written one first (where two are written, `is_second` chooses).
-/// Behind `also` stand kinds that are read by this mnemonic too, but written with another.
+/// The table, as arguments of another macro: four parts, by first letters; for each letter its mnemonics, those that compilers write most often first.
+/// A mnemonic has a row for each kind that is written with it: its forms, the one that is written first (or second, where `is_second` says so).
+/// After `also` come kinds that are read from this mnemonic but written with another.
 macro_rules! spellings {
     ($then:ident $($kind:ident)?) => {
         $then! {
@@ -342,7 +342,7 @@ macro_rules! spellings {
     };
 }
 
-/// A part of the table as mnemonics with their forms.
+/// Makes a part of the table into mnemonics with their forms.
 macro_rules! mnemonics {
     ($([$(
         $name:literal { $($kind:expr => $($slots:expr),+;)* }
@@ -374,7 +374,7 @@ macro_rules! last_part {
     ($first:tt $second:tt $third:tt { $($part:tt)* }) => { mnemonics! { $($part)* } };
 }
 
-/// The mnemonic of a kind.
+/// Makes the table into a match from kind to mnemonic.
 macro_rules! name_of {
     ($of:ident $({ $([$(
         $name:literal { $($kind:pat => $($slots:expr),+;)* } $(also $other:tt)?
@@ -383,7 +383,7 @@ macro_rules! name_of {
     };
 }
 
-/// What may follow the mnemonic of a kind.
+/// Makes the table into a match from kind to the forms that may follow its mnemonic.
 macro_rules! forms_of {
     ($of:ident $({ $([$(
         $name:literal { $($kind:pat => $($slots:expr),+;)* } $(also $other:tt)?
@@ -392,16 +392,16 @@ macro_rules! forms_of {
     };
 }
 
-/// The mnemonics that begin with `a` and `b`, each at the place of its first letter. The first place has none.
+/// The mnemonics that begin with `a` and `b`, each at the index of its first letter. Index 0 has none.
 static A_TO_B: [&[Mnemonic]; 3] = spellings!(first_part);
 
-/// The mnemonics that begin with `c` to `l`, each at the place of its first letter.
+/// The mnemonics that begin with `c` to `l`, by first letter.
 static C_TO_L: [&[Mnemonic]; 10] = spellings!(second_part);
 
-/// The mnemonics that begin with `m` to `r`, each at the place of its first letter.
+/// The mnemonics that begin with `m` to `r`, by first letter.
 static M_TO_R: [&[Mnemonic]; 6] = spellings!(third_part);
 
-/// The mnemonics that begin with `s` to `z`, each at the place of its first letter.
+/// The mnemonics that begin with `s` to `z`, by first letter.
 static S_TO_Z: [&[Mnemonic]; 13] = spellings!(last_part);
 
 /// The mnemonics that begin with `a` and `b`, each with its forms in the order of all forms.
@@ -444,7 +444,7 @@ fn s_to_z() -> &'static [&'static [Mnemonic]]
     &S_TO_Z
 }
 
-/// The mnemonics at a place: a first letter's place is the letter modulo 32, so 1 for `a` and `A`.
+/// The mnemonics at an index: a first letter's index is its byte modulo 32, 1 for `a` and `A`.
 pub fn mnemonics(place: usize) -> &'static [Mnemonic]
     requires { place < 32 }
     ensures forms { map forms_of (map group_of result.now) ≡ map named_forms (map group_of result.now) }
@@ -468,7 +468,7 @@ pub fn mnemonic(kind: Kind) -> &'static [u8]
     spellings!(name_of kind)
 }
 
-/// What may follow the mnemonic of a kind.
+/// The forms that may follow the mnemonic of a kind.
 pub fn forms(kind: Kind) -> &'static [&'static [Slot]]
     ensures { forms_at result.now ≡ forms kind }
 {

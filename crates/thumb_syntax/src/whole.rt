@@ -1,4 +1,4 @@
-//! Whether a label stands where an instruction's text names one.
+//! Whether an instruction has a label exactly where its text names one: the condition under which writing and reading are inverse.
 ghost use Rattle.std.specs.Prelude.{◌≡◌, ◌&&◌, ◌^◌, nat_lt, option_map};
 ghost use Rattle.thumb_syntax.specs.Operands.{is_name};
 ghost use Rattle.thumb_syntax.specs.FieldViews.{label_of};
@@ -18,7 +18,7 @@ fn is_label(label: &Option<Label<'_>>) -> bool
     }
 }
 
-/// Whether the name may have the number added, which is below 2 ^ 32 as each numeral is.
+/// Whether a name with a number added can be a label; every `u32` can be added.
 fn is_sum(name: &[u8], _added: u32) -> bool
     ensures { result ≡ (is_name name.now && nat_lt _added (2 ^ 32)) }
 {
@@ -43,8 +43,8 @@ fn is_unlabelled(label: &Option<Label<'_>>) -> bool
     }
 }
 
-/// Whether a label stands exactly where the instruction's text names one, and is a name there, in place of a distance.
-/// What `read_instr` gives is whole, and the text of what is whole is read as the same again.
+/// Whether there is a label exactly where the instruction's text names one, it is a proper name, and the instruction's own distance is 0.
+/// What `read_instr` yields satisfies this, and the text of what satisfies it is read as the same again.
 pub fn is_whole(parsed: &Parsed<'_>) -> bool
     ensures { result ≡ is_whole parsed.now.instr (option_map label_of parsed.now.label) }
 {

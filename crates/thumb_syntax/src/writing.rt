@@ -1,4 +1,4 @@
-//! The canonical text of an instruction, which is what rewriting writes and what tables hold.
+//! Writes the canonical text of an instruction, which rewritten listings and tables have.
 ghost use Rattle.std.specs.Prelude.{◌≡◌, ◌++◌, ◌∷◌, [], OnOk, IfOk};
 ghost use Rattle.std.specs.Fmt.{decimal};
 ghost use Rattle.thumb_syntax.specs.FieldViews.{fields_view, label_of};
@@ -75,7 +75,7 @@ fn write_separator(is_first: bool, out: &mut Vec<u8>) -> Result<(), AllocError>
     }
 }
 
-/// Writes those of the bits' registers that the list has.
+/// Writes the registers of a list that are among these bits.
 fn write_members(
     extra: u32,
     list: u32,
@@ -201,7 +201,7 @@ fn write_operands(slots: &[Slot], fields: &Fields<'_>, out: &mut Vec<u8>) -> Res
 }
 
 /// The one canonical text of an instruction: lower case, one blank after the mnemonic and after each comma, decimal numbers, lists in ascending order,
-/// an offset and an added number of 0 left out. What `is_whole` takes is read as the same again (`writing_reads_back`). Fails only for want of memory.
+/// an offset and an added number of 0 left out. If `is_whole` holds, it is read as the same again (`writing_reads_back`). Fails only if out of memory.
 pub fn write_instr(alloc: Global, parsed: &Parsed<'_>) -> Result<Vec<u8>, AllocError>
     ensures { IfOk result (λ text. text.items ≡ text_of (shown parsed.now)) }
 {

@@ -1,4 +1,4 @@
--- The table of rows as a whole: each row is proper, and no two share a code.
+-- The table of rows as a whole: each row is within the bounds, and no two rows share a code.
 use Rattle.std.proofs.Common.{◌≡◌, ◌∙◌, ◌⊎◌, inl, inr, ℕ, zero, suc, ◌+◌, ◌-◌, ◌*◌, ◌/◌, ◌^◌, ◌<◌, ◌≤◌, ◌==◌, ◌&&◌, ◌||◌, Bool, true, false, List, [], ◌∷◌, Some, refl, sym, ap, subst, arith, true≢false, eqb-true, eq-eqb, ◌%◌}
 use Rattle.std.specs.Prelude.{if◌then◌else◌, slice_get, slice_index_or, nat_le, nat_lt}
 use Rattle.std.specs.List.{list_all}
@@ -42,7 +42,7 @@ upper k = upper_of (pieces k)
 abbrev pub long : List Piece → List Piece
 long ps = if width ps == 16 then padded ps else ps
 
--- the place of the first row that may share a code with a kind's: its own, since rows are apart
+-- the index of the first row that may share a code with the kind's: the row itself, as rows are apart
 unfoldable place_in : List Kind → Kind → ℕ
 place_in [] k = 0
 place_in (l ∷ ls) k = if clash 40 (long (pieces l)) (long (pieces k)) then suc (place_in ls k) else 0
@@ -50,7 +50,7 @@ place_in (l ∷ ls) k = if clash 40 (long (pieces l)) (long (pieces k)) then suc
 abbrev place : Kind → ℕ
 place k = place_in (kinds_at (upper k)) k
 
--- each kind stands in the table, by its upper bits: a kind that has operations with a line for one of them
+-- each kind is in the table, at its upper bits; a kind with operations has one line for each of them
 pub listed : (k : Kind) → (j : ℕ) × (slice_get (kinds_at (upper k)) j ≡ Some k)
 unfolding kinds pieces clash place_in
 listed (kind.Three sum.Add) = (place (kind.Three sum.Add), refl)
@@ -73,7 +73,7 @@ listed k = (place k, refl)
 
 -- ---- what holds of each kind in the table ----
 
--- a test holds of all kinds
+-- a predicate holds of all kinds
 abbrev pub are_all : (Kind → Bool) → List (List Kind) → Bool
 are_all test ks = list_all (list_all test) ks
 
@@ -90,9 +90,9 @@ in_list test (l ∷ ls) (suc j) k a e = in_list test ls j k (and_parts (test l) 
 pub every : (test : Kind → Bool) → are_all test kinds ≡ true → (k : Kind) → test k ≡ true
 every test a k = let l = listed k in in_list test (kinds_at (upper k)) l.0 k (all_at test kinds (upper k) a) l.1
 
--- ---- proper rows ----
+-- ---- rows within the bounds ----
 
--- a row has one halfword or two, begins with four fixed bits or more, and holds small numbers
+-- a row has one halfword or two, begins with at least four fixed bits, and holds small numbers
 abbrev begins : List Piece → Bool
 begins (Fixed w x ∷ ps) = nat_le 4 w
 begins ps = false
@@ -141,7 +141,7 @@ whole_word k a b h l = elim (width_is k) [
   | inr e ↦ rw (e) (omega arith)
 ]
 
--- ---- how long rows are ----
+-- ---- the lengths of rows ----
 
 -- the kinds of two halfwords
 abbrev pub is_long : Kind → Bool
@@ -200,7 +200,7 @@ agrees_long ps a b h k g = elim (cases_Bool (width ps == 16)) [
   | inr e ↦ rw e (rw e at g)
 ]
 
--- the bits that a row begins with are those of its codes
+-- the leading bits of a row are those of its codes
 head_of : (w x : ℕ) (ps : List Piece) (c : ℕ) → width (Fixed w x ∷ ps) ≡ 32 → agrees (Fixed w x ∷ ps) c ≡ true → (w ≤ 32) × (c / 2 ^ (32 - w) ≡ x)
 unfolding agrees
 head_of w x ps c l a =
@@ -240,7 +240,7 @@ upper_is k a b h l g = let p = proper k in upper_at (pieces k) a b p.begins l (l
 pub begun : (k : Kind) (a b : ℕ) → a < 65536 → b < 65536 → agrees (pieces k) (whole (pieces k) a b) ≡ true → begins_with (pieces k) a ≡ true
 begun k a b h l g = let p = proper k in begun_at (pieces k) a b p.begins l (long_width (pieces k) p.width) (agrees_long (pieces k) a b h l g)
 
--- two halfwords agree with one row at most
+-- two halfwords agree with at most one row
 pub one_row : (k l : Kind) (a b : ℕ) → a < 65536 → b < 65536 → agrees (pieces k) (whole (pieces k) a b) ≡ true → agrees (pieces l) (whole (pieces l) a b) ≡ true → k ≡ l
 one_row k l a b h m p q =
     let up : upper l ≡ upper k = sym (upper_is l a b h m q) ∙ upper_is k a b h m p in

@@ -1,4 +1,4 @@
--- What is read of an instruction's code: its registers and numbers.
+-- Reading an instruction's code yields its registers and numbers.
 use Rattle.std.proofs.Common.{◌≡◌, ◌∙◌, inl, inr, ℕ, ◌+◌, ◌*◌, ◌/◌, ◌%◌, ◌^◌, ◌<◌, ◌≤◌, ◌==◌, ◌&&◌, ◌||◌, Bool, true, false, List, [], ◌∷◌, refl, sym, arith, true≢false, lit<}
 use Rattle.std.specs.Prelude.{if◌then◌else◌, nat_le}
 use Rattle.std.proofs.lemmas.Bool.{and_parts, and_from, or_cases, le-leb, leb-true}
@@ -27,7 +27,7 @@ use Rattle.thumb_table.specs.Kinds.{kinds}
 use Rattle.thumb_table.proofs.Rows.{fits, are_free, free_fits, gathered, spans, spanned, read_packed}
 use Rattle.thumb_table.proofs.Apart.{are_all, every, narrow}
 
--- ---- each piece can hold what it has of an instruction ----
+-- ---- each piece can hold its value for an instruction ----
 
 -- the kinds whose rows have a least number
 abbrev has_least : Kind → Bool
@@ -50,7 +50,7 @@ fit (instr.ShiftLeft d m i) =
     and_from _ _ (le-leb 1 (i.number / 1 % 32) (omega arith)) (and_from _ _ (le-leb 0 (m.number / 1 % 8) (omega arith)) (and_from _ _ (le-leb 0 (d.number / 1 % 8) (omega arith)) refl))
 fit i = free_fits (row_of i) (parts_of i) (free (parts_of i).kind refl)
 
--- ---- a number of an instruction lies below the end of its role ----
+-- ---- a number of an instruction is below the end of its role ----
 
 abbrev end_of : Role → ℕ
 end_of (role.Register u class.Low) = 8
@@ -87,9 +87,9 @@ below (instr.Three s d n m) position.Third = within m
 below i position.Second = search (within, general, nothing)
 below i position.Third = search (within, general, nothing)
 
--- ---- its row holds it ----
+-- ---- the row holds the whole number ----
 
--- the numbers that a row has otherwise than by its bits in order
+-- the numbers that a row holds otherwise than as their bits in order
 abbrev is_odd : Kind → OperandPosition → Bool
 is_odd (kind.ShiftRight s) position.Third = true
 is_odd kind.Call position.First = true
@@ -129,7 +129,7 @@ amount_is n l m = grind (arith, nat_tests)
 same_same : (x s : ℕ) → x < 2 → s < 2 → same (same x s) s ≡ x
 same_same x s h k = grind (arith, nat_tests)
 
--- half the distance of BL, from its sign, its upper bits, the two that are the sign's equals or not, and the rest
+-- half the distance of BL, from its sign, its upper bits, the two bits that say whether a bit equals the sign, and the rest
 abbrev half_of : (s h j k l : ℕ) → ℕ
 half_of s h j k l =
     let a : ℕ = 0 + s * 8388608 + h * 2048 in

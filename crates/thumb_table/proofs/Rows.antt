@@ -1,4 +1,4 @@
--- Rows of bits: what they make, and that no number agrees with two.
+-- Rows of bits: the number that a row forms, reading it back, and that no number agrees with two rows.
 use Rattle.std.proofs.Common.{◌≡◌, ◌∙◌, inl, inr, ℕ, suc, ◌+◌, ◌-◌, ◌*◌, ◌/◌, ◌%◌, ◌^◌, ◌<◌, ◌≤◌, ◌==◌, ◌&&◌, ◌||◌, not, Bool, true, false, List, [], ◌∷◌, ◌++◌, length, drop, get_or, drop-cons, add-one, refl, sym, ap, subst, arith, true≢false, eqb-true, eq-eqb, lit<}
 use Rattle.std.specs.Prelude.{if◌then◌else◌, nat_lt, nat_le}
 use Rattle.std.proofs.Math.Pow.{high, low, field, mod-mod-pow}
@@ -13,7 +13,7 @@ use Rattle.thumb_table.specs.declared.row.Piece.TheVariants.{Fixed, Bits, Amount
 use Rattle.thumb_table.specs.Table.{width_of, width, number, same, value_of, packed}
 use Rattle.thumb_table.specs.ReadBits.{holds, agrees, is_operand, told, is_about, read_on, is_narrow, are_narrow, most_of, most}
 
--- ---- what a row makes ----
+-- ---- the number that a row forms ----
 
 pub same_most : (a b : ℕ) → same a b ≤ 1
 same_most a b = elim (a == b) as (λ t. (if t then 1 else 0) ≤ 1) [ true ↦ omega arith | false ↦ omega arith ]
@@ -43,7 +43,7 @@ upper_below c n w l e h =
 pub packed_word : (ps : List Piece) (m : Parts) → are_narrow ps ≡ true → width ps ≤ 32 → packed ps m < 4294967296
 packed_word ps m n w = let h = packed_below ps m n in let p : 2 ^ width ps ≤ 2 ^ 32 = pow-le-pow_right (lit< tt) w in omega arith
 
--- each piece can hold what it holds of an instruction
+-- each piece can hold its value for an instruction
 unfoldable pub fits : List Piece → Parts → Bool
 fits [] m = true
 fits (p ∷ ps) m = holds p (value_of p m) && fits ps m
@@ -75,9 +75,9 @@ free_fits (Bits w o from least ∷ ps) m f =
 free_fits (Amount w o ∷ ps) m f = free_fits ps m f
 free_fits (Same o a b ∷ ps) m f = free_fits ps m f
 
--- ---- what is read of a row ----
+-- ---- reading a row ----
 
--- what a row's pieces tell of an instruction that they hold
+-- what reading a row's pieces yields, if they hold an instruction's values
 unfoldable pub gathered : OperandPosition → List Piece → Parts → ℕ → ℕ
 gathered o [] m n = n
 gathered o (p ∷ ps) m n = gathered o ps m (if is_about o p then told p (value_of p m) n else n)
@@ -92,7 +92,7 @@ read_packed o (p ∷ ps) m n k =
     let second = low (value_of p m) (width ps) rest in
     rw (first, second) (read_packed o ps m (if is_about o p then told p (value_of p m) n else n) parts.1)
 
--- a row from one of its pieces on: that piece, and the others
+-- a row from one of its pieces on: that piece, and the pieces after it
 pub record Cut (ps : List Piece) (i : ℕ) (p : Piece) : Type 0 where
   pub wide : width (drop i ps) ≡ width_of p + width (drop (i + 1) ps)
   pub most : most (drop i ps) ≡ most_of p + most (drop (i + 1) ps)
@@ -111,7 +111,7 @@ cut_at ps i h =
       read = λ o c n. ap (λ (qs : List Piece). read_on o qs c n) split;
     }
 
--- the bits that pieces tell of a register or number are the last ones, each once and from the highest
+-- the pieces hold the lowest n bits of a register or number, each bit once, from the highest down
 unfoldable pub spans : OperandPosition → List Piece → ℕ → Bool
 spans o [] n = n == 0
 spans o (Fixed w x ∷ ps) n = spans o ps n
@@ -162,16 +162,16 @@ disjoint (Fixed w x) (Bits v o from least) = nat_lt x least
 disjoint (Bits w o from least) (Fixed v y) = nat_lt y least
 disjoint p q = false
 
--- a piece of w bits that are free
+-- w bits that are free
 abbrev free : ℕ → Piece
 free w = Bits w position.First 0 0
 
--- a row that has the same numbers or more, with its first w bits as a piece of their own
+-- a row with its first w bits as a piece of their own: each number that agrees with the old row agrees with it
 abbrev cut : ℕ → Piece → List Piece → List Piece
 cut w (Fixed v x) ps = Fixed w (x / 2 ^ (v - w)) ∷ Fixed (v - w) (x % 2 ^ (v - w)) ∷ ps
 cut w p ps = free w ∷ free (width_of p - w) ∷ ps
 
--- in at most n steps a place is found where the rows differ
+-- a position where the rows differ is found in at most n steps
 unfoldable pub clash : ℕ → List Piece → List Piece → Bool
 clash (suc n) (p ∷ ps) (q ∷ qs) =
     if width_of p == width_of q then disjoint p q || clash n ps qs
@@ -185,7 +185,7 @@ cut_width w (Bits v o from least) ps h = omega arith
 cut_width w (Amount v o) ps h = omega arith
 cut_width w (Same o a b) ps h = omega arith
 
--- two pieces that are free have what the rest of a row has
+-- two free pieces in place of a piece: what agrees with the rest of the row agrees with them
 cut_free : (w v : ℕ) (ps : List Piece) (c : ℕ) → w < v → agrees ps (c % 2 ^ width ps) ≡ true → agrees (free w ∷ free (v - w) ∷ ps) c ≡ true
 unfolding agrees
 cut_free w v ps c h a =
@@ -244,7 +244,7 @@ clash_apart n ps qs c k w a b = true≢false (sym k)
 
 -- ---- rows of one halfword among those of two ----
 
--- the rest of two halfwords is free after one
+-- a row of one halfword, followed by a free halfword
 abbrev pub padded : List Piece → List Piece
 padded ps = ps ++ free 16 ∷ []
 

@@ -1,4 +1,4 @@
--- What is read from halfwords: the codes of instructions, and those of a row.
+-- What encoding and decoding mean: which halfwords are the code of an instruction, and what is read from them.
 use Rattle.std.specs.Prelude.{ℕ, ◌+◌, ◌*◌, ◌/◌, ◌^◌, ◌==◌, Bool, true, nat_lt, List, ◌∷◌, ◌≡◌, ◌-◌, ◌<◌, ◌||◌}
 use Rattle.thumb_instr.specs.declared.kind.Parts.{Parts}
 use Rattle.thumb_table.specs.declared.row.OperandPosition.TheVariants as position
@@ -12,7 +12,7 @@ use Rattle.thumb_table.specs.declared.row.Code.TheVariants as code
 use Rattle.thumb_table.specs.Table.{width, pieces, row_of, code_of, whole, Encodes}
 use Rattle.thumb_table.specs.ReadBits.{agrees, read_on}
 
--- no instruction has the halfwords
+-- no instruction has these halfwords as its code
 abbrev pub IsNoCode : ℕ → ℕ → Type 0
 IsNoCode first second = (i : Instr) → Encodes i first second → ⊥
 
@@ -25,25 +25,25 @@ abbrev pub whole_of : Code → ℕ
 whole_of (code.One a) = a
 whole_of (code.Two a b) = a * 65536 + b
 
--- the code is the instruction's
+-- the code is that of the instruction
 pub record IsCode (i : Instr) (c : Code) : Type 0 where
   pub long : width (row_of i) ≡ 16 * halfwords c
   pub is : code_of i ≡ whole_of c
 
--- no two halfwords have the bits of two rows
+-- no two halfwords agree with the rows of two kinds
 abbrev pub AreApart : Type 0
 AreApart = (k l : Kind) (first second : ℕ) → first < 65536 → second < 65536
     → agrees (pieces k) (whole (pieces k) first second) ≡ true → agrees (pieces l) (whole (pieces l) first second) ≡ true → k ≡ l
 
--- a first halfword has the fixed bits that a row begins with
+-- whether a first halfword has the row's leading fixed bits
 abbrev pub begins_with : List Piece → ℕ → Bool
 begins_with (Fixed w x ∷ ps) a = nat_lt 16 w || (a / 2 ^ (16 - w) == x)
 begins_with ps a = true
 
--- the registers and numbers that a code holds by the row of a kind
+-- the registers and numbers that a code holds by a kind's row
 abbrev pub read_parts : Kind → ℕ → Parts
 read_parts k c = of k (read_on position.First (pieces k) c 0) (read_on position.Second (pieces k) c 0) (read_on position.Third (pieces k) c 0)
 
--- no instruction of the row has the halfwords
+-- no instruction of this kind has these halfwords as its code
 abbrev pub IsNotOf : Kind → ℕ → ℕ → Type 0
 IsNotOf k first second = (i : Instr) → (parts_of i).kind ≡ k → Encodes i first second → ⊥

@@ -1,4 +1,4 @@
--- The kinds of instructions by the upper four bits of their rows, so that decoding tries few of them.
+-- The kinds of instructions grouped by the upper four bits of their codes, so that decoding tries only a few rows.
 use Rattle.std.specs.Prelude.{ℕ, List, [], ◌∷◌, slice_index_or}
 use Rattle.thumb_instr.specs.declared.kind.Kind.{Kind}
 use Rattle.thumb_instr.specs.declared.kind.Kind.TheVariants as kind
@@ -17,7 +17,7 @@ use Rattle.thumb_instr.specs.declared.operation.Condition.TheVariants as conditi
 use Rattle.thumb_instr.specs.declared.operation.Barrier.TheVariants as barrier
 use Rattle.thumb_instr.specs.declared.operation.Special.TheVariants as special
 
--- the kinds by the upper four bits of their rows
+-- at each index the kinds whose codes begin with these four bits
 unfoldable pub kinds : List (List Kind)
 kinds =
     (kind.Movs

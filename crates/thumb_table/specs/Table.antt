@@ -1,4 +1,4 @@
--- The encodings of instructions, as in the tables of the ARM manual's section on the Thumb instruction set encoding: a row lists pieces from the highest bit.
+-- The encodings as in the Arm manual's section on the Thumb instruction set encoding: a row is a list of pieces, from the highest bit.
 use Rattle.std.specs.Prelude.{ℕ, ◌+◌, ◌*◌, ◌/◌, ◌%◌, ◌^◌, ◌==◌, List, [], ◌∷◌, if◌then◌else◌, ◌≡◌}
 use Rattle.thumb_instr.specs.declared.kind.Parts.{Parts}
 use Rattle.thumb_table.specs.declared.row.OperandPosition.{OperandPosition}
@@ -24,7 +24,7 @@ use Rattle.thumb_instr.specs.declared.operation.Barrier.TheVariants as barrier
 use Rattle.thumb_instr.specs.declared.operation.Special.TheVariants as special
 use Rattle.thumb_instr.specs.Parts.{parts_of}
 
--- how many bits a piece has, and a row
+-- the width in bits of a piece, and of a row
 abbrev pub width_of : Piece → ℕ
 width_of (Fixed w x) = w
 width_of (Bits w o from least) = w
@@ -45,21 +45,21 @@ number position.Third m = m.third
 abbrev pub same : ℕ → ℕ → ℕ
 same a b = if a == b then 1 else 0
 
--- what a piece holds of an instruction
+-- the value of a piece in the code of an instruction
 abbrev pub value_of : Piece → Parts → ℕ
 value_of (Fixed w x) m = x
 value_of (Bits w o from least) m = number o m / 2 ^ from % 2 ^ w
 value_of (Amount w o) m = number o m % 2 ^ w
 value_of (Same o a b) m = same (number o m / 2 ^ a % 2) (number o m / 2 ^ b % 2)
 
--- the number that the pieces make of an instruction
+-- the number that the pieces form for an instruction
 unfoldable pub packed : List Piece → Parts → ℕ
 packed [] m = 0
 packed (p ∷ ps) m = value_of p m * 2 ^ width ps + packed ps m
 
 -- ---- the rows ----
 
--- a low register, and the highest bit of a register where it stands apart
+-- a low register, and the highest bit of a register where the encoding keeps it apart
 abbrev first : Piece
 first = Bits 3 position.First 0 0
 
@@ -172,17 +172,17 @@ pieces (kind.ReadSpecial special.Primask) = Fixed 16 0xF3EF ∷ Fixed 4 0b1000 �
 pieces (kind.ReadSpecial special.Ipsr) = Fixed 16 0xF3EF ∷ Fixed 4 0b1000 ∷ Bits 4 position.First 0 0 ∷ Fixed 8 0b00000101 ∷ []
 pieces kind.WriteMask = Fixed 12 0b111100111000 ∷ Bits 4 position.First 0 0 ∷ Fixed 16 0x8810 ∷ []
 
--- the row of an instruction, and the number that it makes of it
+-- the row of an instruction, and the number that it forms
 abbrev pub row_of : Instr → List Piece
 row_of i = pieces (parts_of i).kind
 
 abbrev pub code_of : Instr → ℕ
 code_of i = packed (row_of i) (parts_of i)
 
--- a row's bits in two halfwords, of which a short row has the first alone
+-- a row's bits in two halfwords: a row of 16 bits has only the first
 abbrev pub whole : List Piece → ℕ → ℕ → ℕ
 whole ps first second = if width ps == 16 then first else first * 65536 + second
 
--- the halfwords are the instruction's, of which a short one has the first alone
+-- the halfwords encode the instruction, which may need only the first
 pub record Encodes (i : Instr) (first second : ℕ) : Type 0 where
   pub is : code_of i ≡ whole (row_of i) first second

@@ -1,4 +1,4 @@
-//! Rows of bits, packed into codes and taken apart again. That one undoes the other is proved here once, for every row.
+//! Packs instructions into codes by rows of bits, and unpacks them. That these are inverse is proved here once, for every row.
 ghost use Rattle.std.specs.Prelude.{◌≡◌, ◌+◌, ◌%◌, ◌<◌, ◌≤◌, ◌^◌, true, if◌then◌else◌};
 ghost use Rattle.thumb_table.specs.Table.{width_of, width, number, same, value_of, packed};
 ghost use Rattle.thumb_table.specs.ReadBits.{holds, agrees, is_operand, is_about, told, read_on, is_narrow, are_narrow, most_of, most};
@@ -50,7 +50,7 @@ fn lowest(number: u64, bits: u32) -> u64
     number % (1 << bits)
 }
 
-/// Whether a number has the bits of a row, which is `wide` bits wide.
+/// Whether a number agrees with a row, whose width in bits is `wide`: it has the row's fixed bits and least values.
 #[tactic(auto, unfolding(crate::specs::ReadBits::agrees))]
 pub fn agrees(pieces: &[Piece], wide: u32, code: u32) -> bool
     requires wide { wide ≡ width pieces.now }
@@ -88,7 +88,7 @@ fn same(a: u64, b: u64) -> u64
     if a == b { 1 } else { 0 }
 }
 
-/// What a piece holds of an instruction.
+/// The value of a piece in the code of an instruction.
 fn value_of(piece: &Piece, parts: &Parts) -> u64
     requires narrow { is_narrow piece.now ≡ true }
     ensures value { result ≡ value_of piece.now parts.now }
@@ -106,7 +106,7 @@ fn value_of(piece: &Piece, parts: &Parts) -> u64
     }
 }
 
-/// The number that a row, which is `wide` bits wide, makes of an instruction.
+/// The code of an instruction by a row, whose width in bits is `wide`.
 #[tactic(auto, using(crate::proofs::Rows::packed_word), unfolding(crate::specs::Table::packed, crate::specs::ReadBits::are_narrow))]
 pub fn packed(pieces: &[Piece], wide: u32, parts: &Parts) -> u32
     requires wide { wide ≡ width pieces.now }
@@ -123,7 +123,7 @@ pub fn packed(pieces: &[Piece], wide: u32, parts: &Parts) -> u32
     code as u32
 }
 
-/// Whether a piece holds bits of a register or number.
+/// Whether a piece holds bits of this register or number.
 fn is_about(operand: OperandPosition, piece: &Piece) -> bool
     ensures { result ≡ is_about operand piece.now }
 {
@@ -146,7 +146,7 @@ fn is_operand(one: OperandPosition, other: OperandPosition) -> bool
     }
 }
 
-/// What is known of a register or number after a piece that holds `value`, where `known` was known before.
+/// A register or number so far, after a piece with this value; `known` is what earlier pieces gave.
 fn told(operand: OperandPosition, piece: &Piece, value: u64, known: u64) -> u64
     requires narrow { is_narrow piece.now ≡ true }
     requires value { value < 2 ^ width_of piece.now }
@@ -165,7 +165,7 @@ fn told(operand: OperandPosition, piece: &Piece, value: u64, known: u64) -> u64
     }
 }
 
-/// The register or number that a code holds by a row, which is `wide` bits wide.
+/// The register or number in a code by a row, whose width in bits is `wide`.
 #[tactic(auto, unfolding(crate::specs::ReadBits::read_on, crate::specs::ReadBits::are_narrow))]
 pub fn read(operand: OperandPosition, pieces: &[Piece], wide: u32, code: u32) -> u32
     requires wide { wide ≡ width pieces.now }

@@ -1,4 +1,4 @@
-//! Instructions to codes and back, both by the rows of `table`, bit by bit.
+//! Encodes instructions and decodes halfwords, both by the rows of `table`.
 ghost use Rattle.std.specs.Prelude.{◌≡◌, ◌+◌, ◌*◌, ◌^◌, ◌==◌, ◌<◌, ◌≤◌, Some, IfSome, IfNone, if◌then◌else◌};
 ghost use Rattle.thumb_instr.specs.declared.instr.Instr.{Instr};
 ghost use Rattle.thumb_table.specs.Table.{width, packed, pieces, Encodes};
@@ -9,7 +9,7 @@ use crate::row::{Code, OperandPosition, Piece};
 use crate::table::{kinds_at, pieces};
 use thumb_instr::{Instr, Kind, Parts, parts, rebuilt};
 
-/// The code that a kind's row makes of its registers and numbers.
+/// The code of an instruction, by its kind's row.
 #[tactic(auto, using(crate::proofs::Apart::width_most, crate::proofs::Apart::narrow, crate::proofs::Apart::packed_half, crate::proofs::Apart::width_long))]
 fn coded(parts: &Parts) -> Code
     ensures long { width (pieces parts.now.kind) ≡ 16 * halfwords result }
@@ -32,7 +32,7 @@ pub fn encode(instr: &Instr) -> Code
     coded(&parts(instr))
 }
 
-/// Whether a first halfword has the fixed bits that a row begins with.
+/// Whether a first halfword has the row's leading fixed bits: a quick test before the whole row is compared.
 fn begins_with(row: &[Piece], first: u16) -> bool
     ensures { result ≡ begins_with row.now first }
 {
@@ -42,7 +42,7 @@ fn begins_with(row: &[Piece], first: u16) -> bool
     }
 }
 
-/// The code in two halfwords by a row that is `wide` bits wide: a short row has the first halfword alone.
+/// The code in two halfwords by a row, whose width in bits is `wide`: a row of 16 bits has only the first halfword.
 fn whole(wide: u32, first: u16, second: u16) -> u32
     ensures { result ≡ (if wide == 16 then first else first * 65536 + second) }
 {
@@ -53,7 +53,7 @@ fn whole(wide: u32, first: u16, second: u16) -> u32
     }
 }
 
-/// The registers and numbers that a code holds by the row of its kind.
+/// The registers and numbers that a code holds by a kind's row.
 #[tactic(auto, using(crate::proofs::Apart::narrow, crate::proofs::Apart::most_small))]
 fn read_parts(kind: Kind, row: &[Piece], wide: u32, code: u32) -> Parts
     requires row { row.now ≡ pieces kind }
@@ -70,7 +70,7 @@ fn read_parts(kind: Kind, row: &[Piece], wide: u32, code: u32) -> Parts
     }
 }
 
-/// The instruction of a kind that two halfwords encode, if there is one.
+/// The instruction of this kind that two halfwords encode, if any.
 #[tactic(auto, using(crate::proofs::Apart::width_most, crate::proofs::Apart::narrow, crate::proofs::Apart::whole_word, crate::proofs::Codes::unbegun_is_not, crate::proofs::Codes::unlike_is_not, crate::proofs::Codes::unmade_is_not, crate::proofs::Codes::made_encodes, crate::proofs::Codes::other_is_not))]
 fn read_as(kind: Kind, first: u16, second: u16) -> Option<Instr>
     ensures some { IfSome result (λ i. Encodes i first second) }
@@ -98,7 +98,7 @@ fn read_as(kind: Kind, first: u16, second: u16) -> Option<Instr>
     }
 }
 
-/// The instruction that two halfwords encode, if there is one; where the first alone encodes one, the second may be anything.
+/// The instruction that two halfwords encode, if any. Where the first alone is a code, the second is ignored.
 pub fn decode(first: u16, second: u16) -> Option<Instr>
     ensures some { IfSome result (λ i. Encodes i first second) }
     ensures none { IfNone result (IsNoCode first second) }

@@ -1,4 +1,4 @@
-//! Laws of codes and instructions together, each as the contract of a function.
+//! What is proved of encoding and decoding together, as functions' contracts.
 ghost use Rattle.std.specs.Prelude.{◌≡◌, Some};
 ghost use Rattle.thumb_table.specs.Decoding.{AreApart};
 
@@ -6,7 +6,7 @@ use crate::code::{decode, encode};
 use crate::row::Code;
 use thumb_instr::Instr;
 
-/// An instruction's code decodes to the instruction, whatever follows a code of one halfword.
+/// An instruction's code is decoded as that instruction, whatever halfword follows a code of one halfword.
 #[tactic(auto, using(crate::proofs::Codes::code_encodes))]
 pub fn decoding_reads_back(instr: &Instr, following: u16) -> Option<Instr>
     ensures { result ≡ Some instr.now }
@@ -17,7 +17,7 @@ pub fn decoding_reads_back(instr: &Instr, following: u16) -> Option<Instr>
     }
 }
 
-/// No halfwords have the fixed bits of two rows, so that a code has one row at most.
+/// No halfword, or pair of halfwords, agrees with two rows.
 #[tactic(auto, using(crate::proofs::Apart::one_row))]
 pub fn rows_are_apart()
     ensures { AreApart }

@@ -1,4 +1,4 @@
-//! The encodings of instructions: each row of the table stands once, as pieces of bits from the highest, and both directions read it.
+//! The encodings of instructions: one table of rows, each a list of pieces of bits from the highest, which both encoding and decoding read.
 #![tactic(auto)]
 
 mod bits;

@@ -1,5 +1,5 @@
-//! The manual's encodings as rows, one a kind of instruction: its fixed bits, and where its registers and numbers lie. Encoding and decoding go by the same
-//! row, so that neither can differ from the other.
+//! The manual's encodings as rows, one for each kind of instruction: its fixed bits, and where its registers and numbers lie. Encoding and decoding use the
+//! same rows, so neither can differ from the other.
 ghost use Rattle.std.specs.Prelude.{◌≡◌, ◌<◌};
 ghost use Rattle.thumb_table.specs.Table.{pieces};
 ghost use Rattle.thumb_table.specs.Kinds.{kinds_at};
@@ -11,7 +11,7 @@ use thumb_instr::{
     OffsetAccess, Operation, Reversal, Right, Special, SumOperation, WordAccess,
 };
 
-/// A low register that is the first of its instruction's text.
+/// A low register that is the first operand of its instruction's text.
 const FIRST: Piece = Bits(3, First, 0, 0);
 
 /// A low register that is the second.
@@ -20,10 +20,10 @@ const SECOND: Piece = Bits(3, Second, 0, 0);
 /// A low register that is the third.
 const THIRD: Piece = Bits(3, Third, 0, 0);
 
-/// The highest bit of the first register, where it stands apart.
+/// The highest bit of the first register, where the encoding keeps it apart from the others.
 const HIGH: Piece = Bits(1, First, 3, 0);
 
-/// The kinds by the upper four bits of their rows.
+/// The kinds whose codes begin with these four bits.
 #[tactic(auto, unfolding(crate::specs::Kinds::kinds))]
 pub fn kinds_at(upper: u32) -> &'static [Kind]
     requires { upper < 16 }

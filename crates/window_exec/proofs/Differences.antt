@@ -19,7 +19,7 @@ differs_anywhere mask v w =
 pub either : {D : Type 0} (a b : Bool) → (a ≡ true → D) → (b ≡ true → D) → (a || b) ≡ true → D
 either a b f g h = elim (or_cases a b h) [ inl l ↦ f l | inr r ↦ g r ]
 
--- what holds of each item of masks
+-- what holds of every item that a mask may have, by cases
 pub of_four : (P : ℕ → Type 0) → P 0 → P 1 → P 2 → P 3 → (x : ℕ) → x < 4 → P x
 of_four P a b c d zero h = a
 of_four P a b c d (suc zero) h = b
@@ -45,7 +45,7 @@ shows mask v w x h =
     let parts = and_parts (has mask x) (not (v x == w x)) h in
     (x, parts.0, λ e. let same : (v x == w x) ≡ true = eq-eqb (v x) (w x) e in absurd (cc))
 
--- and one that differs makes its test succeed
+-- an item that differs makes its test succeed
 succeeds : (mask : ℕ) (v w : Values) (x : ℕ) → has mask x ≡ true → (v x ≡ w x → ⊥) → differs_at mask v w x ≡ true
 succeeds mask v w x h n = elim (cases_Bool (v x == w x)) [
   | inl same ↦ absurd (n (eqb-true (v x) (w x) same))

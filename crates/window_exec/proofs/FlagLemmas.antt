@@ -1,4 +1,4 @@
--- The bits above the flags mean nothing.
+-- Clearing the bits above the flags changes no item.
 use Rattle.std.proofs.Common.{◌≡◌, ◌==◌, ℕ, ◌%◌, List, arith, slice_index, if◌then◌else◌}
 use Rattle.std.specs.Int.{bit_at}
 use Rattle.thumb_model.specs.Effect.{Values, n_flag, z_flag, c_flag, v_flag}

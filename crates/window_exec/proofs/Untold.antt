@@ -1,4 +1,4 @@
--- Two sequences are equal exactly where no state tells them apart.
+-- The proof of `EqualIsUntold`: two sequences are equal exactly where no state tells them apart.
 use Rattle.std.proofs.Common.{◌≡◌, ◌∙◌, ◌==◌, ℕ, List, sym, inl, inr, true≢false, eq-eqb, eqb-true}
 use Rattle.std.specs.Prelude.{◌↔◌}
 use Rattle.std.proofs.lemmas.Bool.{cases_Bool}

@@ -1,4 +1,4 @@
--- An instruction that may stand in a window looks at registers and flags alone, as `computes` asks.
+-- An instruction that may stand in a window is one that computes.
 use Rattle.std.proofs.Common.{◌≡◌, true, refl}
 use Rattle.thumb_instr.specs.declared.instr.Instr.{Instr}
 use Rattle.thumb_instr.specs.declared.instr.Instr.TheVariants as instr

@@ -1,4 +1,4 @@
--- The instruction that stands for both encodings of an effect has that effect.
+-- Of two encodings with one effect a table uses one, the normal form: it has the same effect.
 use Rattle.std.specs.Prelude.{◌≡◌}
 use Rattle.thumb_instr.specs.declared.instr.Instr.{Instr}
 use Rattle.thumb_instr.specs.Window.{normal_of}

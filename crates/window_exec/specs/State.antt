@@ -1,4 +1,4 @@
--- States of a window, what each holds item by item, and what tells two sequences apart.
+-- States of a window, what each holds item by item, and when a state tells two sequences apart.
 use Rattle.std.specs.Prelude.{ℕ, List, ◌==◌, slice_index, if◌then◌else◌, ◌≡◌, ◌≢◌, true}
 use Rattle.std.specs.Int.{bit_at}
 use Rattle.window_exec.specs.declared.state.WState.{WState}
@@ -34,10 +34,10 @@ seen s = record { r = s.r; nzcv = s.nzcv }
 
 -- What tells two sequences apart.
 
--- some item of the mask has another value
+-- some item of the mask has different values
 abbrev pub Differ : Values → Values → ℕ → Type 0
 Differ v w mask = (x : ℕ) × (has mask x ≡ true) × (v x ≢ w x)
 
--- some item of the mask differs after the two
+-- some item of the mask differs after the two sequences
 abbrev pub Tells : Values → List Instr → List Instr → ℕ → Type 0
 Tells v left right mask = Differ (after_all left v) (after_all right v) mask

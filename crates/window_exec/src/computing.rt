@@ -1,4 +1,4 @@
-//! What an instruction that looks at registers and flags alone does to any register file: of one state, of eight, or of the machine.
+//! What an instruction that looks at registers and flags alone does to any file of registers: windows, the machine and `fingerprints` share it.
 ghost use Rattle.std.specs.Prelude.{◌≡◌, ℕ, ◌<◌, ◌≤◌, true, false};
 ghost use Rattle.word_bits.specs.Word.{shift_of};
 ghost use Rattle.thumb_instr.specs.Window.{named, AreBelow};
@@ -39,7 +39,7 @@ pub fn computes(instr: &Instr) -> bool
     }
 }
 
-/// Does an instruction that looks at the registers which it names and at flags alone, and goes on, in each state. The file has these registers.
+/// Does an instruction that looks only at flags and at the registers which it names, and goes on, in each state. The file must have these registers.
 #[inline(always)]
 pub fn compute<F: RegisterFile>(file: &mut F, instr: &Instr)
     requires computes { computes instr.now ≡ true }
@@ -154,7 +154,7 @@ fn set_result<F: RegisterFile>(file: &mut F, target: u32, value: F::Value)
     file.set_register(target, value);
 }
 
-/// Puts a shifted value into a register, and sets N and Z by it and C to the carry out.
+/// Puts the value of a shift into a register, sets N and Z by it, and C to the last bit that was shifted out.
 #[inline(always)]
 fn set_shift<F: RegisterFile>(file: &mut F, target: u32, moved: <F::Value as Word>::Moved)
     requires { target < F.count }

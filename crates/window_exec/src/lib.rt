@@ -1,4 +1,4 @@
-//! What the instructions of a window do to the registers r0 to r3 and the flags, by the machine's own operations.
+//! What the instructions of a window do to the registers r0 to r3 and the flags. The machine runs the same code over all its registers.
 #![tactic(auto)]
 
 mod computing;

@@ -1,10 +1,10 @@
-//! The operations of instructions on the word of one state. The steps are written once, over any kind of word: `fingerprints` has the words of eight states
-//! side by side.
+//! The operations of instructions on the word of one state. Instructions are written once, over any kind of word: `fingerprints` computes on the words
+//! of eight states side by side.
 
 use crate::words::Word;
 use word_bits::{Shift, Sum, shift_c};
 
-/// Each number is that of the one state.
+/// The word stands for one state, whatever its number.
 impl Word for u32 {
     type Flag = bool;
 

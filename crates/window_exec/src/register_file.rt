@@ -1,4 +1,4 @@
-//! What the computation of an instruction asks of registers and flags.
+//! What the computation of an instruction needs of registers and flags: so it's written once for a window's, a machine's, and those of several states.
 ghost use Rattle.std.specs.Prelude.{◌≡◌, ℕ, ◌<◌, ◌==◌, [], ◌∷◌};
 ghost use Rattle.std.specs.Int.{bit_at, from_bool};
 ghost use Rattle.thumb_model.specs.Effect.{Values, assigned, c_flag, result_flags, sum_flags};
@@ -15,12 +15,12 @@ pub fn flags(value: u32, c: bool, v: bool) -> u8
     u8::from(value >> 31 == 1) << 3 | u8::from(value == 0) << 2 | u8::from(c) << 1 | u8::from(v)
 }
 
-/// Registers from r0 on, as many as `count` says, and the flags N, Z, C and V, of each of some states.
+/// The first `count` registers from r0 on, and the flags N, Z, C and V, of each of some states.
 pub trait RegisterFile {
     /// What a register holds.
     type Value: Word;
 
-    // the values in a state, by its number, as of words
+    // the values in a state, by its number, which counts as that of `Word` does
     ghost values: { Self → ℕ → Values };
 
     // how many registers there are

@@ -1,4 +1,4 @@
-//! Sequences of instructions on one state, and whether a state tells two of them apart: what an audit and a learner ask most.
+//! Sequences of instructions on one state, and whether a state tells two of them apart: what the audit and the learner call most.
 ghost use Rattle.std.specs.Prelude.{◌≡◌, ◌<◌, ◌≤◌, ◌↔◌, ◌==◌, ◌&&◌, not, IsTrue};
 ghost use Rattle.thumb_instr.specs.Items.{has};
 ghost use Rattle.thumb_model.specs.Effect.{after_all, AreOver};

@@ -1,4 +1,4 @@
-//! One instruction on one state: what the manual's pseudocode makes of registers and flags.
+//! One instruction on one state of a window.
 ghost use Rattle.std.specs.Prelude.{◌≡◌, ◌<◌, true};
 ghost use Rattle.thumb_instr.specs.Window.{is_in_window, named, AreBelow};
 ghost use Rattle.thumb_model.specs.Effect.{after};

@@ -1,4 +1,4 @@
-//! What the computation of an instruction asks of words: one word, or a word of each of several states.
+//! What the computation of an instruction needs of words: those of one state, or of several side by side.
 ghost use Rattle.std.specs.Prelude.{◌≡◌, ℕ, Bool, false, ◌<◌, ◌≤◌, ◌-◌, ◌*◌, ◌/◌, ◌%◌, ◌^◌, bit_and, bit_or, bit_xor};
 ghost use Rattle.word_bits.specs.declared.Sum.{Sum as WordSum};
 ghost use Rattle.word_bits.specs.declared.Shift.TheVariants as kinds;
@@ -6,8 +6,8 @@ ghost use Rattle.word_bits.specs.Word.{sum_of, shift_of, sign_extended, reversed
 
 use word_bits::Shift;
 
-/// A word of each of some states, with what is computed of it in each. The states are numbered from 0 on, and round: after the last the first comes
-/// again, so that each number is a state's.
+/// A word of each of some states, and the operations on it. The states are numbered from 0 on, cyclically: after the last the first comes again, so that
+/// each number is a state's.
 pub trait Word: Copy {
     /// A flag of each state.
     type Flag: Copy;

@@ -14,7 +14,7 @@ use Rattle.word_bits.proofs.Words.{top, halves, mod_moved}
 lsl_value : (x i j : ℕ) → shifted Lsl (shifted Lsl x i) j ≡ shifted Lsl x (i + j)
 lsl_value x i j = mul-mod_first (x * 2 ^ i) (2 ^ j) (2 ^ 32) ∙ ap (λ a. a % 2 ^ 32) (rw (pow-add 2 i j) (omega arith))
 
--- whole words above the low one do not reach the bit that is moved out
+-- the bits above the low word don't affect the bit that is moved out
 word_above : (q r j : ℕ) → 0 < j → bit_at (r * 2 ^ j) 32 ≡ bit_at ((q * 2 ^ 32 + r) * 2 ^ j) 32
 word_above q r j h = rw (halves j h) (omega arith)
 
@@ -26,7 +26,7 @@ lsl_out_again x i j h =
 
 -- ---- LSR
 
--- the bit below the place i + j of a number, after it is moved down by i
+-- after a shift right by i, bit j - 1 is what was bit i + j - 1
 bit_below : (x i j : ℕ) → 0 < j → bit_at (x / 2 ^ i) (j - 1) ≡ bit_at x (i + j - 1)
 bit_below x i j h = let e : i + (j - 1) ≡ i + j - 1 = omega arith in ap (λ a. a % 2) (shr-shr x i (j - 1)) ∙ ap (λ k. bit_at x k) e
 
@@ -52,7 +52,7 @@ top_stays x i h =
     rw (one, bit) refl)
     (top x h)
 
--- more copies of the highest bit
+-- the copies of the highest bit of two extensions, as those of one
 more_copies : (x b w p q : ℕ) → w ≤ w * p → w ≤ w * q → x + b * (w * p * q - w) ≡ (x + b * (w * p - w)) + b * (w * q - w) * p
 more_copies x b w p q h k =
     let c : ℕ = w * p - w in
@@ -63,7 +63,7 @@ more_copies x b w p q h k =
     let whole : w * p * q - w ≡ d * p + c = omega (arith, first, both) in
     rw whole (omega arith)
 
--- the copies of the highest bit, after a shift
+-- an arithmetic shift followed by an extension, as one extension
 extended_again : (x i j : ℕ) → x < 2 ^ 32 → extended (shifted Asr x i) j ≡ extended x (i + j) / 2 ^ i
 extended_again x i j h =
     let b : ℕ = bit_at x 31 in
@@ -152,7 +152,7 @@ ror_value x i (suc j) h =
 
 -- ---- every kind
 
--- the value and the bit that is moved out last, of the second shift
+-- the value after the second shift, and the last bit that it moves out
 value_again : (kind : Shift) (x i j : ℕ) → x < 2 ^ 32 → shifted kind (shifted kind x i) j ≡ shifted kind x (i + j)
 value_again Lsl x i j h = lsl_value x i j
 value_again Lsr x i j h = shr-shr x i j

@@ -4,6 +4,6 @@ use Rattle.bit_blast.specs.Differences.{variables_from}
 use Rattle.bit_blast.specs.Exactness.{number_of}
 use Rattle.bit_blast.proofs.state.number.Given as goal
 
--- the number of the first bits
+-- `number` is the number of the bits read so far
 abbrev pub invariant-loop-i : goal.invariant-loop-i
 invariant-loop-i l = l.number ≡ number_of (assigned l.model) (variables_from l.first l.i)

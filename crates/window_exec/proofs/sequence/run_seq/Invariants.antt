@@ -3,7 +3,7 @@ use Rattle.thumb_model.specs.Effect.{after_all, AreOver}
 use Rattle.window_exec.specs.State.{values_of}
 use Rattle.window_exec.proofs.sequence.run_seq.Given as goal
 
--- the instructions that are left lead from the state to the same end
+-- the instructions that are left lead from the current state to the end of the whole run
 abbrev pub invariant-loop-instr : goal.invariant-loop-instr
 invariant-loop-instr l = record {
   over : AreOver 4 (drop l.instr-index l.seq);

@@ -3,7 +3,7 @@ use Rattle.bit_blast.specs.Slots.{AreSlotsOver}
 use Rattle.bit_blast.specs.Forming.{formed_all}
 use Rattle.bit_blast.proofs.bits.Bits.form_all.Given as goal
 
--- the slots that are left lead from the bits to the same end
+-- forming the remaining slots from the current bits gives the same end as forming all slots from the first bits
 abbrev pub invariant-loop-slot : goal.invariant-loop-slot
 invariant-loop-slot l = record {
   count : length l.self.r ≡ length l.fn.self.r;
