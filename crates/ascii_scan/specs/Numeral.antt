@@ -1,5 +1,5 @@
 -- Numerals: decimal without a leading zero, or `0x` and hexadecimal digits of either case.
-use Rattle.std.specs.Prelude.{ℕ, ◌^◌, ◌&&◌, ◌==◌, Bool, false, List, [], ◌∷◌, length, Option, Some, None, if◌then◌else◌, nat_lt}
+use Rattle.std.specs.Prelude.{ℕ, ◌+◌, ◌^◌, ◌&&◌, ◌==◌, Bool, false, List, [], ◌∷◌, length, Option, Some, None, if◌then◌else◌, nat_lt}
 use Rattle.std.specs.List.{list_all}
 use Rattle.std.specs.Char.{is_digit}
 use Rattle.std.specs.Str.Parse.{digits_value}
@@ -30,3 +30,7 @@ numeral_by bytes (Some ds) = in_base 16 ds
 
 abbrev pub numeral : List ℕ → Option ℕ
 numeral bytes = numeral_by bytes (hexadecimal bytes)
+
+-- a hexadecimal digit: `0` to `9` and `a` to `f`
+abbrev pub hex_digit : ℕ → ℕ
+hex_digit d = if nat_lt d 10 then d + 48 else d + 87

@@ -1,8 +1,8 @@
 //! Numerals of listings, tables and command lines: one reader for all, so that they accept the same spellings.
-ghost use Rattle.std.specs.Prelude.{◌≡◌, ◌≤◌};
+ghost use Rattle.std.specs.Prelude.{◌≡◌, ◌<◌, ◌≤◌};
 ghost use Rattle.std.specs.List.{list_all};
 ghost use Rattle.std.specs.Char.{is_digit};
-ghost use Rattle.ascii_scan.specs.Numeral.{in_base, numeral};
+ghost use Rattle.ascii_scan.specs.Numeral.{hex_digit, in_base, numeral};
 
 fn all_digits(bytes: &[u8], radix: u32) -> bool
     requires low { 2 ≤ radix }
@@ -37,5 +37,17 @@ pub fn number(bytes: &[u8]) -> Option<u32>
         [b'0', b'x', digits_after @ ..] => digits(digits_after, 16),
         [b'0', _, ..] => None,
         _ => digits(bytes, 10),
+    }
+}
+
+/// The hexadecimal digit of a number below 16, in lower case.
+pub fn hex_digit(digit: u32) -> u8
+    requires { digit < 16 }
+    ensures { result ≡ hex_digit digit }
+{
+    if digit < 10 {
+        digit as u8 + b'0'
+    } else {
+        digit as u8 + (b'a' - 10)
     }
 }

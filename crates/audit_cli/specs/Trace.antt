@@ -1,5 +1,6 @@
 -- The outcome of `trace`: the events of a run of a listing, from a fixed state and with fixed answers, so that the trace is determined.
 use Rattle.std.specs.Prelude.{ℕ, zero, suc, ◌+◌, ◌==◌, ◌||◌, nat_lt, List, [], ◌∷◌, if◌then◌else◌, ◌≡◌, ◌<◌, ◌≤◌, false, true, ◌++◌, Some, ◌/◌, ◌%◌, codes, None}
+use Rattle.ascii_scan.specs.Numeral.{hex_digit}
 use Rattle.thumb_model.specs.Effect.{Values, sp, lr}
 use Rattle.thumb_model.specs.Naming.{Naming}
 use Rattle.thumb_model.specs.States.{Answer, World, State, Event, Stay, Load, Store, Call, Sys, Left, Fault, Astray, Fell}
@@ -58,10 +59,6 @@ pub record IsRun (names : Naming) (code : Code) (start : State) (most n : ℕ) (
   pub stands : StandsAfter names code most n (times (step names code) n start) s
 
 -- ---- words ----
-
--- 0 to 9 and a to f
-abbrev pub hex_digit : ℕ → ℕ
-hex_digit d = if nat_lt d 10 then 48 + d else 87 + d
 
 -- eight hexadecimal digits, the highest first
 abbrev pub word_text : ℕ → List ℕ

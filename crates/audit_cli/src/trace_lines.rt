@@ -1,23 +1,12 @@
 //! The lines that `trace` prints: one for each event, and a last one for the number of steps and how the run stands.
-ghost use Rattle.std.specs.Prelude.{◌≡◌, ◌<◌, ◌+◌, ◌++◌, codes, IfOk, OnOk};
+ghost use Rattle.std.specs.Prelude.{◌≡◌, ◌++◌, codes, IfOk, OnOk};
 ghost use Rattle.thumb_machine.specs.Outside.{event_of, events_of};
 ghost use Rattle.audit_cli.specs.Printed.{printed, and_number};
-ghost use Rattle.audit_cli.specs.Trace.{hex_digit as hex_digit_of, word_text as word_text_of, and_word, and_words, event_line, event_lines as event_lines_of, stage_word as stage_word_of, steps_line as steps_line_of};
+ghost use Rattle.audit_cli.specs.Trace.{word_text as word_text_of, and_word, and_words, event_line, event_lines as event_lines_of, stage_word as stage_word_of, steps_line as steps_line_of};
 
+use ascii_scan::hex_digit;
 use std::alloc::{AllocError, Global};
 use thumb_machine::{Event, Stage};
-
-/// A hexadecimal digit, in lower case.
-fn hex_digit(digit: u32) -> u8
-    requires { digit < 16 }
-    ensures { result ≡ hex_digit_of digit }
-{
-    if digit < 10 {
-        b'0' + digit as u8
-    } else {
-        b'a' - 10 + digit as u8
-    }
-}
 
 /// A word's eight digits, the highest first.
 fn word_text(word: u32) -> [u8; 8]

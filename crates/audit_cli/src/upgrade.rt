@@ -12,9 +12,7 @@ use command_runs::Outcome;
 use rule_table::{Table, write_table};
 use std::alloc::{AllocError, Global};
 use step_ledger::{Ledger, Steps};
-
-/// The most bytes of a text that the program reads, and so of one that it keeps here.
-const TEXT_LIMIT: u64 = 67_108_864;
+use table_learn::TEXT_LIMIT;
 
 /// The command `upgrade`, with the name that the table is kept under.
 #[derive(Drop)]

@@ -1,16 +1,21 @@
 //! Tests `Listing::retargeted`, which requires that there is an instruction at the place.
-use listing_parser::{parse, print};
+use listing_parser::{Listing, Memory, parse, print};
 use std::alloc::Global;
 use std::test::Fail;
 
-/// The listing with the branch at this place going to the label, as text; None if there is no instruction at the place.
-fn aimed(alloc: Global, text: &[u8], place: u32, name: &[u8]) -> Result<Option<Vec<u8>>, Fail> {
-    let listing = parse(alloc, text)?;
+/// The text of a listing whose branch at this place goes to the label, if an instruction stands there.
+fn aimed(
+    alloc: Global,
+    listing: &Listing,
+    place: u32,
+    name: &[u8],
+) -> Result<Option<Vec<u8>>, Memory> {
     if !listing.is_op(place) {
         return Ok(None);
     }
     let changed = listing.retargeted(alloc, place, name)?;
-    Ok(Some(print(alloc, &changed)?))
+    let text = print(alloc, &changed)?;
+    Ok(Some(text))
 }
 
 #[test]
@@ -31,7 +36,8 @@ fn branches_go_elsewhere(rt: HostRuntime) -> Result<(), Fail> {
         // no instruction at this place
         ("w: .word 1\nfar: bx lr\n", 0, None),
     ] {
-        let found = aimed(rt.alloc(), text.as_bytes(), place, b"far")?;
+        let listing = parse(rt.alloc(), text.as_bytes())?;
+        let found = aimed(rt.alloc(), &listing, place, b"far")?;
         assert_eq!(rt;
             found.as_deref(),
             want.map(|text| text.as_bytes()),

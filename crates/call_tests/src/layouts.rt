@@ -1,9 +1,9 @@
-//! Tests `Layout::change`, whose contract requires that its arguments say how the lines changed: its result is compared with a layout from scratch.
+//! Tests `Layout::change`: its result is compared with a layout from scratch, where places and labels are looked up, which must be the listing's.
 ghost use Rattle.std.specs.Prelude.{◌≡◌, length};
 ghost use Rattle.thumb_model.specs.Listing.{places_of};
 
 use crate::windows::{uxtb, with_one};
-use label_layout::{Layout, layout};
+use label_layout::{Layout, LayoutError, layout};
 use listing_parser::{Listing, ListingLine, parse};
 use std::alloc::Global;
 use std::test::Fail;
@@ -52,17 +52,29 @@ fn are_one(listing: &Listing, laid: &Layout, other: &Layout) -> bool
         && are_one_at_labels(listing, laid, other)
 }
 
+/// Updates the layout of a listing for the one that came of it: where that ends, and whether the layout is that of `layout`.
+fn updated(
+    alloc: Global,
+    listing: &Listing,
+    changed: &Listing,
+    place: u32,
+) -> Result<(u32, bool), LayoutError> {
+    let mut laid = layout(alloc, listing, 4096)?;
+    laid.change(alloc, changed, place, 2, 1)?;
+    let anew = layout(alloc, changed, 4096)?;
+    Ok((laid.end(), are_one(changed, &laid, &anew)))
+}
+
 /// Replaces two instructions, from this place on, with `uxtb r0, r0` and updates the layout: where the listing then ends, and whether the layout is that of
 /// `layout`. None if there is no window of two instructions at the place.
-fn outcome(alloc: Global, text: &[u8], place: u32) -> Result<Option<(u32, bool)>, Fail> {
-    let listing = parse(alloc, text)?;
-    let mut laid = layout(alloc, &listing, 4096)?;
-    let Some(changed) = with_one(alloc, &listing, place, uxtb())? else {
-        return Ok(None);
-    };
-    laid.change(alloc, &changed, place, 2, 1)?;
-    let anew = layout(alloc, &changed, 4096)?;
-    Ok(Some((laid.end(), are_one(&changed, &laid, &anew))))
+fn outcome(alloc: Global, listing: &Listing, place: u32) -> Result<Option<(u32, bool)>, Fail> {
+    match with_one(alloc, listing, place, uxtb())? {
+        None => Ok(None),
+        Some(changed) => {
+            let found = updated(alloc, listing, &changed, place)?;
+            Ok(Some(found))
+        }
+    }
 }
 
 #[test]
@@ -82,8 +94,9 @@ fn layouts_are_brought_up_to_date(rt: HostRuntime) -> Result<(), Fail> {
         ),
         (" lsls r0, r0, #24\nf: lsrs r0, r0, #24\n", 0, None),
     ] {
+        let listing = parse(rt.alloc(), text.as_bytes())?;
         assert_eq!(rt;
-            outcome(rt.alloc(), text.as_bytes(), place)?,
+            outcome(rt.alloc(), &listing, place)?,
             want,
             "{text}{place}"
         );

@@ -9,6 +9,8 @@ mod layouts;
 #[cfg(test)]
 mod live_items;
 #[cfg(test)]
+mod places;
+#[cfg(test)]
 mod propagation;
 #[cfg(test)]
 mod reaching;

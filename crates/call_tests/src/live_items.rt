@@ -1,10 +1,15 @@
 //! Tests `Live::change`, whose contract requires that its arguments say how the lines changed: its result is compared with the sets from scratch.
+ghost use Rattle.std.specs.Prelude.{◌≡◌, true};
+ghost use Rattle.thumb_instr.specs.Window.{is_in_window};
+ghost use Rattle.call_tests.specs.Windows.{GaveWay};
+
 use crate::windows::{uxtb, with_one};
-use listing_parser::parse;
+use listing_parser::{Listing, Memory, parse};
 use liveness::{Live, live};
 use std::alloc::Global;
 use std::test::Fail;
 use step_ledger::{Counted, Steps};
+use thumb_instr::Instr;
 
 /// Whether all sets, before and after each place, are the same.
 fn are_one(sets: &Live, other: &Live) -> bool {
@@ -24,17 +29,22 @@ enum Change {
     Wrong,
 }
 
-/// How the sets of the listing are updated when `uxtb r0, r0` replaces two instructions, from this place on.
-fn outcome(alloc: Global, text: &[u8], place: u32) -> Result<Change, Fail> {
-    let listing = parse(alloc, text)?;
+/// How the sets of a listing are updated for the one that came of it when an instruction replaced two, from this place on.
+fn updated(
+    alloc: Global,
+    listing: &Listing,
+    changed: &Listing,
+    place: u32,
+    _instr: Instr,
+) -> Result<Change, Memory>
+    requires in_window { is_in_window _instr ≡ true }
+    requires gave_way { GaveWay listing.now place _instr changed.now }
+{
     let mut steps = Steps::new(Counted::new());
-    let mut sets = live(alloc, &listing, &mut steps)?;
-    let Some(changed) = with_one(alloc, &listing, place, uxtb())? else {
-        return Ok(Change::NoWindow);
-    };
+    let mut sets = live(alloc, listing, &mut steps)?;
     let mut visits = Steps::new(Counted::new());
-    sets.change(alloc, &changed, place, 2, 1, &mut visits)?;
-    let found = live(alloc, &changed, &mut steps)?;
+    sets.change(alloc, changed, place, 2, 1, &mut visits)?;
+    let found = live(alloc, changed, &mut steps)?;
     if !are_one(&sets, &found) {
         return Ok(Change::Wrong);
     }
@@ -42,6 +52,15 @@ fn outcome(alloc: Global, text: &[u8], place: u32) -> Result<Change, Fail> {
         Ok(Change::Kept)
     } else {
         Ok(Change::FoundAnew)
+    }
+}
+
+/// How the sets of the listing are updated when `uxtb r0, r0` replaces two instructions, from this place on.
+fn outcome(alloc: Global, listing: &Listing, place: u32) -> Result<Change, Memory> {
+    let instr = uxtb();
+    match with_one(alloc, listing, place, instr)? {
+        None => Ok(Change::NoWindow),
+        Some(changed) => updated(alloc, listing, &changed, place, instr),
     }
 }
 
@@ -72,8 +91,9 @@ fn sets_are_brought_up_to_date(rt: HostRuntime) -> Result<(), Fail> {
             Change::NoWindow,
         ),
     ] {
+        let listing = parse(rt.alloc(), text.as_bytes())?;
         assert_eq!(rt;
-            outcome(rt.alloc(), text.as_bytes(), place)?,
+            outcome(rt.alloc(), &listing, place)?,
             want,
             "{text}{place}"
         );

@@ -18,17 +18,29 @@ fn literals(alloc: Global, bits: &[Bit], clause: &str) -> Option<Vec<Bit>> {
     Some(literals)
 }
 
+/// The constant false, and an input for each word.
+fn inputs(alloc: Global, builder: &mut Builder, words: &str) -> Option<Vec<Bit>> {
+    let mut bits = vec![in alloc; Bit::Constant(false)].ok()?;
+    for _ in words.split(" ") {
+        bits.push(builder.input().ok()?).ok()?;
+    }
+    Some(bits)
+}
+
+/// Adds clauses, each given by DIMACS numbers.
+fn add_clauses(alloc: Global, builder: &mut Builder, bits: &[Bit], clauses: &str) -> Option<()> {
+    for clause in clauses.split(" / ") {
+        let literals = literals(alloc, bits, clause)?;
+        builder.or_clause(&literals).ok()?;
+    }
+    Some(())
+}
+
 pub(crate) fn clauses(given: &mut Given, rest: &str) -> Option<()> {
     let (variables, rest) = rest.split_once(" / ")?;
     let mut builder = Builder::new(given.alloc);
-    let mut bits = vec![in given.alloc; Bit::Constant(false)].ok()?;
-    for _ in variables.split(" ") {
-        bits.push(builder.input().ok()?).ok()?;
-    }
-    for clause in rest.split(" / ") {
-        let literals = literals(given.alloc, &bits, clause)?;
-        builder.or_clause(&literals).ok()?;
-    }
+    let bits = inputs(given.alloc, &mut builder, variables)?;
+    add_clauses(given.alloc, &mut builder, &bits, rest)?;
     given.formula = builder.finish();
     Some(())
 }

@@ -1,4 +1,7 @@
 //! Cases of listings and their layout: `printed TEXT`, `refused TEXT`, `laid BASE TEXT` and `addresses BASE TEXT`.
+ghost use Rattle.std.specs.Prelude.{◌≡◌, length};
+ghost use Rattle.thumb_model.specs.Listing.{places_of};
+
 use crate::printing::Answer;
 use crate::reading::Arguments;
 use label_layout::{Layout, LayoutError, LayoutFault, layout};
@@ -48,7 +51,12 @@ pub(crate) fn add_kind(kind: LayoutFault, answer: &mut Answer) -> Option<()> {
 pub(crate) fn laid(alloc: Global, mut arguments: Arguments<'_>, answer: &mut Answer) -> Option<()> {
     let base = arguments.hex()?;
     let listing = listing_of(alloc, arguments)?;
-    match layout(alloc, &listing, base) {
+    add_end(layout(alloc, &listing, base), answer)
+}
+
+/// Adds where a layout ends, or why there is none.
+fn add_end(laid: Result<Layout, LayoutError>, answer: &mut Answer) -> Option<()> {
+    match laid {
         Ok(laid) => answer.hex(laid.end()),
         Err(LayoutError::Line { number, kind }) => {
             answer.number(i64::try_from(number).ok()?)?;
@@ -66,6 +74,24 @@ fn add_labels(laid: &Layout, names: &[Vec<u8>], answer: &mut Answer) -> Option<(
     Some(())
 }
 
+/// Adds the names of a listing's labels with their addresses.
+fn add_lines(listing: &Listing, laid: &Layout, answer: &mut Answer) -> Option<()> {
+    for line in listing.lines() {
+        add_labels(laid, &line.names, answer)?;
+    }
+    Some(())
+}
+
+/// Adds the addresses of a listing's places.
+fn add_places(listing: &Listing, laid: &Layout, answer: &mut Answer) -> Option<()>
+    requires { length laid.now.places ≡ length (places_of listing.now) }
+{
+    for place in 0..listing.place_count() {
+        answer.hex(laid.address(place))?;
+    }
+    Some(())
+}
+
 /// The addresses of a listing's places, and the names of its labels with their addresses.
 pub(crate) fn addresses(
     alloc: Global,
@@ -75,11 +101,6 @@ pub(crate) fn addresses(
     let base = arguments.hex()?;
     let listing = listing_of(alloc, arguments)?;
     let laid = layout(alloc, &listing, base).ok()?;
-    for place in 0..listing.place_count() {
-        answer.hex(laid.address(place))?;
-    }
-    for line in listing.lines() {
-        add_labels(&laid, &line.names, answer)?;
-    }
-    Some(())
+    add_places(&listing, &laid, answer)?;
+    add_lines(&listing, &laid, answer)
 }

@@ -2,6 +2,7 @@
 use crate::listings::listing_of;
 use crate::printing::Answer;
 use crate::reading::Arguments;
+use listing_parser::Listing;
 use liveness::live;
 use std::alloc::Global;
 use std::marker::Brand;
@@ -37,8 +38,13 @@ pub(crate) fn after(
 ) -> Option<()> {
     let place = arguments.number()? as usize;
     let listing = listing_of(alloc, arguments)?;
-    let sets = live(alloc, &listing, &mut Steps::new(Counted::new())).ok()?;
-    add_items(*sets.after_sets().get(place)?, answer)
+    add_items(live_after(alloc, &listing, place)?, answer)
+}
+
+/// The items that are live after a place of a listing.
+fn live_after(alloc: Global, listing: &Listing, place: usize) -> Option<Items> {
+    let sets = live(alloc, listing, &mut Steps::new(Counted::new())).ok()?;
+    sets.after_sets().get(place).copied()
 }
 
 /// The size in bytes of a ledger whose count only contracts see: it has to be 0.

@@ -4,27 +4,39 @@ use crate::printing::Answer as Sheet;
 use crate::reading::Arguments;
 use indexmap::IndexMap;
 use label_layout::layout;
+use listing_parser::Listing;
 use std::alloc::Global;
 use thumb_machine::{Answer, Answers, Bytes, Event, Machine, Naming, Stage, State};
+
+/// Whether the naming that a layout from a base gives fits the listing.
+fn is_named(alloc: Global, listing: &Listing, base: u32) -> Option<bool> {
+    let laid = layout(alloc, listing, base).ok()?;
+    let naming = Naming::laid(alloc, listing, &laid).ok()?;
+    Some(naming.fits(listing))
+}
 
 /// Whether the naming that a layout from a base gives fits the listing.
 pub(crate) fn named(alloc: Global, mut arguments: Arguments<'_>, sheet: &mut Sheet) -> Option<()> {
     let base = arguments.hex()?;
     let listing = listing_of(alloc, arguments)?;
-    let laid = layout(alloc, &listing, base).ok()?;
-    let naming = Naming::laid(alloc, &listing, &laid).ok()?;
-    sheet.bit(naming.fits(&listing))
+    sheet.bit(is_named(alloc, &listing, base)?)
+}
+
+/// Adds a name and its word, as `f=1`.
+fn add_name(alloc: Global, words: &mut IndexMap<Vec<u8>, u32>, pair: &str) -> Option<()> {
+    let (name, word) = pair.split_once('=')?;
+    let word = u32::from_str_radix(word, 16).ok()?;
+    words
+        .insert(name.as_bytes().to_vec(alloc).ok()?, word)
+        .ok()?;
+    Some(())
 }
 
 /// The naming with these words for names, as `f=1,g=5`, and for return points, as `7,9`, and a code range from 0 up to but not including an address.
 fn naming_of(alloc: Global, arguments: &mut Arguments<'_>) -> Option<Naming> {
     let mut words = IndexMap::new(alloc);
     for pair in arguments.word().split(',') {
-        let (name, word) = pair.split_once('=')?;
-        let name = name.as_bytes().to_vec(alloc).ok()?;
-        words
-            .insert(name, u32::from_str_radix(word, 16).ok()?)
-            .ok()?;
+        add_name(alloc, &mut words, pair)?;
     }
     let returns = arguments.numbers(alloc)?;
     Some(Naming::new(words, returns, 0, arguments.number()?))
@@ -120,16 +132,30 @@ fn add_step(machine: &mut Machine, answers: &mut Answers, sheet: &mut Sheet) -> 
     sheet.end_line()
 }
 
+/// Takes so many steps, and adds a line for each, and how many answers are left.
+fn add_steps(
+    machine: &mut Machine,
+    mut answers: Answers,
+    steps: u32,
+    sheet: &mut Sheet,
+) -> Option<()> {
+    for _ in 0..steps {
+        add_step(machine, &mut answers, sheet)?;
+    }
+    sheet.number(i64::try_from(answers.left().len()).ok()?)
+}
+
+/// The machine that stands at the start of the listing that the rest of the arguments are.
+fn machine_of(alloc: Global, arguments: Arguments<'_>, naming: &Naming) -> Option<Machine> {
+    let listing = listing_of(alloc, arguments)?;
+    Machine::new(alloc, &listing, naming, &start(alloc)).ok()
+}
+
 /// The steps of a run, a line each, and how many answers are left.
 pub(crate) fn run(alloc: Global, mut arguments: Arguments<'_>, sheet: &mut Sheet) -> Option<()> {
     let naming = naming_of(alloc, &mut arguments)?;
     let words = arguments.numbers(alloc)?;
-    let mut answers = answers_of(alloc, &words)?;
     let steps = arguments.number()?;
-    let listing = listing_of(alloc, arguments)?;
-    let mut machine = Machine::new(alloc, &listing, &naming, &start(alloc)).ok()?;
-    for _ in 0..steps {
-        add_step(&mut machine, &mut answers, sheet)?;
-    }
-    sheet.number(i64::try_from(answers.left().len()).ok()?)
+    let mut machine = machine_of(alloc, arguments, &naming)?;
+    add_steps(&mut machine, answers_of(alloc, &words)?, steps, sheet)
 }

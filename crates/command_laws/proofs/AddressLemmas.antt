@@ -7,7 +7,6 @@ use Rattle.std.proofs.Math.Nat.{zero-mul, mod-add-div', mod-lt, mod-eq_of_lt, mo
 use Rattle.std.proofs.lemmas.Nat.{mod-mul-add}
 use Rattle.std.proofs.lemmas.Bool.{cases_Bool, leb-true, leb-false, le-leb, ltb-false, le-ltb}
 use Rattle.thumb_instr.specs.declared.instr.Instr.{Instr}
-use Rattle.thumb_instr.specs.declared.instr.Instr.TheVariants as instr
 use Rattle.thumb_instr.specs.Window.{Low, renamed}
 use Rattle.thumb_instr.proofs.RenamingLemmas.{window_renamed}
 use Rattle.thumb_model.specs.Listing.{Name, Mention, Value, Number, OfName, Statement, Nothing, Instruction, Words, Aligns, Sets, ListingLine, Word, Label, places_in, places_of, labels_from, code_of, has_label}

@@ -10,8 +10,6 @@ mod kept;
 pub mod laws;
 mod leading;
 mod set;
-#[cfg(test)]
-mod tests;
 mod words;
 
 pub use kept::KeptPlaces;

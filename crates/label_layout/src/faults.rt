@@ -94,6 +94,7 @@ pub fn find_fault(layout: &Layout, listing: &Listing) -> Option<(u64, LayoutFaul
     ensures { option_map numbered result ≡ first_fault layout.now.base listing.now }
 {
     let mut at = layout.base();
+    // For the prover alone: the call's contract says that the end lies in the Code region.
     let _ = layout.end();
     let mut number = 1;
     for line in listing.lines() {

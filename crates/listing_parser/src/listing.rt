@@ -155,6 +155,7 @@ impl Listing {
     pub fn place_of(&self, name: &[u8]) -> Option<u32>
         ensures { result ≡ place_of (code_of self.now) name.now }
     {
+        // For the prover alone: a read of a field shows the type's invariant, that no name is defined twice.
         let _ = &self.lines;
         match self.label_place(name) {
             None => None,

@@ -183,6 +183,7 @@ pub(crate) fn renew(
     ensures none { (q : ℕ) → marked due.new q ≡ false }
     ensures ahead { IsWired ways.now callers.now → IsAheadBut ways.now forward.old.sets.items due.old → IsAhead ways.now forward.new.sets.items }
 {
+    // For the prover alone: each place that is due lies below the bound, which falls, so the loop ends.
     let mut _bound = ways.len();
     while let Some(place) = due.take_greatest() {
         renew_at(marks, ways, callers, place, forward, due);

@@ -7,7 +7,8 @@ use Rattle.std.proofs.Math.Nat.{pow-suc, pow-zero}
 use Rattle.std.proofs.lemmas.Nat.{div-mul-add, mod-mul-add, mod_below}
 use Rattle.std.proofs.lemmas.List.Folds.{list_all-append, list_all_at}
 use Rattle.std.proofs.lemmas.List.Elements.{All-head, All-tail}
-use Rattle.rule_table.specs.Text.{hex_digit, hex_of, after_blanks}
+use Rattle.ascii_scan.specs.Numeral.{hex_digit}
+use Rattle.rule_table.specs.Text.{hex_of, after_blanks}
 use Rattle.window_exec.specs.State.{Seen}
 use Rattle.rule_table.specs.Text.{State}
 use Rattle.rule_table.specs.Table.{IsState}

@@ -18,7 +18,8 @@ use Rattle.lrat_check.specs.Text.{Content, addition, deletion, IsLine, HasGoodPa
 use Rattle.lrat_check.specs.Numbers.{IsId, IsHint}
 use Rattle.lrat_check.proofs.Numerals.{hint_fits, literal_fits}
 use Rattle.window_exec.specs.State.{Seen}
-use Rattle.rule_table.specs.Text.{hex_digit, hex_of, after_blanks, named}
+use Rattle.ascii_scan.specs.Numeral.{hex_digit}
+use Rattle.rule_table.specs.Text.{hex_of, after_blanks, named}
 use Rattle.lrat_check.proofs.Texts.{own}
 
 pub inside_both : (xs ys : List ℕ) → IsInside xs → IsInside ys → IsInside (xs ++ ys)

@@ -1,6 +1,7 @@
 -- The text of a table: its lines in order, each with a newline at its end.
-use Rattle.std.specs.Prelude.{ℕ, zero, suc, ◌+◌, ◌/◌, ◌%◌, List, [], ◌∷◌, ◌++◌, map, codes, decimal, nat_lt, Option, Some, None, if◌then◌else◌}
+use Rattle.std.specs.Prelude.{ℕ, zero, suc, ◌+◌, ◌/◌, ◌%◌, List, [], ◌∷◌, ◌++◌, map, codes, decimal, Option, Some, None, if◌then◌else◌}
 use Rattle.std.specs.List.{flat_map}
+use Rattle.ascii_scan.specs.Numeral.{hex_digit}
 use Rattle.thumb_instr.specs.declared.instr.Instr.{Instr}
 use Rattle.thumb_instr.specs.Items.{has}
 use Rattle.thumb_syntax.specs.Spelling.{text_of as text_of_shown}
@@ -13,10 +14,7 @@ use Rattle.rule_table.specs.declared.header.HeaderLine.TheVariants as head
 use Rattle.rule_table.specs.Header.{Header, heads, has_line, number_in, row}
 use Rattle.rule_table.specs.Table.{Opened, Rule, Family as Raised, Table}
 
--- a digit of a hexadecimal number, in lower case, and the last n digits of a number
-abbrev pub hex_digit : ℕ → ℕ
-hex_digit d = if nat_lt d 10 then d + 48 else d + 87
-
+-- the last n hexadecimal digits of a number
 unfoldable pub hex_of : ℕ → ℕ → List ℕ
 hex_of zero w = []
 hex_of (suc n) w = hex_of n (w / 16) ++ hex_digit (w % 16) ∷ []

@@ -2,9 +2,10 @@
 ghost use Rattle.std.specs.Prelude.{◌≡◌, ◌++◌, ◌<◌, ◌∷◌, [], decimal, OnOk, map};
 ghost use Rattle.lrat_check.specs.Text.{content_of};
 ghost use Rattle.window_exec.specs.State.{seen};
-ghost use Rattle.rule_table.specs.Text.{hex_digit, hex_of, line_of, instr_text, after_blanks, named};
+ghost use Rattle.rule_table.specs.Text.{hex_of, line_of, instr_text, after_blanks, named};
 ghost use Rattle.rule_table.specs.Text as item;
 
+use ascii_scan::hex_digit;
 use itoa::Buffer;
 use lrat_check::{Line, write_line};
 use std::alloc::{AllocError, Global};
@@ -52,18 +53,6 @@ pub(crate) fn write_logged(alloc: Global, out: &mut Vec<u8>, line: &Line) -> Res
     let text = write_line(alloc, line)?;
     out.extend_from_slice(&text)?;
     Ok(())
-}
-
-/// A hexadecimal digit.
-fn hex_digit(digit: u32) -> u8
-    requires { digit < 16 }
-    ensures { result ≡ hex_digit digit }
-{
-    if digit < 10 {
-        digit as u8 + b'0'
-    } else {
-        digit as u8 + 87
-    }
 }
 
 /// The last `digits` hexadecimal digits of a number.

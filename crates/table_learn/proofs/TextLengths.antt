@@ -19,7 +19,6 @@ use Rattle.seq_enum.specs.Alphabet.{inside}
 use Rattle.seq_enum.proofs.Bounds.{bounds}
 use Rattle.window_exec.specs.State.{Seen}
 use Rattle.rule_table.specs.declared.header.Field.{Field}
-use Rattle.rule_table.specs.declared.header.Field.TheVariants as field
 use Rattle.rule_table.specs.declared.header.HeaderLine.{HeaderLine}
 use Rattle.rule_table.specs.declared.header.HeaderLine.TheVariants as head
 use Rattle.rule_table.specs.Header.{Header, heads, has_line, number_in, row, IsWithin, IsHeader}

@@ -2,7 +2,6 @@
 ghost use Rattle.std.specs.Prelude.{◌≡◌, ◌<◌, ◌≤◌, ◌+◌, ◌-◌, ◌∷◌, ◌++◌, [], List, IfErr, IfOk, drop, length, map};
 ghost use Rattle.rule_table.specs.Table.{IsTable};
 ghost use Rattle.window_exec.specs.State.{seen};
-ghost use Rattle.rule_table.specs.Header.{IsHeader};
 ghost use Rattle.rule_table.specs.Views.{rule_of, table_of};
 ghost use Rattle.table_audit.specs.Shorter.{alphabet_registers};
 ghost use Rattle.table_audit.specs.Acceptance.{width_of};
@@ -28,7 +27,7 @@ use thumb_instr::{Mask, Seq};
 use window_exec::{States, WState};
 
 /// The greatest number of bytes of a table's text.
-const TEXT_LIMIT: u64 = 67_108_864;
+pub const TEXT_LIMIT: u64 = 67_108_864;
 
 /// How many bytes the line of a state has, with its newline.
 const STATE_LINE: u64 = 44;
@@ -53,7 +52,6 @@ fn table_of(alloc: Global, settings: Settings, states: Vec<WState>, entries: Vec
 /// The learner before the first window, with the states of the seed alone.
 fn begin(alloc: Global, settings: Settings) -> Result<(Settings, Learner), AllocError>
     requires limits { AreInLimits (settings_of settings) }
-    ensures header { IfOk result (λ _. IsHeader (settings_of settings)) }
     ensures same { IfOk result (λ r. settings_of r.0 ≡ settings_of settings) }
     ensures begun { IfOk result (λ r. HasLearnt (settings_of settings) [] r.1) }
     ensures short { IfOk result (λ r. r.1.bytes ≤ text_limit) }

@@ -140,6 +140,7 @@ fn is_inside(listing: &Listing, layout: &Layout, address: u32) -> bool
     requires { IsReady listing.now layout.now }
     ensures { result ≡ lies_inside layout.now.base listing.now address }
 {
+    // For the prover alone: the definition names the listing.
     let _ = listing;
     layout.base() <= address && address < layout.end()
 }

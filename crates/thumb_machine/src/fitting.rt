@@ -17,6 +17,7 @@ use listing_parser::{Listing, Place};
 fn are_words(words: &[u32])
     ensures { (k : ℕ) → slice_index words.now k < 2 ^ 32 }
 {
+    // For the prover alone: a read shows the bounds of the type.
     let _ = words;
 }
 

@@ -101,7 +101,7 @@ fn rewritten<L: Ledger>(
 {
     let mut scene = Scene::of(alloc, rules, listing, steady, steps)?;
     let replacements = go_through(alloc, rules, &mut scene, steps)?;
-    let listing = scene.listing.into_listing(alloc)?;
+    let listing = scene.into_listing(alloc)?;
     Ok(Rewritten {
         listing,
         replacements,

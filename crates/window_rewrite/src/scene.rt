@@ -91,6 +91,13 @@ impl Scene {
         })
     }
 
+    /// The listing of the lines now.
+    pub(crate) fn into_listing(self, alloc: Global) -> Result<Listing, Memory>
+        ensures { IfOk result (λ l. l ≡ lines_of self) }
+    {
+        self.listing.into_listing(alloc)
+    }
+
     /// The instructions from a kept place on that may stand in a window, at most as many as a left side has.
     pub(crate) fn run(&mut self, rules: &Rules<'_>, place: u32) -> Run
         requires over { IsOver rules.now self.old }

@@ -1,5 +1,6 @@
 use Rattle.std.proofs.Common.{◌++◌, ◌∷◌, [], ◌-◌, ◌/◌, ◌%◌, ◌<◌, sym, ◌∙◌, ap, arith, append_assoc, append-nil}
-use Rattle.rule_table.specs.Text.{hex_of, hex_digit}
+use Rattle.ascii_scan.specs.Numeral.{hex_digit}
+use Rattle.rule_table.specs.Text.{hex_of}
 use Rattle.rule_table.proofs.HexTexts.{hex_suc}
 use Rattle.rule_table.proofs.lines.«+write_hex».Goals as goal
 

@@ -43,9 +43,6 @@ module _ (c : goal.After-drop-none) where
   is_header : IsHeader (settings_of c.args.settings)
   is_header = c.requires.limits.header
 
-pub returns-clause-header : goal.returns-clause-header
-returns-clause-header c = is_header c
-
 pub returns-clause-same : goal.returns-clause-same
 returns-clause-same c = ap (λ (t : Table). t.header) (taken_apart c)
 

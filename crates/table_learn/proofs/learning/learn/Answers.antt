@@ -56,7 +56,7 @@ returns-then-learner-gt-TEXT_LIMIT-clause-fails g c =
     let width : c.width-width.result ≡ width_of (settings_of c.args.settings) =
     c.width-width.ensures ∙ ap (λ (k : ℕ). length (sequences_below k c.args.settings.pool (lengths_below c.args.settings.costs c.args.settings.left))) c.with_scratch-registers.ensures in
     let narrow : width_of (settings_of c.args.settings) ≤ 5000000 = omega (arith, width, c.if-width-gt-WIDEST.false) in
-    is_full (settings_of c.args.settings) (settings_of c.in_ok-settings.settings) ws (c.loop-left.left-index + 1) c.in_ok-learner.learner _ c.in_ok-settings.ensures.same c.in_ok-settings.ensures.header narrow (omega arith) (omega (arith, low)) next c.table_of-table.ensures c.if-learner-gt-TEXT_LIMIT.true
+    is_full (settings_of c.args.settings) (settings_of c.in_ok-settings.settings) ws (c.loop-left.left-index + 1) c.in_ok-learner.learner _ c.in_ok-settings.ensures.same c.requires.settings.header narrow (omega arith) (omega (arith, low)) next c.table_of-table.ensures c.if-learner-gt-TEXT_LIMIT.true
 
 pub returns-then-learner-gt-TEXT_LIMIT-clause-spends : goal.returns-then-learner-gt-TEXT_LIMIT-clause-spends
 returns-then-learner-gt-TEXT_LIMIT-clause-spends g c =
@@ -82,7 +82,7 @@ returns-clause-valid g c =
     let width : c.width-width.result ≡ width_of (settings_of c.args.settings) =
     c.width-width.ensures ∙ ap (λ (k : ℕ). length (sequences_below k c.args.settings.pool (lengths_below c.args.settings.costs c.args.settings.left))) c.with_scratch-registers.ensures in
     let narrow : width_of (settings_of c.args.settings) ≤ 5000000 = omega (arith, width, c.if-width-gt-WIDEST.false) in
-    valid_all (settings_of c.args.settings) (settings_of c.in_ok-settings.settings) c.args.windows.items c.loop-left.left-index c.loop-left.learner _ c.in_ok-settings.ensures.same c.in_ok-settings.ensures.header narrow c.loop-left.invariant.learnt c.table_of.ensures
+    valid_all (settings_of c.args.settings) (settings_of c.in_ok-settings.settings) c.args.windows.items c.loop-left.left-index c.loop-left.learner _ c.in_ok-settings.ensures.same c.requires.settings.header narrow c.loop-left.invariant.learnt c.table_of.ensures
 
 pub returns-clause-fits : goal.returns-clause-fits
 returns-clause-fits g c = fits_all (settings_of c.args.settings) (settings_of c.in_ok-settings.settings) c.args.windows.items c.loop-left.left-index c.loop-left.learner _ c.in_ok-settings.ensures.same c.loop-left.invariant.learnt c.table_of.ensures c.loop-left.invariant.short

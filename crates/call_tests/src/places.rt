@@ -1,5 +1,5 @@
-//! Each call in turn, on places of several groups and words.
-use crate::{KeptPlaces, PlaceSet};
+//! The sets of `kept_places` ask for places that they have, so each of their calls is run here, on places of several groups and words.
+use kept_places::{KeptPlaces, PlaceSet};
 use std::test::Fail;
 
 #[test]
