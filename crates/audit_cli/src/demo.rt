@@ -168,6 +168,22 @@ fn rewriting_report<L: Ledger>(
     }
 }
 
+/// The lines that report the rewriting of the listing by a table, which is read back from its own text and audited, and its image.
+fn rewriting_by<L: Ledger>(
+    alloc: Global,
+    table: &Table,
+    listing: Listing,
+    steps: &mut Steps<L>,
+) -> Result<Vec<u8>, AllocError>
+    requires valid { IsTable (table_of table.now) }
+    requires accepted { IsAccepted (table_of table.now) }
+    requires made { IsDemoListing listing }
+    ensures { IfOk result (λ v. IsRewritingTold (table_of table.now) listing v.items) }
+{
+    let audited = audited_again(alloc, table, steps)?;
+    rewriting_report(alloc, &audited, listing, steps)
+}
+
 /// All lines that are printed, for a table that was learnt from the listing.
 fn told<L: Ledger>(
     alloc: Global,
@@ -181,11 +197,10 @@ fn told<L: Ledger>(
     requires learnt { IsLearnt demo_settings listing (table_of table.now) }
     ensures { IfOk result (λ v. IsDemo windows v.items) }
 {
-    let audited = audited_again(alloc, table, steps)?;
+    let rewriting = rewriting_by(alloc, table, listing, steps)?;
     let mut lines = demo_report(alloc, windows)?;
     let learnt = table_report(alloc, table)?;
     lines.extend_from_slice(&learnt)?;
-    let rewriting = rewriting_report(alloc, &audited, listing, steps)?;
     lines.extend_from_slice(&rewriting)?;
     Ok(lines)
 }

@@ -92,6 +92,13 @@ fn add_places(listing: &Listing, laid: &Layout, answer: &mut Answer) -> Option<(
     Some(())
 }
 
+/// Adds the addresses of a listing's places, and the names of its labels with their addresses.
+fn add_addresses(alloc: Global, listing: &Listing, base: u32, answer: &mut Answer) -> Option<()> {
+    let laid = layout(alloc, listing, base).ok()?;
+    add_places(listing, &laid, answer)?;
+    add_lines(listing, &laid, answer)
+}
+
 /// The addresses of a listing's places, and the names of its labels with their addresses.
 pub(crate) fn addresses(
     alloc: Global,
@@ -100,7 +107,5 @@ pub(crate) fn addresses(
 ) -> Option<()> {
     let base = arguments.hex()?;
     let listing = listing_of(alloc, arguments)?;
-    let laid = layout(alloc, &listing, base).ok()?;
-    add_places(&listing, &laid, answer)?;
-    add_lines(&listing, &laid, answer)
+    add_addresses(alloc, &listing, base, answer)
 }
