@@ -1,4 +1,4 @@
-//! Numerals of listings, tables and command lines: one reader for all, so that they accept the same spellings.
+//! Numerals of instructions, directives and command lines, by one reader, so that all of them take the same spellings; and the digits that texts are written with.
 ghost use Rattle.std.specs.Prelude.{◌≡◌, ◌<◌, ◌≤◌};
 ghost use Rattle.std.specs.List.{list_all};
 ghost use Rattle.std.specs.Char.{is_digit};

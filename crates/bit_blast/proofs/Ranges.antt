@@ -17,7 +17,7 @@ use Rattle.bit_blast.specs.Exactness.{number_of}
 use Rattle.bit_blast.proofs.Numbers.{number_at, bit_below, AllBelow-append}
 use Rattle.bit_blast.proofs.Holes.{by_test}
 use Rattle.bit_blast.proofs.Telling.{any-append}
-use Rattle.common_lemmas.proofs.Booleans.{or_false, same_tests}
+use Rattle.common_lemmas.proofs.Booleans.{or_false, or_true, same_tests}
 
 -- ---- only the clauses change
 
@@ -71,10 +71,6 @@ clear_above : (l y : ℕ) (x above : Bool) → l % 2 ≡ 0 → from_bool x ≡ y
 clear_above l y true above none bit le e =
     let b : 1 ≡ y % 2 = bit in
     or_true above ∙ sym (lt-ltb l y (omega arith))
-  where
-    or_true : (a : Bool) → (a || true) ≡ true
-    or_true true = refl
-    or_true false = refl
 clear_above l y false above none bit le e =
     or_false above ∙ e
     ∙ same_tests (ltb (l / 2) (y / 2)) (ltb l y) (λ t. let p : l / 2 < y / 2 = ltb-true (l / 2) (y / 2) t in lt-ltb l y (omega arith))
