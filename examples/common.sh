@@ -6,7 +6,7 @@ here=$(cd "$(dirname "${BASH_SOURCE[0]}")" && pwd)
 work=$(mktemp -d)
 trap 'rm -rf "$work"' EXIT
 
-# has TOOL..: whether all of these can be run; tells the first that can't.
+# has TOOL..: whether all of these can be run; prints the first that can't.
 has() {
     local tool
     for tool in "$@"; do
@@ -18,7 +18,7 @@ peep() { "$here/../peep" "$@"; }
 
 # listing UNIT OUT: gcc's listing of a file of this folder, cut to its code.
 listing() {
-    # no jump tables, which are data between the code; no loops turned into calls of memset, which would call itself; the vectors first
+    # no jump tables (data in code); no loops turned into calls of memset, which would make memset call itself; the vectors first
     arm-none-eabi-gcc -mcpu=cortex-m0 -mthumb -Os -ffreestanding -fno-jump-tables -fno-tree-loop-distribute-patterns -fno-toplevel-reorder \
         -Wall -Wextra -Werror -S "$here/$1.c" -o "$work/whole.s"
     python3 "$here/cut.py" "$work/whole.s" "$2"
@@ -36,8 +36,8 @@ linked() {
     arm-none-eabi-objcopy -O binary "$out.elf" "$out"
 }
 
-# emulated IMAGE OUT: runs an image from address 0 on a micro:bit. The line that the firmware asks for is sent once its prompt is there, for the emulated device loses
-# what comes before it is started. The firmware ends the emulator by asking for a reset.
+# emulated IMAGE OUT: runs an image from address 0 on an emulated micro:bit. The firmware's input line is sent once its prompt has appeared, because the
+# emulated serial port loses what arrives before it is enabled. The firmware ends the emulator by requesting a reset.
 emulated() {
     local image=$1 out=$2 emulator
     rm -f "$work/line" "$out"

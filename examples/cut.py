@@ -1,10 +1,10 @@
 #!/usr/bin/env python3
-"""Cuts a compiler's file to its code, and tells how many lines of which other sections it took out: the cutter of the driver.
+"""Cuts a compiler's listing to its code, as the driver does, and prints how many lines of each other section it removed.
 
 Use: cut.py IN.s CODE.s [REST.s]
 
-CODE.s gets the lines of the sections .text and .text.NAME and those before any section, REST.s all others. `cat CODE.s REST.s` is the whole file again for an
-assembler: labels of the rest are external names for the code, and labels of the code stay where they are."""
+CODE.s gets the lines of the sections .text and .text.NAME and those before any section, REST.s all others. To an assembler `cat CODE.s REST.s` is the whole
+file again: labels of the rest are external names to the code, and labels of the code are kept in place."""
 import sys
 from pathlib import Path
 

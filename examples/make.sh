@@ -1,12 +1,12 @@
 #!/usr/bin/env bash
-# Makes the files again that come of firmware.c, and compares each with the one that is here: gcc's listing firmware.s, the table firmware.peep that is learnt from
-# it, the rewritten listing shorter.s with its image shorter.bin, and what the emulated firmware prints, firmware.out. Without gcc it begins with the listing that is
-# here, and without an emulator nothing runs. Use: examples/make.sh [--keep]; with --keep what differs is written here.
+# Makes the files derived from firmware.c again, and compares each with the one in this folder: gcc's listing firmware.s, the table firmware.peep learnt from
+# it, the rewritten listing shorter.s with its image shorter.bin, and the output of the emulated firmware, firmware.out. Without gcc only the first is skipped,
+# without an emulator the last. Use: examples/make.sh [--keep]; with --keep a file that differs is replaced here.
 . "$(dirname "$0")/common.sh"
 keep=${1:-}
 failed=0
 
-# compare NAME: compares a file that was made with the one that is here.
+# compare NAME: compares a file that was made with the one in this folder.
 compare() {
     if cmp -s "$work/$1" "$here/$1"; then
         echo "$1: the same"

@@ -1,12 +1,12 @@
 #!/usr/bin/env bash
-# Runs the firmware in an emulator before and after rewriting, and compares what it prints with firmware.out: the listing as gcc wrote it and the shorter one, both as
-# GNU as and ld make images of them; the image that peep wrote; and, where gcc is there, the files one by one, each rewritten and then linked by GNU ld, as a build
-# with many files does it. Use: examples/run.sh
+# Runs the firmware in an emulator before and after rewriting, and compares its output with firmware.out: gcc's listing and the shorter one, both made into
+# images by GNU as and ld; the image that peep wrote; and, if gcc is installed, the files compiled one by one, as given and rewritten, each time linked by GNU
+# ld, as in a build of many files. Use: examples/run.sh
 . "$(dirname "$0")/common.sh"
 has arm-none-eabi-as arm-none-eabi-ld arm-none-eabi-objcopy qemu-system-arm || exit 0
 failed=0
 
-# run WHAT IMAGE: runs an image, and compares what it prints.
+# run WHAT IMAGE: runs an image, and compares its output with firmware.out.
 run() {
     local said="as expected"
     if ! emulated "$2" "$work/out" || ! cmp -s "$work/out" "$here/firmware.out"; then

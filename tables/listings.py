@@ -1,11 +1,11 @@
 #!/usr/bin/env python3
-"""Compiles the files of source packages to listings, one after the other or several at a time, and tells how many of each package compiled.
+"""Compiles the files of source packages to listings, one after the other or several at a time, and prints how many of each package compiled.
 
 Use: listings.py [--most N] [--jobs N] USE SOURCES OUT WORD..
 
-USE is `learn` or `measure`, SOURCES the folder where the packages of packages.txt lie unpacked, OUT that of the listings, OUT/PACKAGE/FILE.s. The words go to the
-compiler behind those of the package. Of a package at most N files are taken, evenly. What doesn't compile for this core, as what wants a system, is left out. A listing that is
-there stays, so that a second run goes on.
+USE is `learn` or `measure`, SOURCES the folder with the unpacked packages of packages.txt, OUT the folder for the listings, OUT/PACKAGE/FILE.s. The words are
+compiler options; they follow those of the package. Of a package at most N files are taken, evenly spread. Files that don't compile for this core, for example
+because they need an operating system, are left out. Existing listings are kept, so that a second run continues.
 PEEP_CC names another compiler than arm-none-eabi-gcc."""
 
 from __future__ import annotations
@@ -24,7 +24,7 @@ HERE = Path(__file__).resolve().parent
 
 @dataclass
 class Package:
-    """A source package: what is it for, and how its files are compiled."""
+    """A source package: its use, and how its files are compiled."""
 
     use: str
     name: str
@@ -33,19 +33,19 @@ class Package:
     patterns: list[str]
 
     def folder(self, sources: Path) -> Path:
-        """Where the package lies unpacked: its name and the version of what was packed."""
+        """The folder of the unpacked package: its name and upstream version."""
         upstream = self.version.split(":")[-1].rsplit("-", 1)[0]
         return sources / f"{self.name}-{upstream}"
 
     def files(self, sources: Path, most: int) -> list[Path]:
-        """Its files, at most so many, evenly."""
+        """Its files, at most `most` of them, evenly spread."""
         folder = self.folder(sources)
         found = sorted({path for pattern in self.patterns for path in folder.glob(pattern)})
         return found if len(found) <= most else [found[at * len(found) // most] for at in range(most)]
 
 
 def packages(use: str) -> list[Package]:
-    """The packages of a use."""
+    """The packages for a use."""
     found = []
     for line in (HERE / "packages.txt").read_text().splitlines():
         if line and not line.startswith("#"):
@@ -55,7 +55,7 @@ def packages(use: str) -> list[Package]:
 
 
 def compile_one(package: Package, sources: Path, path: Path, out: Path, words: list[str]) -> bool:
-    """Compiles a file, and says whether that went well."""
+    """Compiles a file, and returns whether its listing exists then."""
     folder = package.folder(sources)
     name = str(path.relative_to(folder)).replace("/", "_")
     listing = out / package.name / (os.path.splitext(name)[0] + ".s")
@@ -69,7 +69,7 @@ def compile_one(package: Package, sources: Path, path: Path, out: Path, words: l
 
 
 def main() -> int:
-    """Compiles the packages of a use."""
+    """Compiles the packages for a use."""
     parser = argparse.ArgumentParser()
     parser.add_argument("--most", type=int, default=10_000)
     parser.add_argument("--jobs", type=int, default=1)

@@ -1,10 +1,10 @@
 #!/usr/bin/env bash
-# Makes the tables of this folder again from source packages: fetches them by Debian's ordinary client, compiles them to listings at -Os and -O2, takes the windows
-# of the functions that lie in the profile, learns rules for them and for their left sides under other masks, keeps those that take an instruction away, and of these
-# those that the windows of enough files have; raises their entries with numbers to families. Use: tables/make.sh FOLDER, which holds the packages and all that is made, and from which a second run goes on.
+# Makes the tables of this folder again from Debian source packages: fetches them with apt-get, compiles them to listings at -Os and -O2, learns rules for the
+# windows of supported functions and for the same left sides under other masks, keeps those that remove an instruction and occur in enough listings, and raises
+# entries to families. Use: tables/make.sh FOLDER, which holds the packages and all files made; a second run continues from these.
 #
-# Windows are learnt many at a time by the plain learner of `bench/`, which writes the table that `peep learn` writes of them. Whoever learnt a table, `peep audit`
-# judges it by its text.
+# The plain learner of `bench/` learns many windows at a time, and writes the same table that `peep learn` would. `peep audit` judges a table by its text alone,
+# whichever program made it.
 set -eu
 here=$(cd "$(dirname "$0")" && pwd)
 top=$(dirname "$here")
@@ -15,7 +15,7 @@ most=${MOST:-10000}
 jobs=${JOBS:-2}
 mkdir -p "$folder/sources" "$folder/cut"
 folder=$(cd "$folder" && pwd)
-# the numbers that code has most often, and those that it has next, beside the first ones
+# pools: the most frequent numbers in code, and two pools of the next most frequent ones, each with some of the first
 usual=0,1,2,3,4,5,6,7,8,15,16,24,31,127,128,255
 second=0,1,2,9,10,12,13,14,17,20,23,28,32,48,64,255
 third=0,1,2,11,18,19,21,22,25,26,30,40,56,63,104,255
@@ -23,7 +23,7 @@ third=0,1,2,11,18,19,21,22,25,26,30,40,56,63,104,255
 # built NAME SOURCE: a plain program of bench/.
 built() { [ -x "$folder/$1" ] || rustc -O --edition 2021 "$top/bench/$2" -o "$folder/$1" 2> "$folder/$1.log"; }
 
-# fetch: the packages that aren't there yet. /etc/apt has to name Debian's source packages, and a package list that still has these versions.
+# fetch: fetches the missing packages. /etc/apt has to name a source of Debian's source packages that still has these versions.
 fetch() {
     local use name version rest
     while IFS='; ' read -r use name version rest; do
@@ -33,7 +33,7 @@ fetch() {
     "$here/prepare.sh" "$folder/sources"
 }
 
-# cut_all: what the driver would hand over of each listing.
+# cut_all: cuts each listing to the functions that the driver would pass to peep.
 cut_all() {
     local package name
     for package in "$folder"/O[s2]/*; do
@@ -46,10 +46,10 @@ cut_all() {
     done
 }
 
-# learnt NAME: the table NAME.peep of the windows NAME.windows.
+# learnt NAME: learns the table NAME.peep from the windows NAME.windows.
 learnt() { nice -n 10 "$folder/learner" < "$1.windows" > "$1.new" 2> "$1.log" && mv "$1.new" "$1.peep"; }
 
-# learnt_in_parts NAME: the files NAME/*.peep of the windows NAME.windows, several at a time.
+# learnt_in_parts NAME: learns the tables NAME/*.peep from the windows NAME.windows, several at a time.
 learnt_in_parts() {
     rm -rf "$1"
     mkdir "$1"
@@ -58,8 +58,8 @@ learnt_in_parts() {
     find "$1" -name '*.windows' | sed 's/\.windows$//' | xargs -P "$jobs" -I{} bash -c 'nice -n 10 "$0" < "$1.windows" > "$1.peep" 2> "$1.log"' "$folder/learner" {}
 }
 
-# rules NAME REGS LEFT BUDGET POOL [KNOWN]: the rules that take an instruction away from a window, as $folder/NAME/seen.peep; with KNOWN only those of windows
-# with a number that this pool lacks.
+# rules NAME REGS LEFT BUDGET POOL [KNOWN]: learns the rules that remove an instruction from a window, as $folder/NAME/seen.peep; with the pool KNOWN only
+# those of windows with a number that KNOWN lacks.
 rules() {
     local room=$folder/$1 listing now
     mkdir -p "$room/windows"
@@ -76,7 +76,8 @@ rules() {
     fi
 }
 
-# widened NAME: these and those of the same left sides under other masks, as $folder/NAME/wide.peep. From the widest masks down, since one that is covered isn't tried.
+# widened NAME: these rules and those of the same left sides under other masks, as $folder/NAME/wide.peep. It starts with the widest masks, since covered ones
+# aren't tried.
 widened() {
     local room=$folder/$1 now=$folder/$1/seen.peep items
     [ ! -s "$room/wide.peep" ] || return 0
@@ -90,8 +91,8 @@ widened() {
     cp "$now" "$room/wide.peep"
 }
 
-# shipped TABLE WINDOWS BYTES [CLAUSES]: learns some windows anew, by the few states that they need, and ships the entries that aren't longer, and whose formulas
-# haven't more clauses, audited and with trimmed proofs.
+# shipped TABLE WINDOWS BYTES [CLAUSES]: learns windows again by themselves, so that fewer states are needed, and ships the entries with at most so many bytes
+# of text, and so many clauses of their formulas, audited and with trimmed proofs.
 shipped() {
     learnt "$2"
     "$top/driver/peep-table" filter "$2.peep" "$2.kept.peep" "$3"
@@ -100,8 +101,8 @@ shipped() {
     "$top/peep" trim "$here/$1.peep" "$here/$1.peep"
 }
 
-# families: raises the entries of the shipped tables to families, ships these as size-families, and takes what they cover from the tables. Those of the other pools are
-# learnt in the usual one: by three numbers each, since with one another right side may be found, that can't be raised as wide.
+# families: raises the entries of the shipped tables to families, ships these as size-families, and removes what they cover from the tables. Families of the
+# other pools are learnt again with the usual pool, with up to three numbers each: with only one, a right side may be found that can't be raised as widely.
 families() {
     local room=$folder/families name
     mkdir -p "$room"
@@ -122,13 +123,13 @@ families() {
     done
 }
 
-# pruned FROM TABLE: ships a table without the states that it can do without, with trimmed proofs.
+# pruned FROM TABLE: ships a table without needless states, with trimmed proofs.
 pruned() {
     nice -n 10 "$top/driver/peep-table" prune "$1" "$here/$2.peep"
     "$top/peep" trim "$here/$2.peep" "$here/$2.peep"
 }
 
-# used NAME RULES LEAST: the left sides and masks of rules that windows of at least so many files have.
+# used NAME RULES LEAST: the left sides and masks of the rules that apply to windows of at least LEAST listings.
 used() { "$top/driver/peep-table" used "$folder/$1/used$3.windows" "$3" "$folder/$1/$2.peep" "$folder/$1"/windows/*.s; }
 
 built harvest live_items/plain.rs

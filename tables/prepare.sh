@@ -1,5 +1,5 @@
 #!/usr/bin/env bash
-# Makes the headers that the packages' own builds would make, as far as listings.py wants them. Use: tables/prepare.sh SOURCES
+# Makes the headers that the packages' own builds would make, as far as listings.py needs them. Use: tables/prepare.sh SOURCES
 set -eu
 cd "$1"
 if cd musl-*/ 2> /dev/null; then
@@ -10,7 +10,7 @@ if cd musl-*/ 2> /dev/null; then
     cd ..
 fi
 if cd lwip-*/ 2> /dev/null; then
-    # no operating system, and the protocols that a small device has
+    # no operating system, and the protocols of a small device
     mkdir -p made/arch
     printf '%s\n' '#define NO_SYS 1' '#define LWIP_SOCKET 0' '#define LWIP_NETCONN 0' '#define LWIP_IPV6 1' '#define LWIP_DHCP 1' '#define LWIP_AUTOIP 1' '#define LWIP_IGMP 1' \
         '#define LWIP_DNS 1' '#define PPP_SUPPORT 1' '#define PPPOS_SUPPORT 1' '#define PAP_SUPPORT 1' '#define CHAP_SUPPORT 1' '#define SYS_LIGHTWEIGHT_PROT 0' '#define MEM_ALIGNMENT 4' > made/lwipopts.h

@@ -1,30 +1,30 @@
-"""Takes of a table those entries and families alone whose left sides may stand in a listing: the audit then costs what these do, and not what the whole table does.
+"""Selects the entries and families of a table whose left sides may occur in a listing, so that only these are audited and not the whole table.
 
-A left side is looked for as `peep` looks for it, up to the names of registers, but roughly: an entry too many costs its audit, and one that is missed saves nothing.
+Left sides are compared up to the names of registers, as `peep` does, but only roughly: an entry too many costs an audit, a missed one only a saving.
 """
 
 from __future__ import annotations
 
 from collections.abc import Iterable
 
-# the instructions of windows
+# the instructions that a window may contain
 MNEMONICS = set(
     "adds subs movs cmp lsls lsrs asrs ands eors adcs sbcs rors tst rsbs negs cmn orrs muls bics mvns mov add uxtb uxth sxtb sxth rev rev16 revsh".split()
 )
-# those of them whose number has 8 bits, where they name one register
+# those of them whose number has 8 bits if they name one register
 IN_BYTES = {"movs", "cmp", "adds", "subs"}
 LONGEST = 5
-"""The most instructions of a left side."""
+"""The most instructions that a left side has."""
 BEGIN, FAMILY, END = "\nentry\n", "\nfamily ", "end\n"
 
 Shape = tuple[str, list[str], int | None]
-"""An instruction: its mnemonic, with its number where that hasn't 8 bits; its registers, each once, since `adds r0, r0, #1` is `adds r0, #1`; and a number of 8 bits."""
+"""An instruction: its mnemonic, with its number if that isn't 8-bit; its registers, each once, as `adds r0, r0, #1` is `adds r0, #1`; its 8-bit number."""
 Keys = dict[str, set[tuple[int, ...]]]
-"""What windows have in common with those that differ in the names of registers and in numbers of 8 bits alone, and these numbers of each."""
+"""By key, the lists of 8-bit numbers of the windows with that key. Windows that differ only in register names and 8-bit numbers have the same key."""
 
 
 def shape(words: list[str]) -> Shape | None:
-    """The shape of an instruction. Nothing where it is none of a window."""
+    """The shape of an instruction, or None if a window can't contain it."""
     mnemonic = words[0]
     if mnemonic not in MNEMONICS:
         return None
@@ -48,14 +48,14 @@ def shape(words: list[str]) -> Shape | None:
 
 
 def key(shapes: list[Shape]) -> tuple[str, tuple[int, ...]]:
-    """A window's key, and its numbers of 8 bits."""
+    """A window's key and its 8-bit numbers."""
     names: dict[str, str] = {}
     parts = [word + ".".join(["", *(names.setdefault(name, str(len(names))) for name in registers)]) for word, registers, _ in shapes]
     return " ".join(parts), tuple(number for _, _, number in shapes if number is not None)
 
 
 def keys_in(lines: Iterable[str], longest: int) -> Keys:
-    """The keys of a listing's windows of so many instructions at most."""
+    """The keys of a listing's windows of at most `longest` instructions."""
     found: Keys = {}
     run: list[Shape] = []
     for line in lines:
@@ -74,7 +74,7 @@ def keys_in(lines: Iterable[str], longest: int) -> Keys:
 
 
 class Shelf:
-    """A table from which entries and families are taken. Families are counted behind the entries."""
+    """A table from which entries and families are selected. Families are numbered after the entries."""
 
     def __init__(self, text: str) -> None:
         self.is_table = text.startswith("peep ") and text.endswith(END)
@@ -86,8 +86,8 @@ class Shelf:
             self.is_table = False
 
     def fitting(self, keys: Keys) -> list[int]:
-        """The places of the entries whose left sides have one of these keys, and of the families that have one with a value of their range, with the entries that these
-        raise."""
+        """The numbers, from 0, of the entries whose left sides have one of these keys, of the families that have one with a value of their range, and of the
+        entries that these families raise."""
         families = [place for place in range(len(self.raised)) if self._has(place, keys)]
         needed = {self.raised[place][0] - 1 for place in families}
         entries = [place for place, (own, numbers) in enumerate(self.keys) if place in needed or numbers in keys.get(own, ())]
@@ -103,7 +103,7 @@ class Shelf:
         return False
 
     def text(self, places: Iterable[int]) -> str:
-        """The table with the entries and families of these places alone, where each family's entry is among them."""
+        """The table with only the entries and families of these numbers, which must include each family's entry."""
         count = len(self.entries)
         taken, families = (sorted(place for place in places if (place < count) == is_entry) for is_entry in (True, False))
         numbers = {place: number for number, place in enumerate(taken, 1)}
@@ -116,7 +116,7 @@ class Shelf:
 
 
 def _key_of(entry: str) -> tuple[str, tuple[int, ...]]:
-    """The key of an entry's left side, and its numbers of 8 bits."""
+    """The key of an entry's left side and its 8-bit numbers."""
     lefts: list[Shape] = []
     for line in entry.split("\n", LONGEST)[:LONGEST]:
         if not line.startswith("left "):
@@ -126,7 +126,7 @@ def _key_of(entry: str) -> tuple[str, tuple[int, ...]]:
 
 
 def _raised_of(family: str) -> tuple[int, int, int, int]:
-    """A family's entry, from 1, its number, and its least and highest value."""
+    """A family's entry (counted from 1), its number, and its lowest and highest value; zeros if they can't be read."""
     try:
         entry, number, low, high = map(int, family.partition("\n")[0].split())
     except ValueError:

@@ -1,4 +1,4 @@
-"""The command: words that begin with `--peep-` are ours, all others the compiler's."""
+"""The command line: a first argument that begins with `--peep-` is the driver's, all others are the compiler's."""
 
 from __future__ import annotations
 
@@ -50,14 +50,14 @@ def tell_settings(settings: Settings) -> int:
 
 
 def own_command(words: list[str], settings: Settings) -> int:
-    """Carries out a command of ours."""
+    """Carries out a command of the driver's own."""
     if words == ["--peep-help"]:
         print(HELP, end="")
         return 0
     if words == ["--peep-settings"]:
         return tell_settings(settings)
     if words[0] == "--peep-report":
-        # asked for alone, since a compilation has no use for it
+        # loaded here only, since a compilation doesn't use it
         from .report import report
 
         return report(words[1:], settings.log)
@@ -66,7 +66,7 @@ def own_command(words: list[str], settings: Settings) -> int:
 
 
 def main(called: str, words: list[str]) -> int:
-    """Runs a command line, called by some name."""
+    """Runs a command line; `called` is the name by which the driver was called."""
     settings = settings_for(os.path.basename(called), os.getcwd())
     if words and words[0].startswith("--peep-"):
         return own_command(words, settings)

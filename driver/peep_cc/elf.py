@@ -1,4 +1,4 @@
-"""How many bytes of code an object has, read from its section headers."""
+"""The code size of an object, read from its section headers."""
 
 from __future__ import annotations
 
@@ -9,7 +9,7 @@ ALLOCATED, EXECUTABLE = 2, 4
 
 
 def text_size(path: str | os.PathLike[str]) -> int:
-    """The bytes of all sections of an object that are loaded and run. What is no ELF file of 32 bits, lowest byte first, has none."""
+    """The bytes of all allocated, executable sections of an object, or 0 if it isn't a 32-bit little-endian ELF file."""
     with open(path, "rb") as file:
         data = file.read()
     if data[:6] != b"\x7fELF\x01\x01" or len(data) < 52:

@@ -1,4 +1,4 @@
-"""Files of text, read and written as the compiler has them: bytes that are no UTF-8 come back as they were, and a line ends at a newline alone."""
+"""Text files, read and written without change: bytes that aren't UTF-8 are preserved, and only a newline ends a line."""
 
 from __future__ import annotations
 
@@ -6,7 +6,7 @@ import os
 
 
 def lines_of(text: str) -> list[str]:
-    """The lines of a text, each with its newline."""
+    """The lines of a text, each with its newline; the last may have none."""
     parts = text.split("\n")
     last = parts.pop()
     return [part + "\n" for part in parts] + ([last] if last else [])
@@ -19,16 +19,16 @@ def read_text(path: str | os.PathLike[str]) -> str:
 
 
 def write_text(path: str | os.PathLike[str], text: str) -> None:
-    """Makes a text a file's."""
+    """Writes a text to a file."""
     with open(path, "w", encoding="utf-8", errors="surrogateescape", newline="\n") as file:
         file.write(text)
 
 
 class Folder:
-    """A folder of our own for a while, with what is put into it."""
+    """A temporary folder, removed with its contents at the end."""
 
     def __init__(self) -> None:
-        """Makes it where files go for a while, which `tempfile` would find too, at three times the price of a start."""
+        """Makes it in the folder for temporary files. `tempfile` would do so too, but is slow to load."""
         place = next((name for name in (os.environ.get("TMPDIR"), "/tmp", ".") if name and os.access(name, os.W_OK)), ".")
         number = 0
         while True:
@@ -43,7 +43,7 @@ class Folder:
         return self.path
 
     def __exit__(self, *_: object) -> None:
-        """Takes it away, as far as that goes."""
+        """Removes it, as far as possible."""
         for folder, folders, files in os.walk(self.path, topdown=False):
             for remove, names in ((os.remove, files), (os.rmdir, folders)):
                 for name in names:

@@ -1,7 +1,7 @@
-"""What a compiler's listing is made of: its sections, and the functions that `peep` can be shown.
+"""Splits a compiler's listing into sections and functions, and finds the functions that `peep` supports.
 
-A function is taken whole, from its label to its `.size`. It is left out where its own lines don't say all that its run does (data or jump tables in code, a label
-that something outside reaches), or where `peep` would refuse a line anyway.
+A function is taken whole, from its label to its `.size`, or left out: where its lines alone don't determine what it does (data or jump tables in code, a label
+that is used from outside), or where `peep` would refuse one of them.
 """
 
 from __future__ import annotations
@@ -28,13 +28,13 @@ SOURCE_LINE = re.compile(r"@ (\S.*):(\d+): ")
 CORE = re.compile(r"\s*\.(?:cpu\s+cortex-m(?:0|0plus|1)(?:\.small-multiply)?|arch\s+armv6s?-m)\s*(?:@.*)?$")
 IP = re.compile(r"\b(?:ip|r12)\b")
 OTHER_CORE = re.compile(r"\s*\.(?:cpu|arch)\s")
-# tells the unwinder of C++ what a prologue did, and nothing of what runs
+# directives for C++ unwinding, which don't change what runs
 UNWINDING = re.compile(r"\s*\.(fnstart|fnend|cantunwind|save|pad|setfp|movsp|personality\w*|handlerdata)\b")
 TRAP = re.compile(r"\s*\.inst(?:\.n)?\s+0xde(?:ff|fe)\s*(?:@.*)?$")
 LONG = re.compile(r"(\s*)\.(?:long|4byte)(\s+\S.*)$")
 REGISTERS = {*(f"r{number}" for number in range(13)), "sp", "lr", "pc", "ip", "fp", "sl", "sb"}
 
-# lines by which a function is left out, each with what is said of it
+# lines for which a function is left out, each with the reason that the report gives
 LEFT_OUT = [
     (r"__gnu_thumb1_case_|__ARM_common_switch|__switch\d+\b", "a jump table"),
     (r"\sblx?\s+_?_call_via_", "a call with a convention of its own"),
@@ -50,7 +50,7 @@ LEAVES = re.compile("|".join(pattern for pattern, _ in LEFT_OUT), re.IGNORECASE)
 
 
 def cut(text: str) -> tuple[list[str], list[str], Counter[str]]:
-    """The lines of code (those of the sections .text and .text.NAME, and those before any section), the other lines, and how many of these each section has."""
+    """The lines of code (sections .text and .text.NAME, and lines before any section), the other lines, and the number of these by section."""
     code, rest, counts = [], [], Counter()
     section = ".text"
     for line in lines_of(text):
@@ -66,22 +66,22 @@ def cut(text: str) -> tuple[list[str], list[str], Counter[str]]:
 
 
 class Function:
-    """A function of a listing: its lines are those from its label to its `.size`."""
+    """A function of a listing: the lines from its label to its `.size`."""
 
     def __init__(self, name: str, first: int, lines: list[str]) -> None:
-        """Its first line has this number in the listing, from 0."""
+        """`first` is the number of its first line in the listing, from 0."""
         self.name = name
         self.first = first
         self.lines = lines
         self.why: str | None = None
-        """Why it is left as it is."""
+        """Why it is left out, if it is."""
         self.at: int | None = None
-        """The line of its own, from 0, by which it is left as it is."""
+        """For which of its lines, from 0, it is left out."""
         self.new: list[str] | None = None
-        """Its lines as `peep` leaves them."""
+        """Its lines after rewriting."""
 
     def leave(self, why: str, at: int | None = None) -> None:
-        """Leaves it as it is, for the first reason that is found."""
+        """Leaves it out. Only the first reason is kept."""
         if self.why is None:
             self.why, self.at = why, at
 
@@ -100,12 +100,12 @@ def is_instruction(line: str) -> bool:
 
 
 def is_comment(line: str) -> bool:
-    """Whether a line is a comment alone: what the compiler tells of the source."""
+    """Whether a line is only a comment, such as the compiler's on source lines."""
     return line.lstrip().startswith("@")
 
 
 def statement(line: str) -> str:
-    """A line's text without its comment, with single blanks."""
+    """A line's text without its comment, with single spaces."""
     return " ".join(line.split("@")[0].split())
 
 
@@ -123,7 +123,7 @@ def _section_of(found: re.Match[str], before: _Section, saved: list[_Section], l
 
 
 def functions_of(lines: list[str]) -> tuple[list[Function], Counter[str]]:
-    """The functions of a listing, and how often something outside of them, but debug information, mentions each local label."""
+    """The functions of a listing, and how often lines outside them, except debug information, mention each local label."""
     functions: list[Function] = []
     outside: Counter[str] = Counter()
     marked: set[str] = set()
@@ -151,13 +151,13 @@ def functions_of(lines: list[str]) -> tuple[list[Function], Counter[str]]:
 
 
 def is_for_core(lines: list[str]) -> bool:
-    """Whether a listing is for Armv6-M, by its own `.cpu` and `.arch`."""
+    """Whether a listing is for Armv6-M, according to its `.cpu` and `.arch` directives."""
     cores = [CORE.match(line) is not None for line in lines if OTHER_CORE.match(line)]
     return bool(cores) and all(cores)
 
 
 def judge(functions: list[Function], outside: Counter[str]) -> None:
-    """Leaves out the functions that are known beforehand to be none for `peep`."""
+    """Leaves out the functions that are known not to be supported."""
     local = {function.name for function in functions}
     mentions = [_mentions(function) for function in functions]
     everywhere = Counter(outside)
@@ -172,7 +172,7 @@ def judge(functions: list[Function], outside: Counter[str]) -> None:
 
 
 def _mentions(function: Function) -> Counter[str]:
-    """How often a function's lines mention each local label, those that define it not counted."""
+    """How often a function's lines mention each local label, not counting definitions."""
     return Counter(label for line in function.lines if ".L" in line and not LABEL.match(line) for label in MENTION.findall(line.split("@")[0]))
 
 
@@ -200,7 +200,7 @@ def _judge_line(function: Function, number: int, line: str) -> None:
 
 
 def _ways_of_ip(code: str, after: bool, at: dict[str, bool], local: set[str]) -> tuple[bool, bool]:
-    """Whether ip is live before a statement, by whether it is after it and at labels; and whether a call that may keep it stands there with ip live after it."""
+    """Whether ip is live before a statement, given where it is live after it and at labels; and whether this is a call that may preserve a live ip."""
     if found := re.match(r"mov\s+(\w+),\s*(\w+)$", code):
         return found[2] in ("ip", "r12") or (after and found[1] not in ("ip", "r12")), False
     if found := re.match(r"blx?\s+(\S+)$", code):
@@ -213,8 +213,8 @@ def _ways_of_ip(code: str, after: bool, at: dict[str, bool], local: set[str]) ->
 
 
 def keeps_ip(lines: list[str], local: set[str]) -> bool:
-    """Whether a call of a function of the same file may leave ip in which something is kept: gcc knows what such a function writes (-fipa-ra), while for `peep`
-    a call of a name that isn't shown to it changes ip."""
+    """Whether ip may hold a value across a call of a function of the same file: with -fipa-ra gcc relies on what the callee writes, while for `peep` each call
+    of a name outside its listing changes ip. A call by `blx` counts as one of the same file."""
     if not any(IP.search(line) for line in lines if "ip" in line or "r12" in line):
         return False
     code = [statement(line) for line in lines]
@@ -235,19 +235,19 @@ def keeps_ip(lines: list[str], local: set[str]) -> bool:
 
 
 class Origin(namedtuple("Origin", "file line")):
-    """A file of the source and a line of it."""
+    """A source file and a line number."""
 
     def __str__(self) -> str:
         return f"{self.file}:{self.line}"
 
 
 def files_of(lines: list[str]) -> dict[str, str]:
-    """The files that a listing numbers."""
+    """The names of the source files that a listing numbers by `.file`."""
     return {found[1]: found[3] if found[3].startswith("/") or not found[2] else f"{found[2]}/{found[3]}" for line in lines if (found := FILE.match(line))}
 
 
 def origins(function: Function, files: dict[str, str]) -> Iterator[Origin | None]:
-    """Where each of a function's lines comes from, as far as the compiler tells."""
+    """The source line of each of a function's lines, or None before the compiler names one."""
     origin: Origin | None = None
     for line in function.lines:
         if found := PLACE.match(line):

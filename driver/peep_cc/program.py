@@ -1,4 +1,4 @@
-"""Runs `peep`: a listing is rewritten, or a table learnt from it. What is refused, or fails, is told by an exception."""
+"""Runs `peep`, for example to rewrite a listing or to learn a table from it. Refusals and failures raise exceptions."""
 
 from __future__ import annotations
 
@@ -10,11 +10,11 @@ WORDS = {2: "usage", 3: "store", 4: "sink", 5: "memory", 6: "big", 7: "missing"}
 
 
 class ProgramError(Exception):
-    """`peep` couldn't do what it was asked."""
+    """A run of `peep` failed."""
 
 
 class Refused(ProgramError):
-    """`peep` refused what it was given, by one line."""
+    """`peep` refused its input, with one line of output."""
 
 
 class RefusedLine(Refused):
@@ -26,7 +26,7 @@ class RefusedLine(Refused):
         self.kind = kind
 
 
-# what each kind of a refused line is called
+# why a line is refused, by the number that `peep` prints
 KINDS = {
     1: "no line of the listing's grammar",
     2: "a name that was defined before",
@@ -38,7 +38,7 @@ KINDS = {
 
 
 class Program:
-    """The program `peep`, and how long one run of it may take."""
+    """The program `peep`, and the time limit of one run."""
 
     def __init__(self, path: str, seconds: float):
         self.path = path

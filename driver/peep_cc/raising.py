@@ -1,4 +1,4 @@
-"""Raises the entries of a table to families: each number of the pool in 8 bits gets the widest range of values with which the sides leave the same."""
+"""Raises the entries of a table to families: for each 8-bit operand in the pool, the widest range of values found for which the rule holds."""
 
 from __future__ import annotations
 
@@ -14,7 +14,7 @@ BYTE = 255
 
 
 class Raiser:
-    """Raises entries in a folder for its files, by a program: each in a table of its own, since an audit goes before each family."""
+    """Raises entries by `peep generalise`, each in a table of its own, since the whole table is audited before each family. `work` is for temporary files."""
 
     def __init__(self, program: Program, table: Table, work: str | os.PathLike[str]) -> None:
         self.program = program
@@ -24,7 +24,7 @@ class Raiser:
         self.made = os.path.join(work, "made.peep")
 
     def widest(self, entry: Entry, number: int) -> Family | None:
-        """The family with the widest range that holds: from all bytes down, past each value that is refused, and by halves where the solver spent its budget."""
+        """A family with a wide range, if any: starts with all bytes, excludes each refused value, and halves the range where the solver exceeds its budget."""
         write_table(self.alone, Table(self.head, self.states, [entry]))
         low, high = 0, BYTE
         while low < high:
@@ -44,14 +44,14 @@ class Raiser:
 
 
 def narrowed(number: int, low: int, high: int, refused: int | None) -> tuple[int, int]:
-    """A range without a value that was refused, on the number's side of it; or half the range, where none was named."""
+    """The part of a range on the number's side of a refused value; or, if no value was named, half the range around the number."""
     if refused is None:
         return number - (number - low) // 2, number + (high - number) // 2
     return (refused + 1, high) if refused < number else (low, refused - 1)
 
 
 def raised(table: Table, program: Program, work: str | os.PathLike[str], tell: Callable[[str], None] = lambda line: None) -> Table:
-    """The table with the families of its shortening entries, without what these cover. What one that has all bytes covers isn't raised."""
+    """The table with families of its shortening entries, without the entries that these cover. None is made where one for all bytes covers it."""
     raiser = Raiser(program, table, work)
     families = list(table.families)
     for place, entry in enumerate(table.entries, 1):

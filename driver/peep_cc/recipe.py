@@ -1,4 +1,4 @@
-"""Rewrites the functions of a unit: by the shipped tables, and by tables learnt from the unit itself, in turn until none replaces anything."""
+"""Rewrites the functions of a unit by the given tables and by tables learnt from the unit itself, in turn, until none replaces anything."""
 
 from __future__ import annotations
 
@@ -14,7 +14,7 @@ from .program import KINDS, Program, ProgramError, Refused, RefusedLine
 from .splice import Shown, parts, shown, take_back
 from .tables import filtered, read_table, write_table
 
-# what a table is learnt from the unit itself with, one after the other: a budget of 1,000 finds nearly all that one of 20,000 does, in a fraction of the time
+# the options with which tables are learnt from the unit, in turn: a budget of 1,000 finds nearly all that one of 20,000 does, in a fraction of the time
 LEARNING = [
     "--regs 4 --left 3 --budget 1000 --pool own",
     "--regs 4 --left 3 --budget 1000 --pool derived",
@@ -30,7 +30,7 @@ IN_WINDOWS = (
 
 
 class Told:
-    """What came of rewriting the functions of a unit."""
+    """The result of rewriting the functions of a unit: how many windows were replaced, and notes for the report."""
 
     def __init__(self) -> None:
         self.replaced = 0
@@ -38,7 +38,7 @@ class Told:
 
 
 def runs_of_numbers(lines: Iterable[str]) -> list[list[int | None]]:
-    """The numbers of the instructions that stand side by side in windows, nothing where one has none."""
+    """For each run of two or more instructions that windows may contain, their numbers, None for an instruction without one."""
     runs: list[list[int | None]] = [[]]
     in_windows = re.compile(IN_WINDOWS)
     for line in lines:
@@ -51,8 +51,8 @@ def runs_of_numbers(lines: Iterable[str]) -> list[list[int | None]]:
 
 
 def pool(lines: Iterable[str], derived: bool) -> str:
-    """Numbers for `--pool`: those that windows have most often, and where `derived`, in the place of the last ones, sums and differences of neighbours, and 32 less
-    either."""
+    """Numbers for `--pool`: 0, 1 and the most frequent ones in windows; if `derived`, the last six are instead sums and differences of nearby numbers, and
+    32 minus either."""
     runs = runs_of_numbers(lines)
     own: Counter[int] = Counter(number for run in runs for number in run if number is not None and number < 256)
     made: Counter[int] = Counter()
@@ -70,7 +70,7 @@ def pool(lines: Iterable[str], derived: bool) -> str:
 
 
 class Rewriter:
-    """Rewrites functions in a folder for its files, by a program, tables, and options of `learn`."""
+    """Rewrites functions by tables, and by tables that `peep` learns with the options `learning`. `work` is the folder for temporary files."""
 
     def __init__(self, program: Program, tables: list[str], learning: list[str], work: str | os.PathLike[str]) -> None:
         self.program = program
@@ -79,13 +79,13 @@ class Rewriter:
         self.work = work
         self.shelves: dict[str, Shelf] = {}
         self.keys: set[str] | None = None
-        """The keys of the listing as it stands, once they are wanted."""
+        """The keys of the current listing, once they are needed."""
         self.is_read = False
         """Whether `peep` has accepted the lines of the listing."""
         self.told = Told()
 
     def rewrite(self, functions: list[Function]) -> Told:
-        """Rewrites the functions that aren't left out, and leaves out those in which `peep` refuses a line."""
+        """Rewrites the functions that aren't left out yet, and leaves out those with a line that `peep` refuses."""
         for part in parts(functions):
             self._rewrite_part(part)
         return self.told
@@ -117,7 +117,7 @@ class Rewriter:
         return given
 
     def _without_refused(self, functions: list[Function], given: Shown, refused: RefusedLine | None, listing: str) -> Shown:
-        """Leaves out each function that has a refused line, tried by a table without entries, which takes no audit."""
+        """Leaves out each function with a refused line. These are found with a table without entries, which needs no audit."""
         bare = self._file("bare.peep")
         write_text(bare, self._shelf(self.tables[0]).text([]))
         while refused is not None:
@@ -139,14 +139,14 @@ class Rewriter:
         return None
 
     def _steps(self, listing: str) -> int:
-        """Takes the tables in turn until as many steps as there are have replaced nothing."""
+        """Takes the steps (one for each table, then for each set of options) in turn, until none has anything more to replace."""
         steps: list[Callable[[str], int]] = [self._by_shipped(table) for table in self.tables]
         steps += [self._by_learning(options) for options in self.learning]
         replaced, quiet, turn = 0, 0, 0
         while steps and quiet < len(steps):
             now = steps[turn % len(steps)](listing)
             turn += 1
-            # what a step has rewritten, it leaves as it is
+            # a step finds nothing more in what it has just rewritten
             quiet = quiet + 1 if now == 0 else 1
             replaced += now
         return replaced
@@ -157,8 +157,8 @@ class Rewriter:
         return self.shelves[table]
 
     def _by_shipped(self, table: str) -> Callable[[str], int]:
-        """By the entries of a table whose left sides may stand in the listing, again where what was replaced brings others. `peep` is asked once though there are
-        none, since it tells which lines it refuses."""
+        """A step that rewrites by the entries of a table whose left sides may occur in the listing, again while replacements make more of them occur. `peep` is
+        run once even if none does, to find the lines that it refuses."""
 
         def step(listing: str) -> int:
             shelf, chosen = self._shelf(table), self._file("chosen.peep")

@@ -1,4 +1,4 @@
-"""What came of each object: a line of a log for each, and the page that is made of these."""
+"""The result for each object, as a line of the log, and the report that is made of these lines."""
 
 from __future__ import annotations
 
@@ -14,14 +14,14 @@ from .files import lines_of, read_text
 from .settings import LOG_NAME
 
 
-# a function that was left as it was: where, what stood there, and why
+# a function that was left out: the source line, the statement there, and the reason
 Left = namedtuple("Left", "function where line why")
-# instructions that gave way to fewer, or to others on the way there
+# instructions that were replaced, and those in their place
 Replacement = namedtuple("Replacement", "function where old new")
 
 
 class Facts:
-    """What came of one object."""
+    """The facts about one object."""
 
     def __init__(self, target: str, source: str) -> None:
         self.object = target
@@ -45,12 +45,12 @@ class Facts:
         return json.dumps(told) + "\n"
 
     def saved(self) -> int:
-        """The bytes of code that are saved."""
+        """How many bytes of code are saved."""
         return self.before - self.after
 
 
 def write_facts(log: str | None, facts: Facts) -> None:
-    """Puts a line behind a log, in one write, since several runs may do so at a time. Where that fails, what went wrong is told on standard error."""
+    """Appends a line to a log, in one write, since several runs may do so at the same time. A failure is reported on standard error."""
     if log is None:
         return
     try:
@@ -66,7 +66,7 @@ def write_facts(log: str | None, facts: Facts) -> None:
 
 
 def facts_of(line: str) -> Facts | None:
-    """The facts of a line of a log, if it is whole."""
+    """The facts of a line of a log, or None if the line isn't complete."""
     try:
         said = json.loads(line)
         facts = Facts(said["object"], said["source"])
@@ -81,12 +81,12 @@ def facts_of(line: str) -> Facts | None:
 
 
 def logs_below(place: str | os.PathLike[str]) -> list[str]:
-    """The logs in a folder and those below it."""
+    """The logs in a folder and in those below it."""
     return sorted(os.path.join(folder, LOG_NAME) for folder, _, names in os.walk(place) if LOG_NAME in names)
 
 
 def read_logs(logs: Iterable[str | os.PathLike[str]]) -> list[Facts]:
-    """The last facts of each object that is there."""
+    """The last facts of each object that exists."""
     last: dict[str, Facts] = {}
     for log in logs:
         for line in lines_of(read_text(log)):
@@ -101,7 +101,7 @@ def read_logs(logs: Iterable[str | os.PathLike[str]]) -> list[Facts]:
 
 
 def share(part: int, whole: int) -> str:
-    """A part of a whole in hundredths, as far as it is worth telling."""
+    """A part of a whole in per cent, with two decimals."""
     return f"{100 * part / whole:.2f} %" if whole else "0 %"
 
 
@@ -137,7 +137,7 @@ def totals(all_facts: list[Facts]) -> list[str]:
 
 
 def report(places: list[str], log: str | None) -> int:
-    """Prints the report of logs, or of those below folders; by default of the log of the settings, or else those below this folder."""
+    """Prints the report of the given logs and of those below given folders; by default of the settings' log, or if there is none of those below this folder."""
     paths = places or ([log] if log and os.path.isfile(log) else ["."])
     logs = [found for path in paths for found in (logs_below(path) if os.path.isdir(path) else [path])]
     try:

@@ -1,4 +1,4 @@
-"""What the user chooses: by the environment first, then by the file `peep-cc.toml` of the build, then as it is shipped."""
+"""The user's settings: from the environment, otherwise from the build's file `peep-cc.toml`, otherwise the defaults."""
 
 from __future__ import annotations
 
@@ -11,7 +11,7 @@ TOP = os.path.dirname(os.path.dirname(os.path.dirname(os.path.realpath(__file__)
 OWN_NAME = "peep-cc"
 COMPILER = "arm-none-eabi-gcc"
 
-# the settings by their names in the file, each with the variable that goes before it
+# the settings by their names in the file, each with the environment variable that overrides it
 VARIABLES = {
     "compiler": "PEEP_CC",
     "program": "PEEP",
@@ -28,7 +28,7 @@ class SettingsError(Exception):
 
 
 class Settings:
-    """Where the programs and tables are, and what is to be done."""
+    """The settings of a run."""
 
     def __init__(self, compiler: list[str], program: str | None, tables: list[str]) -> None:
         self.compiler = compiler
@@ -39,11 +39,11 @@ class Settings:
         self.keeps_listings = False
         self.seconds = 300.0
         self.wrong: str | None = None
-        """What can't be read."""
+        """The message about a setting that can't be read, if any."""
 
 
 def folder_of_settings(start: str) -> str | None:
-    """The nearest folder, from `start` upwards, that has a file of settings."""
+    """The nearest folder, from `start` upwards, that has a settings file."""
     folder = os.path.abspath(start)
     while not os.path.isfile(os.path.join(folder, FILE_NAME)):
         above = os.path.dirname(folder)
@@ -54,7 +54,7 @@ def folder_of_settings(start: str) -> str | None:
 
 
 def read_file(path: str) -> dict[str, object]:
-    """What a file of settings says."""
+    """The settings in a settings file."""
     try:
         import tomllib
     except ImportError as error:
@@ -71,12 +71,12 @@ def read_file(path: str) -> dict[str, object]:
 
 
 def is_yes(value: object) -> bool:
-    """Whether a setting that is a word or a truth value says yes."""
+    """Whether a setting, a word or a truth value, means yes."""
     return value not in (False, 0, "", "0", "no", "off", "false", None)
 
 
 def next_compiler(name: str) -> str:
-    """The program of that name that the path has behind every link to ourselves."""
+    """The first program of that name in the path that isn't a link to the driver; or the name, if there is none."""
     own = os.path.join(TOP, "driver", OWN_NAME)
     for folder in os.environ.get("PATH", os.defpath).split(os.pathsep):
         found = os.path.join(folder or ".", name)
@@ -86,7 +86,7 @@ def next_compiler(name: str) -> str:
 
 
 def compiler_called(name: str) -> str:
-    """The compiler that we stand for when called by a name: that of the name, or gcc for Arm."""
+    """The compiler that the driver runs when it is called by a name: the one of that name, or for its own names gcc or g++ for Arm."""
     if name == OWN_NAME:
         return COMPILER
     if name == "peep-c++":
@@ -95,7 +95,7 @@ def compiler_called(name: str) -> str:
 
 
 def built_program() -> str | None:
-    """The proved program, where it is built, or the one that the path has."""
+    """The proved program if it is built, otherwise the `peep` in the path, if any."""
     built = os.path.join(TOP, "crates", "peep", "out", "peep")
     if os.access(built, os.X_OK):
         return built
@@ -111,7 +111,7 @@ def shipped_tables() -> list[str]:
 
 
 def words_of(value: object) -> list[str]:
-    """A setting that is a list, or words in one text."""
+    """The words of a setting that is a list or one text."""
     if isinstance(value, list):
         return [str(word) for word in value]
     words = str(value)
@@ -123,13 +123,13 @@ def words_of(value: object) -> list[str]:
 
 
 def paths_of(value: object, folder: str) -> list[str]:
-    """A setting that is a list of paths, or paths joined by colons; those of the file are found from its folder."""
+    """The paths of a setting that is a list or joined by colons, relative to a folder."""
     parts = [str(path) for path in value] if isinstance(value, list) else str(value).split(os.pathsep)
     return [os.path.join(folder, part) for part in parts if part]
 
 
 def settings_for(name: str, start: str) -> Settings:
-    """The settings for a run under a name in a folder. What can't be read is told in `wrong`."""
+    """The settings for a run in the folder `start`, called by a name. `wrong` says what can't be read."""
     wrong = None
     folder = folder_of_settings(start)
     said: dict[str, object] = {}

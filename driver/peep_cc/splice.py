@@ -1,8 +1,8 @@
-"""Shows functions to `peep` as one listing, and puts what comes back in the place of their lines.
+"""Passes functions to `peep` as one listing, and replaces their lines by the result.
 
-`peep` keeps each line that it doesn't replace byte for byte. So a line that it needn't know, or that it reads by another name, is shown with a comment that tells
-which line of the compiler's it stands for, and that line comes back for it. A function's names stay; behind each stands a branch to a name of nothing, so that none
-runs on into the next one, which needn't be its neighbour in the file.
+`peep` keeps each line that it doesn't replace byte for byte. So a line that it needn't see, or only supports in another form, is passed as a comment or in that
+form, with a mark that names the original line; afterwards the original takes its place again. Functions keep their names. After each comes a branch to an
+external name, so that none falls through into the next one, which needn't follow it in the file.
 """
 
 from __future__ import annotations
@@ -16,15 +16,15 @@ HEAD = ["\t.syntax unified\n", "\t.code 16\n", "\t.text\n"]
 MARK = "@peep-cc "
 MARKED = re.compile(rf".*{MARK}(\d+) (\d+|begin|own)$")
 MOST_LINES = 60_000
-"""The most lines of one listing: `peep` takes some more."""
+"""The most lines of one listing, well below the limit of `peep`."""
 
 
 class SpliceError(Exception):
-    """What came back isn't the listing that was shown."""
+    """The result doesn't match the listing that was passed."""
 
 
 class Shown:
-    """A listing that is shown to `peep`, and which function and line of it each of its lines stands for."""
+    """A listing for `peep`, and for each of its lines the function and the line of that function that it stands for."""
 
     def __init__(self, functions: list[Function], lines: list[str], owners: list[tuple[Function, int] | None]) -> None:
         self.functions = functions
@@ -36,12 +36,12 @@ class Shown:
         return "".join(self.lines)
 
     def owner(self, line: int) -> tuple[Function, int] | None:
-        """The function, and the line of it, that a line of the listing stands for, counted from 1."""
+        """The function, and the line of it, for a line of the listing, counted from 1."""
         return self.owners[line - 1] if 0 < line <= len(self.owners) else None
 
 
 def _is_hidden(line: str, mentioned: set[str]) -> bool:
-    """Whether `peep` needn't know a line with a dot: what unwinding and debug information alone want."""
+    """Whether a line with a dot only serves unwinding or debug information, so that `peep` needn't see it."""
     if line.lstrip().startswith(".L"):
         found = LABEL.match(line)
         return bool(found and found[1] not in mentioned)
@@ -49,7 +49,7 @@ def _is_hidden(line: str, mentioned: set[str]) -> bool:
 
 
 def _for_peep(line: str, mentioned: set[str]) -> str | None:
-    """The line as `peep` is to read it, or nothing where it reads it as it is."""
+    """The form in which `peep` supports the line, empty if it needn't see it, or None if the line is passed as it is."""
     if is_comment(line):
         return ""
     if "." not in line:
@@ -66,7 +66,7 @@ def _for_peep(line: str, mentioned: set[str]) -> str | None:
 
 
 def _shown(function: Function, number: int) -> list[tuple[str, int]]:
-    """A function's lines for `peep`, each with the number of the line that it stands for."""
+    """A function's lines for `peep`, each with the number of the function's line that it stands for."""
     mentioned = {label for line in function.lines if ".L" in line and not (LABEL.match(line) or PLACE.match(line) or ".size" in line) for label in MENTION.findall(line.split("@")[0])}
     lines = [("\t.thumb_func " + MARK + f"{number} begin\n", 0), (f"\t.type {function.name}, %function {MARK}{number} own\n", 0)]
     for at, line in enumerate(function.lines):
@@ -77,7 +77,7 @@ def _shown(function: Function, number: int) -> list[tuple[str, int]]:
 
 
 def shown(functions: list[Function]) -> Shown:
-    """The listing of some functions of a unit."""
+    """The listing for `peep` of some functions of a unit."""
     listing = Shown(functions, list(HEAD), [None] * len(HEAD))
     for number, function in enumerate(functions):
         for line, at in _shown(function, number):
@@ -87,7 +87,7 @@ def shown(functions: list[Function]) -> Shown:
 
 
 def parts(functions: list[Function]) -> list[list[Function]]:
-    """The functions that aren't left out, so many at a time as one listing has room for. One that has too many lines is left out."""
+    """The functions that aren't left out, in groups that each fit one listing. A function with too many lines is left out."""
     found: list[list[Function]] = [[]]
     count = 0
     for function in functions:
@@ -105,7 +105,7 @@ def parts(functions: list[Function]) -> list[list[Function]]:
 
 
 def take_back(listing: Shown, text: str) -> None:
-    """Gives each function of a listing that was shown the lines that came back for it."""
+    """Takes the text that `peep` returned for a listing, and sets each function's new lines."""
     lines = lines_of(text)
     if lines[: len(HEAD)] != HEAD:
         raise SpliceError("the head of the listing didn't come back")
@@ -134,7 +134,7 @@ def take_back(listing: Shown, text: str) -> None:
 
 
 def spliced(lines: list[str], functions: list[Function]) -> list[str]:
-    """The whole listing with the new lines of the functions that have some."""
+    """The compiler's whole listing, with the new lines of the functions that have some."""
     out = list(lines)
     for function in sorted(functions, key=lambda function: function.first, reverse=True):
         if function.new is not None:

@@ -1,6 +1,6 @@
-"""Tables of rules as text: what takes part, which entries and families do anything, and several as one.
+"""Reads and writes tables of rules, drops needless entries and families, and merges several tables.
 
-Any table is audited from its text before it is used, so nothing here has to be trusted.
+Each table is audited from its text before it is used, so nothing here has to be trusted.
 """
 
 from __future__ import annotations
@@ -13,30 +13,30 @@ from .files import write_text
 
 
 VERSION_OF_FAMILIES = 3
-# what the numbers of a table's line `costs` are of, in turn
+# the mnemonics that the numbers of a table's line `costs` belong to, in this order
 COSTED = "adds subs movs cmp lsls lsrs asrs ands eors adcs sbcs rors tst rsbs cmn orrs muls bics mvns mov add sxth sxtb uxth uxtb rev rev16 revsh".split()
 Costs = dict[str, int]
-"""What instructions cost, by their mnemonics. Where it is empty each costs 1, so that a side costs as much as it has instructions."""
+"""The cost of an instruction by its mnemonic. If it is empty, each costs 1, so that a side costs its number of instructions."""
 # the instructions whose number has 8 bits
 IN_BYTES = re.compile(r"((?:movs|cmp|adds|subs) r\d, #)(\d+)$")
 
 
 class TableError(Exception):
-    """Tables that don't go together."""
+    """Tables that can't be merged, or a family without its entry."""
 
 
 def bytes_of(side: list[str]) -> list[int | None]:
-    """The numbers that a side's instructions have in 8 bits, nothing where one has none."""
+    """The 8-bit operands of a side's instructions, None for an instruction without one."""
     return [int(found[2]) if (found := IN_BYTES.match(line)) else None for line in side]
 
 
 def instance(side: list[str], number: int, value: int) -> list[str]:
-    """A side with a value in the 8-bit places of a number."""
+    """A side with a value in place of a number, wherever this is an 8-bit operand."""
     return [f"{found[1]}{value}" if (found := IN_BYTES.match(line)) and int(found[2]) == number else line for line in side]
 
 
 class Entry:
-    """A left and a right side, the items that both leave the same, and the proofs, as lines of text."""
+    """A left and a right side, the items that both leave the same (the mask), the proof, and the logs of open sequences; all as text."""
 
     def __init__(
         self,
@@ -59,19 +59,19 @@ class Entry:
         return sum(self.costs.get(line.partition(" ")[0], 1) for line in side) if self.costs else len(side)
 
     def gain(self) -> int:
-        """How much less its right side costs than its left side."""
+        """By how much its right side costs less than its left side."""
         return self.cost(self.left) - self.cost(self.right)
 
     def rank(self) -> tuple[int, int]:
-        """What its right side costs, then how many instructions it has: the lower, the better."""
+        """The cost of its right side, then its number of instructions: the lower, the better."""
         return self.cost(self.right), len(self.right)
 
     def is_shorter(self) -> bool:
-        """Whether it takes an instruction away, or in a table with costs lowers the cost."""
+        """Whether it removes an instruction, or in a table with costs lowers the cost."""
         return self.gain() > 0
 
     def covers(self, other: Entry) -> bool:
-        """Whether the other entry does nothing that this one doesn't."""
+        """Whether the other entry is needless beside this one: the same left side, a smaller mask, no better right side."""
         return self is not other and self.left == other.left and self.mask > other.mask and self.rank() <= other.rank()
 
     def text(self) -> str:
@@ -84,7 +84,7 @@ class Entry:
 
 
 class Family:
-    """An entry raised: where a number stands in 8-bit places of its sides, each value of a range may stand. The proof as lines of text."""
+    """A raised entry: each value of a range may take the place of a number, wherever this is an 8-bit operand of its sides. The proof is lines of text."""
 
     def __init__(self, entry: Entry, number: int, low: int, high: int, proof: list[str] | None = None) -> None:
         self.entry = entry
@@ -94,15 +94,15 @@ class Family:
         self.proof = proof or []
 
     def width(self) -> int:
-        """How many values it has."""
+        """How many values its range has."""
         return self.high - self.low + 1
 
     def pattern(self) -> tuple[str, ...]:
-        """The left side with its 8-bit places of the number left open."""
+        """The left side with `?` for the number, wherever this is an 8-bit operand."""
         return tuple(f"{found[1]}?" if (found := IN_BYTES.match(line)) and int(found[2]) == self.number else line for line in self.entry.left)
 
     def value_for(self, left: list[str]) -> int | None:
-        """The value with which its left side is this one, where there is one."""
+        """The value of the range for which its left side is `left`, or None."""
         if len(left) != len(self.entry.left):
             return None
         values = {value for own, value in zip(bytes_of(self.entry.left), bytes_of(left)) if own == self.number}
@@ -112,12 +112,12 @@ class Family:
         return value
 
     def covers_entry(self, other: Entry) -> bool:
-        """Whether an entry does nothing that this family doesn't. It needs the one that it raises."""
+        """Whether an entry is needless beside this family. The entry that it raises is always needed."""
         wide = self.entry is not other and self.entry.mask >= other.mask and self.entry.rank() <= other.rank()
         return wide and self.value_for(other.left) is not None
 
     def covers(self, other: Family) -> bool:
-        """Whether the other family does nothing that this one doesn't, and is a narrower one."""
+        """Whether the other family is needless beside this one, and doesn't do the same."""
         own, its = self.entry, other.entry
         if self is other or not (self.low <= other.low and other.high <= self.high and own.mask >= its.mask and own.rank() <= its.rank()):
             return False
@@ -130,7 +130,7 @@ class Family:
         return (self.low, self.high, own.mask, own.rank()) == (other.low, other.high, its.mask, its.rank()) and self.pattern() == other.pattern()
 
     def text(self, place: int) -> str:
-        """Its text in a table, where its entry stands at a place, from 1."""
+        """Its text in a table; `place` is its entry's number, from 1."""
         return "".join(line + "\n" for line in [f"family {place} {self.number} {self.low} {self.high}", "proof", *self.proof])
 
 
@@ -146,7 +146,7 @@ class Table:
         self.families = families or []
 
     def text(self) -> str:
-        """The table's text. Families name their entries as they are counted now."""
+        """The table's text. Families refer to their entries by the present numbers."""
         places = {id(entry): place for place, entry in enumerate(self.entries, 1)}
         parts = [line + "\n" for line in [*self.head, *self.states]]
         parts += [entry.text() for entry in self.entries]
@@ -154,7 +154,7 @@ class Table:
         return "".join(parts) + "end\n"
 
     def bare(self) -> Table:
-        """The table with no entry: by it a listing is read and nothing replaced, and there is nothing to audit."""
+        """The table without entries: with it `peep` reads a listing, replaces nothing, and has nothing to audit."""
         return Table(self.head, self.states, [])
 
     def pool(self) -> list[int]:
@@ -163,7 +163,7 @@ class Table:
 
 
 def in_version(head: list[str], least: int) -> list[str]:
-    """A header in this version, or in its own later one. From version 2 on it says behind the pool how many scratch registers there are."""
+    """A header in version `least`, unchanged if its own is later. From version 2 on, a line after the pool gives the number of scratch registers."""
     version = int(head[0].split()[1])
     if version >= least:
         return head
@@ -172,7 +172,7 @@ def in_version(head: list[str], least: int) -> list[str]:
 
 
 def read_table(text: str) -> Table:
-    """The table of a text, which `peep` wrote or accepted."""
+    """Reads the text of a table that `peep` wrote or accepted."""
     table = Table()
     costs: Costs = {}
     log: list[str] = []
@@ -208,8 +208,8 @@ def read_table(text: str) -> Table:
 
 
 def filtered(table: Table, most_bytes: int = 100_000) -> Table:
-    """The table's entries that take something away, by costs those that lower the cost, but those that another or a family covers or whose text is long: the proof of
-    each is checked at each run. The families of what is left, with the entries that these raise."""
+    """The table with only the entries that remove an instruction (with costs: lower the cost), aren't covered by another or by a family, and have at most
+    `most_bytes` of text, since each run checks each proof; with the families of these that no other covers, and the entries that they raise."""
     shorter = [entry for entry in table.entries if entry.is_shorter() and len(entry.text()) <= most_bytes]
     takes = {id(entry) for entry in shorter}
     families = _uncovered([family for family in table.families if id(family.entry) in takes and family.width() > 1 and len(family.text(0)) <= most_bytes])
@@ -231,12 +231,12 @@ def filtered(table: Table, most_bytes: int = 100_000) -> Table:
 
 
 def _shape(left: list[str]) -> tuple[str, ...]:
-    """A left side with all its numbers in 8 bits left open."""
+    """A left side with `?` for each 8-bit operand."""
     return tuple(IN_BYTES.sub(r"\1?", line) for line in left)
 
 
 def _uncovered(families: list[Family]) -> list[Family]:
-    """The families that none of the others covers, and of those that do the same the first."""
+    """The families that no other covers, and of those that do the same only the first."""
     by_pattern: dict[tuple[str, ...], list[Family]] = {}
     for family in families:
         by_pattern.setdefault(family.pattern(), []).append(family)
@@ -250,10 +250,10 @@ def _uncovered(families: list[Family]) -> list[Family]:
 
 
 def merged(tables: Iterable[Table]) -> Table:
-    """One table of several that were learnt with the same options: the states of all, and of each left side and mask the entry with the shortest right side, by costs with
-    the cheapest; the families with the entries that they raise. Tables of several versions come in the latest.
+    """One table of several that were learnt with the same options: the states of all, for each left side and mask the entry with the shortest right side (with
+    costs: the cheapest), and the families with the entries that they raise. It has the latest version of the given tables.
 
-    A state of one table may tell a sequence that an entry of another names open; such a name has to go (`drop_told`)."""
+    A state of one table may tell from the left side a sequence that an entry of another lists as open; `drop_told` removes it from that list."""
     out = Table()
     best: dict[tuple[tuple[str, ...], frozenset[str]], Entry] = {}
     raised: dict[tuple[tuple[str, ...], tuple[str, ...], frozenset[str]], Entry] = {}
@@ -283,7 +283,7 @@ def merged(tables: Iterable[Table]) -> Table:
 
 
 def drop_told(table: Table, refusal: str) -> bool:
-    """Drops the open name that a refusal of the audit tells of, and says whether there is one."""
+    """Drops the open sequence that the audit refused, and returns whether its refusal names one."""
     found = re.search(r"refused entry (\d+) 5 (\d+)", refusal)
     if found is None:
         return False

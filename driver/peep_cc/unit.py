@@ -1,4 +1,4 @@
-"""One object: compiled, rewritten, assembled, and kept as the compiler wrote it unless it got smaller."""
+"""Makes one object: compiles, rewrites and assembles it, and keeps the compiler's own unless the code got smaller."""
 
 from __future__ import annotations
 
@@ -17,16 +17,16 @@ from .settings import Settings
 from .splice import spliced
 from .words import Compilation
 
-# what a compiler writes beside its listing, that belongs beside the object
+# files that a compiler writes beside its listing and that belong beside the object
 SIDE_FILES = (".su", ".ci", ".opt.yaml")
 
 
 class PlainError(Exception):
-    """The listing couldn't be made or assembled: the compiler has to be asked as the build asked it."""
+    """The listing couldn't be made or assembled: the compiler has to run with the build's own arguments."""
 
 
 def why_plain(settings: Settings) -> str | None:
-    """Why nothing can be rewritten with the settings, if it can't."""
+    """Why nothing can be rewritten with these settings, or None if it can."""
     if settings.wrong:
         return settings.wrong
     if not settings.program:
@@ -40,7 +40,7 @@ def why_plain(settings: Settings) -> str | None:
 
 
 def is_program(name: str) -> bool:
-    """Whether a program of this name can be run."""
+    """Whether a program of this name or path can be run."""
     if os.access(name, os.X_OK):
         return True
     import shutil
@@ -49,7 +49,7 @@ def is_program(name: str) -> bool:
 
 
 class Unit:
-    """One object that is being made in a folder for its files."""
+    """One object that is being made. `work` is the folder for temporary files."""
 
     def __init__(self, compilation: Compilation, settings: Settings, work: str) -> None:
         self.compilation = compilation
@@ -59,10 +59,10 @@ class Unit:
         self.facts = Facts(os.path.abspath(compilation.target), compilation.source)
 
     def compile(self) -> str:
-        """Writes the listing and what goes with it, and the object as the compiler has it. Returns what the compiler says."""
+        """Writes the listing, its side files and the compiler's own object. Returns the compiler's messages."""
         words = self.compilation.listing_words(self.listing)
         if not any(word.startswith("-g") for word in words):
-            # gcc then tells in comments which line of the source each instruction comes from
+            # gcc then names the source lines in comments
             words.append("-fverbose-asm")
         said = self._compiler(words)
         said += self._compiler(self.compilation.assembler_words(self.listing, self.compilation.target))
@@ -81,7 +81,7 @@ class Unit:
         return ran.stderr
 
     def shorten(self) -> None:
-        """Rewrites the listing, and keeps the object that comes of it where it is smaller."""
+        """Rewrites the listing, and keeps the resulting object if its code is smaller."""
         facts = self.facts
         facts.before = facts.after = text_size(self.compilation.target)
         lines = lines_of(read_text(self.listing))
@@ -138,7 +138,7 @@ class Unit:
                 facts.replacements += self._replacements(function, froms)
 
     def _where(self, origin: Origin | None, function: Function, at: int) -> str:
-        """A line of the source, or where the compiler tells none the line of its listing."""
+        """The source line, or the line of the listing if the compiler names none."""
         return str(origin) if origin else f"{self.compilation.source}: line {function.first + at + 1} of the listing"
 
     def _replacements(self, function: Function, froms: list[Origin | None]) -> list[Replacement]:
@@ -154,7 +154,7 @@ class Unit:
 
 
 def changes(old: list[str], new: list[str]) -> list[tuple[int, int, int, int]]:
-    """Where instructions differ: from where to where in the old ones, and in the new ones. Two such places with a single instruction between are one."""
+    """The ranges where instructions differ, in the old and in the new ones. Two ranges with at most one old instruction between are joined."""
     import difflib
 
     found: list[tuple[int, int, int, int]] = []
@@ -168,7 +168,7 @@ def changes(old: list[str], new: list[str]) -> list[tuple[int, int, int, int]]:
 
 
 def put_in_place(made: str | os.PathLike[str], target: str) -> None:
-    """Puts a file in the place of another, at once, so that the other stands where the disk is full."""
+    """Replaces a file by another atomically: if the disk is full, the old one remains."""
     import shutil
 
     place = os.path.realpath(target)
@@ -183,13 +183,13 @@ def put_in_place(made: str | os.PathLike[str], target: str) -> None:
 
 
 def error_of(said: str) -> str:
-    """The first line with an error of what a compiler said, or the last one."""
+    """The first line of a compiler's messages that has the word error, otherwise the last line."""
     lines = said.strip().splitlines() or ["nothing said"]
     return next((line for line in lines if "error" in line.lower()), lines[-1])
 
 
 def plain(settings: Settings, words: list[str]) -> int:
-    """Asks the compiler as the build asked, in our place."""
+    """Runs the compiler with the build's own arguments, in place of this process."""
     sys.stderr.flush()
     try:
         os.execvp(settings.compiler[0], [*settings.compiler, *words])
@@ -217,10 +217,10 @@ def make(compilation: Compilation, settings: Settings, words: list[str]) -> int:
             except PlainError:
                 raise
             except Exception as error:
-                # whatever fails, the plain object stands
+                # whatever fails, the compiler's own object is kept
                 facts.error = str(error) or type(error).__name__
     except PlainError as error:
-        # told though the compiler may refuse the source: then there is no object, and the report has nothing to tell of it
+        # logged even if the compiler may refuse the source: then there is no object, and the report leaves it out
         facts.error = f"the way by a listing fails: {error_of(str(error))}"
         write_facts(settings.log, facts)
         return plain(settings, words)

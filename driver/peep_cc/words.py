@@ -1,33 +1,33 @@
-"""The compiler's command line: whether it makes one object of one source, and by which words each step of that is done."""
+"""Reads the compiler's command line: whether it compiles one source to one object, and the arguments for each step of that."""
 
 from __future__ import annotations
 
 import os
 from collections import namedtuple
 
-# words of gcc and clang whose argument is the next word
+# options of gcc and clang whose argument is the next word
 TAKES_NEXT = {
     "-o", "-I", "-D", "-U", "-include", "-imacros", "-isystem", "-iquote", "-idirafter", "-iprefix", "-iwithprefix", "-iwithprefixbefore", "-isysroot",
     "-MF", "-MT", "-MQ", "-MJ", "-x", "-T", "-L", "-l", "-u", "-e", "-z", "-A", "-B", "-target", "--target", "--param", "--sysroot", "-aux-info", "-arch", "-dumpbase",
     "-dumpbase-ext", "-dumpdir", "-specs", "-wrapper", "-Xassembler", "-Xlinker", "-Xpreprocessor", "-Xclang", "-mllvm", "-mcpu", "-march",
 }
 SOURCES = (".c", ".cc", ".cp", ".cxx", ".cpp", ".c++", ".C", ".CPP", ".i", ".ii")
-# with these the compiler writes something else than one object, or names files or paths by the object's place
+# with these the compiler writes other things than one object, or derives file names or paths from the object's
 STAYS_PLAIN = {"-E", "-S", "-M", "-MM", "-fsyntax-only", "-v", "-###", "-x", "-shared", "-r", "-wrapper", "-ftest-coverage", "--coverage", "-coverage", "-gsplit-dwarf", "-Q"}
 STAYS_PLAIN_FROM = ("-flto", "-save-temps", "--save-temps", "-fdump", "-fprofile", "-Wp,-M", "--version", "--help", "-dump", "-print", "--print", "-emit-", "-fplugin", "-ftime-report")
-# what the assembler has to be told, as the compiler tells it
+# the options that are passed on when assembling
 TO_ASSEMBLER = ("-m", "-Wa,", "-B", "--sysroot", "-specs", "--specs", "--target", "-target", "-fintegrated-as", "-fno-integrated-as", "-integrated-as", "-no-integrated-as", "-gz", "-I", "-Xassembler", "-nostdinc")
 
 
 class Compilation(namedtuple("Compilation", "source target words")):
-    """One object made of one source, by words without `-c` and without the object."""
+    """One object compiled from one source, by arguments without `-c` and `-o`."""
 
     source: str
     target: str
     words: tuple[str, ...]
 
     def listing_words(self, listing: str | os.PathLike[str]) -> list[str]:
-        """The words that write a listing, with the dependencies of the object where these are asked for."""
+        """The arguments for writing a listing, and the object's dependency file if that is asked for."""
         words = [*self.words, "-S", "-o", str(listing)]
         if "-MD" in self.words or "-MMD" in self.words:
             if not any(word.startswith("-MF") for word in self.words):
@@ -37,18 +37,18 @@ class Compilation(namedtuple("Compilation", "source target words")):
         return words
 
     def assembler_words(self, listing: str | os.PathLike[str], target: str, tells: bool = True) -> list[str]:
-        """The words that assemble a listing. Where it isn't to tell of it, those that ask for the assembler's own listing are left out."""
+        """The arguments for assembling a listing; unless `tells`, without those that ask for the assembler's own listing."""
         kept = [word for group in grouped(self.words) if group[0].startswith(TO_ASSEMBLER) and (tells or not group[0].startswith("-Wa,-a")) for word in group]
-        # clang tells of words that it has no use for here
+        # clang warns of options that it doesn't use here
         return [*kept, "-Wno-unused-command-line-argument", "-c", str(listing), "-o", str(target)]
 
     def asks_assembler_to_tell(self) -> bool:
-        """Whether the assembler is to write a listing of its own."""
+        """Whether the arguments ask for the assembler's own listing."""
         return any(word.startswith("-Wa,-a") for word in self.words)
 
 
 def grouped(words: tuple[str, ...] | list[str]) -> list[tuple[str, ...]]:
-    """The words, each with its argument."""
+    """The words, each option together with its argument."""
     groups, rest = [], list(words)
     while rest:
         word = rest.pop(0)
@@ -57,7 +57,7 @@ def grouped(words: tuple[str, ...] | list[str]) -> list[tuple[str, ...]]:
 
 
 def spelled_out(words: list[str]) -> list[str]:
-    """The words with those of response files, which the compiler reads in the place of `@FILE`."""
+    """The words with each response file `@FILE` replaced by its words."""
     out = []
     for word in words:
         if word.startswith("@") and os.path.isfile(word[1:]):
@@ -74,7 +74,7 @@ def spelled_out(words: list[str]) -> list[str]:
 
 
 def compilation(words: list[str]) -> Compilation | str:
-    """What the words ask for, where it is one object of one source; or why it isn't."""
+    """The compilation, if the words ask for one object of one source; otherwise why not."""
     groups = grouped(spelled_out(words))
     for group in groups:
         if group[0] in STAYS_PLAIN or group[0].startswith(STAYS_PLAIN_FROM):

@@ -1,4 +1,4 @@
-"""Tests of the driver. What wants a tool that isn't here is told and left out."""
+"""Tests of the driver. Tests that need a missing tool are skipped with a message."""
 
 import os
 import shutil
@@ -14,13 +14,13 @@ sys.path.insert(0, str(DRIVER))
 
 
 def lacks(*tools: str) -> str | None:
-    """What to say where one of these isn't here."""
+    """The message if one of these is missing, otherwise None."""
     missing = [tool for tool in tools if shutil.which(tool) is None]
     return f"no {missing[0]} here" if missing else None
 
 
 def lacks_program() -> str | None:
-    """What to say where the program isn't proved and built. PEEP names another one."""
+    """The message if the program isn't built, otherwise None. PEEP names another program."""
     return None if program().is_file() else "no proved program here: ./peep builds it"
 
 
@@ -30,6 +30,6 @@ def program() -> Path:
 
 
 def run(*words: str | Path, folder: Path, **variables: str) -> subprocess.CompletedProcess[str]:
-    """Runs a command in a folder, with the settings of these variables alone."""
+    """Runs a command in a folder. Of the settings' variables only those given are set."""
     environment = {name: value for name, value in os.environ.items() if not name.startswith("PEEP")}
     return subprocess.run([*map(str, words)], cwd=folder, env={**environment, **variables}, capture_output=True, text=True)

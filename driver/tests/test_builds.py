@@ -1,4 +1,4 @@
-"""Builds of the firmware of `examples/`, by make and by cmake, from gcc and from clang: linked and run in an emulator before and after."""
+"""Builds of the firmware in `examples/` with make and cmake, gcc and clang, linked and run in an emulator before and after rewriting."""
 
 import subprocess
 import tempfile
@@ -11,11 +11,11 @@ from peep_cc.tables import filtered, read_table, write_table
 
 EXAMPLES = TOP / "examples"
 UNITS = ["vectors", "fixed", "states", "text", "uart", "main"]
-# no loops turned into calls of memset, which would call itself
+# no loops turned into calls of memset, which would make memset call itself
 WORDS = [*CORE, "-ffreestanding", "-fno-jump-tables"]
 FOR_GCC = ["-fno-tree-loop-distribute-patterns"]
 FOR_CLANG = ["--target=arm-none-eabi", "-fno-builtin"]
-# what clang calls to clear an array
+# the function that clang calls to clear an array
 RUNTIME = """\
 void __aeabi_memclr4(volatile char *at, unsigned count) { while (count--) *at++ = 0; }
 """
@@ -42,7 +42,7 @@ LINE = b"80Ff7fFe\n"
 
 
 def emulated(image: Path, folder: Path) -> bytes:
-    """What the firmware prints for its line on a micro:bit. It ends the emulator itself; the line is sent once its prompt is there."""
+    """The firmware's output on an emulated micro:bit. Its input line is sent once its prompt appears; it ends the emulator itself."""
     words = ["qemu-system-arm", "-M", "microbit", "-nographic", "-no-reboot", "-kernel", str(image)]
     with subprocess.Popen(words, cwd=folder, stdin=subprocess.PIPE, stdout=subprocess.PIPE, stderr=subprocess.DEVNULL) as emulator:
         assert emulator.stdin and emulator.stdout
@@ -62,7 +62,7 @@ class Builds(unittest.TestCase):
         made = tempfile.TemporaryDirectory()
         self.addCleanup(made.cleanup)
         self.folder = Path(made.name)
-        # what the firmware's own table does, without the audit of what it doesn't
+        # the firmware's own table without its needless entries, which needn't be audited then
         write_table(self.folder / "firmware.peep", filtered(read_table((EXAMPLES / "firmware.peep").read_text())))
 
     def settings(self) -> dict[str, str]:

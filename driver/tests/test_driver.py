@@ -1,4 +1,4 @@
-"""The driver with programs that stand for `peep`, and do what it does or fail as it may."""
+"""The driver with programs in place of `peep` that do what `peep` does, or fail as it may."""
 
 import errno
 import os
@@ -27,9 +27,9 @@ int never(int x)
     return 0;
 }
 """
-# its left side stands in `twice`, so that the program is asked
+# its left side occurs in `twice`, so that the program is run
 TABLE = "peep 1\nentry\nleft lsls r0, r0, #1\nmask r0\nproof\nend\n"
-# takes away each `nop`, and refuses `wfi`, and a table that is empty
+# removes each `nop`, and refuses `wfi` and an empty table
 STANDS_IN = """\
 #!/bin/sh
 [ -s "$2" ] || { echo "refused table 1"; exit 1; }
@@ -72,7 +72,7 @@ class Driver(unittest.TestCase):
         return facts
 
     def stays_plain(self, **variables: str) -> str:
-        """Compiles, and returns why the object is the compiler's own."""
+        """Compiles, and returns the logged reason why the object is the compiler's own."""
         self.assertEqual(self.compiled(DRIVER / "peep-cc", "a.o", **variables).read_bytes(), self.plain)
         facts = self.told()
         self.assertEqual(facts.saved(), 0)
@@ -166,7 +166,7 @@ class Driver(unittest.TestCase):
         self.assertEqual((self.folder / "a.o").read_bytes(), self.plain)
 
     def test_compiler_that_writes_no_listing(self) -> None:
-        # as where there is no room for it
+        # as if there were no room for it
         compiler = self.folder / "compiler"
         compiler.write_text(f'#!/bin/sh\nfor word in "$@"; do [ "$word" = -S ] && {{ echo "No space left on device" >&2; exit 1; }}; done\nexec {COMPILER} "$@"\n')
         compiler.chmod(0o755)
@@ -213,7 +213,7 @@ class Driver(unittest.TestCase):
             self.assertEqual(self.compiled(DRIVER / "peep-cc", "a.o", *more).read_bytes(), plain, more)
 
     def test_comments_of_any_bytes_and_length(self) -> None:
-        # gcc tells each line of the source beside its instructions
+        # gcc puts each source line beside its instructions
         lines = SOURCE.encode().splitlines(keepends=True)
         for comment in (b"/* \xe9 */", "/* \u00e9\u2028\x0c */".encode(), b"/* " + 1200 * b"x" + b" */", b"/* @peep-cc 0 own */"):
             (self.folder / "a.c").write_bytes(b"".join([*lines[:2], lines[2].rstrip() + comment + b"\r\n", lines[3].rstrip() + comment + b"\n", *lines[4:]]))

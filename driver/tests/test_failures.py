@@ -1,4 +1,4 @@
-"""Builds by make in which a program or a table is missing or fails, or a disk is full: they end well, each object is the compiler's own, and the report says why."""
+"""Builds by make where a program or table is missing or fails, or a disk is full: they succeed, the objects are the compiler's own, the report says why."""
 
 import os
 import subprocess
@@ -12,7 +12,7 @@ from peep_cc.elf import text_size
 
 NAMES = ["one", "two"]
 OBJECTS = [f"{name}.o" for name in NAMES]
-# without a file between the compiler and the assembler, so that a full folder for such files doesn't fail the build by itself
+# no temporary file between compiler and assembler, so that a full folder for such files doesn't make the build fail by itself
 WORDS = [*CORE, "-Os", "-ffunction-sections", "-masm-syntax-unified", "-pipe"]
 MAKEFILE = f"""\
 CFLAGS = {" ".join(WORDS)}
@@ -22,12 +22,12 @@ $(OUT)/%.o: %.c
 \t$(CC) $(CFLAGS) -c $< -o $@
 """
 NO_TOOLS = lacks("make", COMPILER)
-# a file system of a given size for a while, seen by one command alone
+# a temporary file system of a given size that only one command sees
 ON_SMALL_DISK = ["unshare", "--map-root-user", "--mount", "sh", "-c", 'mount -t tmpfs -o size="$1" none "$2" && shift 2 && "$@"', "sh"]
 
 
 def lacks_disk() -> str | None:
-    """What to say where no file system can be mounted for a while."""
+    """The message if no temporary file system can be mounted, otherwise None."""
     if lacks("unshare"):
         return lacks("unshare")
     with tempfile.TemporaryDirectory() as name:
@@ -61,14 +61,14 @@ class Failures(unittest.TestCase):
         return path
 
     def taken(self) -> list[bytes]:
-        """The objects, which are then gone."""
+        """Reads the objects and deletes them."""
         found = [(self.folder / name).read_bytes() for name in OBJECTS]
         for name in OBJECTS:
             (self.folder / name).unlink()
         return found
 
     def built(self, *before: str, **variables: str) -> str:
-        """What a build by the driver says beside what make says. It passes."""
+        """Builds with the driver, checks that this succeeds, and returns standard error."""
         settings = {"PEEP": str(self.peep), "PEEP_TABLES": "table.peep"} | variables
         ran = run(*before, "make", "-s", f"CC={DRIVER / 'peep-cc'}", folder=self.folder, **settings)
         self.assertEqual((ran.returncode, ran.stdout), (0, ""), ran.stderr)
@@ -138,7 +138,7 @@ class Failures(unittest.TestCase):
 
     @unittest.skipIf(NO_DISK, NO_DISK or "")
     def test_disks_of_all_sizes_for_the_folder_of_a_run(self) -> None:
-        # from too small for the listing to large enough for all
+        # from too small for the listing to large enough for everything
         before = 0
         for kilobytes in (4, 8, 12, 16, 20, 24, 32, 1000):
             self.built(*ON_SMALL_DISK, f"{kilobytes}k", str(self.disk), TMPDIR=str(self.disk))
@@ -151,7 +151,7 @@ class Failures(unittest.TestCase):
 
     @unittest.skipIf(NO_DISK, NO_DISK or "")
     def test_full_disk_for_the_object(self) -> None:
-        # there is room for the compiler's two objects, and none for one more beside them
+        # room for the compiler's two objects, but not for a third
         room = 4 * sum(-(-len(object) // 4096) for object in self.plain)
         out = self.disk / "out"
         copies = f'mkdir "$0" && "$@" OUT="$0" && cp "$0"/*.o "{self.folder}"'
@@ -162,7 +162,7 @@ class Failures(unittest.TestCase):
 
 
 def wrong_table() -> str:
-    """A table with an entry that is wrong, and whose left side stands in the sources."""
+    """A table with a wrong entry whose left side occurs in the compiled code."""
     moves = (TOP / "examples" / "moves.peep").read_text()
     return moves.replace("pool 24 255", "pool 1 24").replace("left mov r0, r0\nmask r0 n z c v", "left lsls r0, r0, #1\nmask r0")
 

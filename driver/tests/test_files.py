@@ -1,4 +1,4 @@
-"""Files of text, and folders for a while."""
+"""Text files and temporary folders."""
 
 import os
 import unittest

@@ -1,4 +1,4 @@
-"""In which order tables are taken, and what is learnt with."""
+"""The order of tables, the choice of entries, and the options for learning."""
 
 import tempfile
 import unittest
@@ -44,7 +44,7 @@ NAMES = {"mov r0, r0": "one", "mov r1, r1": "two"}
 
 
 class Stand:
-    """Stands for the program: by each table it replaces so many windows, each time the next number, and a line by another; and it refuses lines with a word."""
+    """In place of the program: each run with a table reports the next of its counts and makes the given changes; a line with a given word is refused."""
 
     def __init__(self, counts: dict[str, list[int]], learnt: str = "", refused: str = "", changes: dict[str, str] | None = None) -> None:
         self.counts, self.learnt, self.refused, self.changes = counts, learnt, refused, changes or {}
@@ -54,7 +54,7 @@ class Stand:
     def rewrite(self, table: str, listing: str, out: str) -> int:
         text = Path(listing).read_text()
         self.tables.append(Path(table).read_text())
-        # of what was chosen the entries tell from which table it is
+        # the entries of a chosen table show which table they are from
         sides = [" ".join(entry.left) for entry in read_table(self.tables[-1]).entries]
         name = NAMES.get(sides[0], "some") if sides and Path(table).stem == "chosen" else Path(table).stem
         self.calls.append(name)
@@ -118,7 +118,7 @@ class Recipe(unittest.TestCase):
         self.assertEqual([found.why for found in functions], [None, "peep: no line of the listing's grammar", None, "peep: no line of the listing's grammar"])
         self.assertEqual([found.at for found in functions], [None, 2, None, 1])
         self.assertEqual([found.new is not None for found in functions], [True, False, True, False])
-        # a table without entries tells, so that no audit is paid for it
+        # refused lines are found with a table without entries, which needs no audit
         self.assertEqual(stand.calls, ["one", "bare", "bare", "one"])
         self.assertEqual(read_table(stand.tables[1]).entries, [])
 
@@ -129,7 +129,7 @@ class Recipe(unittest.TestCase):
     def test_only_entries_whose_left_sides_may_stand_there_are_taken(self) -> None:
         stand = Stand({})
         self.rewriter(stand, [], "one", "two").rewrite([function("f", "lsls r3, r4, #24", "lsrs r3, r3, #24", "nop")])
-        # the first run is there to tell which lines are refused
+        # the first run only finds the lines that are refused
         self.assertEqual(stand.calls, ["chosen"])
         self.assertEqual((read_table(stand.tables[0]).entries, read_table(stand.tables[0]).states), ([], read_table(MOVES.read_text()).states))
 

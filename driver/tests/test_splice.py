@@ -1,4 +1,4 @@
-"""What functions are taken from a listing, how they are shown, and how they come back."""
+"""Which functions are taken from a listing, and how they are passed to `peep` and put back."""
 
 import unittest
 
@@ -75,7 +75,7 @@ class LeftOut(unittest.TestCase):
 
     def test_directives(self) -> None:
         self.assertEqual(why("\t.thumb_set\tg, f"), "a directive in code")
-        # an alias that -fipa-icf makes stands outside
+        # an alias made by -fipa-icf is outside the function
         self.assertIsNone(why("\tbx\tlr", behind="\t.global g\n\t.thumb_set g,f\n"))
 
     def test_name_of_a_register(self) -> None:

@@ -1,4 +1,4 @@
-"""Tables as text."""
+"""Tables as text: covering, filtering, merging and raising."""
 
 import re
 import tempfile
@@ -152,7 +152,7 @@ class Families(unittest.TestCase):
 
 
 class Raises:
-    """Stands for the program: of each number it accepts the values of a range, and names the lowest other one, or no value where that is too much."""
+    """In place of the program: accepts values from `low` to `high`, refuses naming the lowest other value, or none if the range is wider than `most`."""
 
     def __init__(self, low: int, high: int, most: int = 256) -> None:
         self.low, self.high, self.most = low, high, most
@@ -183,7 +183,7 @@ class Raising(unittest.TestCase):
         program = Raises(2, 200)
         found = self.raised(program, entry("movs r0, #4; x", "a", "r0"), entry("movs r0, #9; x", "a", "r0"), entry("movs r0, #7; y", "a", "r0"))
         self.assertEqual([(family.number, family.low, family.high, family.proof) for family in found.families], [(4, 2, 200, ["1 0 2 0"])])
-        # 9 isn't of the pool, but the family has it
+        # 9 isn't in the pool, but in the family's range
         self.assertEqual([found.left[0] for found in found.entries], ["movs r0, #4", "movs r0, #7"])
         self.assertEqual(found.head, ["peep 3", "pool 4 5 7", "scratch 0"])
         self.assertEqual(program.asked[:3], [(0, 255), (1, 255), (2, 255)])

@@ -1,4 +1,4 @@
-"""What the compiler's command line asks for."""
+"""Reading the compiler's command line."""
 
 import tempfile
 import unittest
