@@ -12,16 +12,16 @@ from .words import compilation
 HELP = """\
 peep-cc: a compiler that makes objects smaller by the proved rules of peep.
 
-    make CC=peep-cc                         arm-none-eabi-gcc, with its own words, stands behind it
+    make CC=peep-cc                         runs arm-none-eabi-gcc with the build's own arguments
     cmake -DCMAKE_C_COMPILER=/path/to/peep-cc ..
-    ln -s /path/to/peep-cc ~/bin/clang      called by another name it stands for the next program of that name in the path
+    ln -s /path/to/peep-cc ~/bin/clang      called by another name it runs the first other program of that name in the path
     peep-cc --peep-report [LOG|FOLDER]..    what was saved, object by object; by default of peep-cc.log here
     peep-cc --peep-settings                 the settings as they are here
     peep-cc --peep-help                     this page
 
-All other words go to the compiler. A file in C or C++ that is compiled to one object (-c) with -mcpu=cortex-m0, m0plus or m1 is compiled to assembly, those of its
-functions that lie in the profile are rewritten by the tables, and the object that comes of it is kept where its code is smaller. In every other case, and whenever
-something fails, the object is the compiler's own; the log tells why.
+All other arguments go to the compiler. A file in C or C++ that is compiled to one object (-c) with -mcpu=cortex-m0, m0plus or m1 is compiled to assembly, its supported
+functions are rewritten by the tables, and the resulting object is kept if its code is smaller. In every other case, and whenever something fails, the object is the
+compiler's own; the log says why.
 
 Settings come from the environment, then from the file peep-cc.toml in this folder or above:
 
