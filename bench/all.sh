@@ -1,12 +1,12 @@
 #!/usr/bin/env bash
-# Runs every measure, one after the other, and prints what each says: times with their ratios, and factors of growth. A measure whose outside tool is
-# missing is skipped with a line, and one that fails is told and leaves the status 1. Use: bench/all.sh LISTINGS, a folder of listings that gcc wrote.
+# Runs every measure, one after the other, and prints what each prints: times with their ratios, and factors of growth. A measure whose external
+# tool is missing is skipped with a message. If one fails, the status is 1. Use: bench/all.sh LISTINGS, a folder of listings that gcc wrote.
 . "$(dirname "$0")/common.sh"
 listings=${1:-}
 [ -d "$listings" ] || { sed -n '2,3s/^# //p' "$0" >&2; exit 2; }
 failed=0
 
-# measure TOOLS RUNNER SCRIPT WORD..: runs a script of this folder, which needs the tools beside rt and rustc.
+# measure TOOLS RUNNER SCRIPT WORD..: runs a script of this folder, which needs the tools besides rt and rustc.
 measure() {
     local tool
     echo "$3:"

@@ -1,6 +1,6 @@
 #!/usr/bin/env bash
-# Measures reading and auditing tables beside the same in plain Rust: one of ENTRIES entries with 401,323 shorter sequences each and no proofs, and one with
-# proofs of MEGABYTES. Use: bench/audit.sh [ENTRIES [MEGABYTES [TURNS]]]
+# Measures reading and auditing two tables with the proved crates and in plain Rust: one of ENTRIES entries with 401,323 shorter sequences each and
+# no proofs, and one with MEGABYTES of proofs. Use: bench/audit.sh [ENTRIES [MEGABYTES [TURNS]]]
 . "$(dirname "$0")/common.sh"
 entries=${1:-1000} megabytes=${2:-50} turns=${3:-3}
 take_crates table_audit

@@ -1,6 +1,6 @@
 #!/usr/bin/env bash
-# Measures how long the proved crate takes to find those of the 4,438,005 sequences of at most three instructions over r0, r1 and a pool of two numbers that cost
-# less than 36, beside the same in plain Rust. Use: bench/cheaper.sh [TURNS]
+# Measures finding those of the 4,438,005 sequences of at most three instructions over r0, r1 and a pool of two numbers that cost less than 36, with
+# the proved crate and in plain Rust. Use: bench/cheaper.sh [TURNS]
 . "$(dirname "$0")/common.sh"
 turns=${1:-5}
 take_crates seq_enum

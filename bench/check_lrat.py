@@ -1,16 +1,16 @@
-"""Runs `lrat_check` on proofs that CaDiCaL wrote, whole and damaged, and counts what it says.
+"""Runs `lrat_check` on proofs that CaDiCaL wrote, intact and damaged, and compares its answers.
 
 Usage: python3 bench/check_lrat.py FOLDER [FORMULA.cnf ..]
 
-FOLDER lies outside the repository: the program is built there. Without formulas, a few are made:
-pigeons, and random clauses of three literals. Each proof is turned into lines with hints, and
+FOLDER is outside the repository: the program is built there. Without formulas, a few are made:
+pigeonhole formulas, and random clauses of three literals. Each proof gets hints, and then
 
-- each line is accepted, and the formula is refuted by the last;
-- each line is damaged in up to seven ways (a literal left out or turned, a hint left out, swapped
-  with the next or another one in its place, a minus, an id that was there) and has to be answered
-  as the format's description says, by a checker written again in Python;
-- a line that still holds with some damage is taken with it, and the rest is answered as that
-  checker says; and the same where a whole line is left out now and then.
+- each line has to be accepted, and the last has to refute the formula;
+- each line is damaged in up to seven ways (a literal left out or negated, a hint left out, swapped
+  with the next or replaced, a minus sign, an id that is in use), and the answer has to be that of a
+  second checker, written in Python from the format's description;
+- a damaged line that still holds is added, and the later answers have to be the second checker's;
+  the same where a whole line is left out now and then.
 """
 
 import pathlib
@@ -23,7 +23,7 @@ from lrat_lines import Checker, lines, read_dimacs, read_drat, text
 
 
 def pigeons(holes):
-    """One pigeon more than there are holes."""
+    """The pigeonhole formula: one more pigeon than holes."""
     variable = lambda pigeon, hole: pigeon * holes + hole + 1
     clauses = [[variable(p, h) for h in range(holes)] for p in range(holes + 1)]
     for h in range(holes):
@@ -33,7 +33,7 @@ def pigeons(holes):
 
 
 def three_literals(variables, count, seed):
-    """Random clauses of three literals by different variables."""
+    """Random clauses of three literals over different variables."""
     numbers = random.Random(seed)
     return variables, [
         [numbers.choice([1, -1]) * v for v in numbers.sample(range(1, variables + 1), 3)]
@@ -47,7 +47,7 @@ def write_dimacs(path, variables, clauses):
 
 
 def proof(formula, folder):
-    """The lines of a proof that CaDiCaL writes of the formula."""
+    """The lines of a proof of the formula, written by CaDiCaL."""
     drat = folder / "proof.drat"
     done = subprocess.run(
         ["cadical", "--plain", "--no-binary", "-q", formula, drat], capture_output=True, text=True
@@ -59,7 +59,7 @@ def proof(formula, folder):
 
 
 def damaged(line, numbers):
-    """Lines that differ from it in one place."""
+    """Copies of the line that each differ in one place."""
     if len(line) == 2:
         number, ids = line
         yield number, [*ids, ids[0]]
@@ -81,7 +81,7 @@ def damaged(line, numbers):
 
 
 def try_line(checker, line, stream, wanted):
-    """Puts a line into the stream with the answer that is due to it, and adds it if it holds."""
+    """Adds the line and its expected answer to the stream, and the line to the checker if it holds."""
     fault = checker.fault(line)
     stream.append(text(line))
     wanted.append(fault or "ok")
@@ -91,7 +91,7 @@ def try_line(checker, line, stream, wanted):
 
 
 def streams(clauses, proof_lines, numbers):
-    """Lines with the answers due to them: each whole, each damaged, and some left out."""
+    """Streams of lines with their expected answers: each line intact, each damaged, and some left out."""
     stream, wanted = [], []
     checker = Checker(clauses)
     for line in proof_lines:

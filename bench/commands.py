@@ -3,9 +3,9 @@
 
 Use: bench/commands.py [PAGE..], by default README.md and all pages of docs/.
 
-A command is an indented line that begins as one of PROGRAMS. What it prints stands behind two blanks and `# `, and goes on in indented lines that begin with `# `;
-without these it prints nothing. Lines that are printed are joined by `, `, blanks count as one, and `..` stands for any text. Commands run in a copy of the files
-that git knows, one copy a page; one that needs a tool that isn't here is told and left out, as is `rt`, which is the gate."""
+A command is an indented line that begins with one of PROGRAMS. Its expected output follows two blanks and `# `, and continues in indented lines that begin
+with `# `; without these it prints nothing. Printed lines are joined by `, `, several blanks count as one, and `..` stands for any text. Commands run in a copy
+of the files that git tracks, one copy per page. A command whose tool is missing is reported and skipped, and so is `rt`, which is the gate."""
 import re
 import shutil
 import subprocess
@@ -20,7 +20,7 @@ SECONDS = 600
 
 
 def whole_lines(text):
-    """The lines with their numbers. A line that ends with a backslash goes on in the next."""
+    """The lines with their numbers. A line that ends with a backslash continues in the next."""
     begun, first = "", 0
     for number, line in enumerate(text.splitlines(), 1):
         if line.endswith("\\"):
@@ -31,7 +31,7 @@ def whole_lines(text):
 
 
 def commands(text):
-    """Each command of a page with its line number and the text that it is said to print."""
+    """Each command of a page with its line number and its expected output."""
     found = []
     for number, line in whole_lines(text):
         if not line.startswith("    "):
@@ -46,13 +46,13 @@ def commands(text):
 
 
 def fits(said, printed):
-    """Whether the printed text is what was said."""
+    """Whether the printed text is the expected one."""
     parts = (re.escape(" ".join(part.split())) for part in said.split(".."))
     return re.fullmatch(".*".join(parts).replace(r"\ .*", ".*").replace(r".*\ ", ".*"), printed, re.DOTALL) is not None
 
 
 def copied(folder):
-    """A copy of the repository's files with the program, where it is built."""
+    """Copies the repository's files, and the program if it is built, into the folder."""
     names = subprocess.run(["git", "ls-files", "-z"], cwd=TOP, capture_output=True, check=True).stdout.decode().split("\0")
     program = "crates/peep/out/peep"
     for name in filter(None, names + [program]):
@@ -62,14 +62,14 @@ def copied(folder):
 
 
 def try_page(page, folder):
-    """Runs a page's commands in the folder; answers how many printed something else."""
+    """Runs a page's commands in the folder; returns how many printed something else."""
     wrong = 0
     for number, command, said in commands((TOP / page).read_text()):
         missing = [tool for tool in TOOLS.findall(command + " ") if tool == "rt" or not shutil.which(tool)]
         if missing:
             print(f"{page}:{number}: left out, for want of {missing[0]}: {command}")
             continue
-        # one that takes longer is stopped, and its status is 124
+        # a command that takes longer is stopped, with status 124
         run = subprocess.run(["timeout", str(SECONDS), "bash", "-c", command], cwd=folder, capture_output=True, stdin=subprocess.DEVNULL)
         printed = ", ".join(" ".join(line.split()) for line in run.stdout.decode(errors="replace").splitlines() if line.strip())
         if fits(said, printed):

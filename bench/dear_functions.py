@@ -1,11 +1,11 @@
 #!/usr/bin/env python3
-"""Lists the functions of a crate whose proofs took longest, from when the files were written that `rt check` keeps in the crate's out/.
+"""Lists the functions of a crate whose proofs took longest, by the times of the files that `rt check` writes into the crate's out/.
 
-    bench/dear_functions.py CRATE [COUNT]      COUNT: how many functions, 20 where it isn't given
+    bench/dear_functions.py CRATE [COUNT]      COUNT: how many functions, 20 by default
 
-The seconds are those from the file before to each file of the function, by the clock. So they are right after a check from nothing, with no `out/` before, with nothing
-else beside it, and by one job; and of a crate that is checked by several jobs they only say which functions are dear. `bench/dear_goals.py` has the steps of
-single goals: a function without a dear goal may be dear all the same, where it owns a big value and can fail at many places.
+A function's seconds are the sum, over its files, of the clock time since the file before. They are exact only if `out/` didn't exist before the check, nothing
+else ran, and there was one job; with several jobs they only show which functions are expensive. `bench/dear_goals.py` has the steps of single goals: a function
+without an expensive goal may still be expensive if it owns a big value and can fail at many places.
 """
 import collections
 import glob

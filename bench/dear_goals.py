@@ -1,10 +1,10 @@
 #!/usr/bin/env python3
 """Lists the goals of a crate's proofs that took the prover the most steps, from the records that `rt check` keeps in the crate's out/.
 
-    bench/dear_goals.py CRATE [COUNT]      COUNT: how many goals, 25 where it isn't given
+    bench/dear_goals.py CRATE [COUNT]      COUNT: how many goals, 25 by default
 
-A line has the steps in thousands, of which a million take about a second, the goal, and the function or the file of lemmas that it stands in. Records of a
-proof that has changed since can still be there: check the crate anew for a fresh count.
+A line has the steps in thousands (a million take about a second), the goal, and its function or file of lemmas. Records of a proof that has changed since may
+still be there: check the crate from nothing for exact counts.
 """
 import glob
 import os

@@ -1,8 +1,8 @@
 """Compares the instructions of a listing with what objdump reads in its image.
 
-The addresses of the listing's lines are worked out here once more: two bytes an instruction, four for `bl` and for those of 32 bits, four for each word, and
-alignments. Both sides are brought to one form: registers by number, lists in full, the target's address in place of a label or a distance, one register less
-where the target stands twice, and one name where an instruction has two. Data and padding are made zeros in what objdump gets, so that it reads from
+The addresses of the listing's lines are computed here independently: two bytes for an instruction, four for `bl` and other 32-bit instructions, four for each
+word, and alignments. Both sides get one form: registers by number, lists in full, the target's address in place of a label or a distance, one register
+fewer where the target is written twice, and one name where an instruction has two. objdump gets zeros for data and padding, so that it reads from
 instruction to instruction."""
 
 import re
@@ -88,7 +88,7 @@ def one_form(word, found):
 
 
 def address(text, names):
-    """The value of a name with a number behind it."""
+    """The value of a name, with a number added if one follows it."""
     name, number = re.fullmatch(rf"({NAME})[ \t]*([+-][ \t]*\w+)?", text.strip()).groups()
     return names[name] + int((number or "0").replace(" ", ""), 0) if name in names else None
 
@@ -115,7 +115,7 @@ def of_objdump(word, rest):
 
 
 def read_back(image, base, instructions, folder):
-    """What objdump reads at each address: two words each, the mnemonic and the rest."""
+    """What objdump reads at each address: two words, the mnemonic and the rest."""
     kept = bytearray(len(image))
     for at, word, _ in instructions:
         size = 4 if word in LONG else 2
@@ -134,7 +134,7 @@ def read_back(image, base, instructions, folder):
 
 
 def differences(text, image, base, folder):
-    """The lines whose instruction objdump reads otherwise, and how many instructions there are."""
+    """The lines whose instruction objdump reads differently, and how many instructions there are."""
     instructions, names = laid_out(text.splitlines(), base)
     found = read_back(image, base, instructions, folder)
     wrong = []

@@ -1,11 +1,12 @@
 #!/usr/bin/env python3
-"""Measures the driver on the source packages of `tables/packages.txt` that no table was learnt from: compiles each file by the compiler and by the driver, and
-tells by package what was handed over and saved, and the time of both, the processor's and the clock's. Audits the shipped tables first.
+"""Measures the driver on the source packages of `tables/packages.txt` that no table was learnt from: compiles each file with the compiler and with the
+driver. Prints for each package what was passed to `peep` and saved, and both times, processor and clock. Audits the shipped tables first.
 
 Use: bench/driver.py SOURCES [--jobs N] [--most N] [--use measure|learn] [--alone] WORD.., as bench/driver.py ~/sources --jobs 4 -Os -ffunction-sections
 
-SOURCES is the folder where the packages lie unpacked (`tables/make.sh` fetches them). Of each package at most N files are taken, evenly. With --alone the compiler alone isn't run, and no time is compared. The settings of the driver hold, PEEP_LEARN=1 among them. An object that is
-larger than the compiler's, or a file that compiles without the driver only, is told, and ends the script with status 1."""
+SOURCES is the folder with the unpacked packages (`tables/make.sh` fetches them). At most N files of each package are taken, evenly spread. With --alone the
+compiler isn't run by itself, and no times are compared. The driver's settings apply, for example PEEP_LEARN=1. An object larger than the compiler's, or a file
+that compiles only without the driver, is reported, and the status is then 1."""
 
 from __future__ import annotations
 
@@ -35,13 +36,13 @@ CORE = ["-mcpu=cortex-m0", "-mthumb"]
 
 
 def spent() -> float:
-    """The processor's seconds of what has run."""
+    """The processor seconds used by this process and those that it waited for."""
     used = resource.getrusage(resource.RUSAGE_CHILDREN)
     return used.ru_utime + used.ru_stime
 
 
 def audit_tables() -> None:
-    """Audits the tables of the settings."""
+    """Audits the tables that the settings name."""
     settings = settings_for("peep-cc", str(Path.cwd()))
     if not settings.program:
         sys.exit("no program peep: PEEP names it, or ./peep builds it")
@@ -56,13 +57,13 @@ def audit_tables() -> None:
 
 @dataclass
 class Times:
-    """The seconds that something took: the processor's, user's and system's together, and the clock's."""
+    """Seconds: processor time, user and system together, and clock time."""
 
     processor: float = 0.0
     clock: float = 0.0
 
     def add(self, other: Times) -> None:
-        """Adds others to them, those of several threads too."""
+        """Adds other times, possibly those of several threads."""
         with ONE_AT_A_TIME:
             self.processor += other.processor
             self.clock += other.clock
@@ -70,7 +71,7 @@ class Times:
 
 @dataclass
 class Outcome:
-    """What came of a package."""
+    """The results for a package."""
 
     facts: list[Facts]
     without: Times
@@ -78,12 +79,12 @@ class Outcome:
     is_well: bool
 
     def times(self) -> str:
-        """Two cells of a table."""
+        """The times as two cells of a table."""
         return " | ".join(f"{one:.1f}, {other:.1f}" for one, other in ((self.without.processor, self.with_driver.processor), (self.without.clock, self.with_driver.clock)))
 
 
 def compiled(compiler: list[str], words: list[str], folder: Path, variables: dict[str, str], times: Times) -> bool:
-    """Runs a compiler, adds the time that it took, and says whether that went well."""
+    """Runs a compiler, adds its time, and returns whether it succeeded."""
     start = time.monotonic()
     with subprocess.Popen([*compiler, *words], cwd=folder, env=variables, stdout=subprocess.DEVNULL, stderr=subprocess.DEVNULL) as ran:
         _, status, used = os.wait4(ran.pid, 0)
@@ -93,7 +94,7 @@ def compiled(compiler: list[str], words: list[str], folder: Path, variables: dic
 
 
 def measured(package: Package, given: argparse.Namespace, words: list[str], work: Path) -> Outcome:
-    """Compiles a package's files, each without the driver and with it, one behind the other, so that what else the machine does weighs on both alike."""
+    """Compiles each file of a package without the driver and then with it, one right after the other, so that other load affects both alike."""
     folder = package.folder(given.sources.resolve())
     log = work / f"{package.name}.log"
     plain_compiler = os.environ.get("PEEP_CC", "arm-none-eabi-gcc")

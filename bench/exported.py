@@ -1,12 +1,11 @@
 #!/usr/bin/env python3
-"""Takes rules of every kind of instruction to a solver that is not ours and back.
+"""Has an independent solver prove rules of every kind of instruction, and gives its proofs to `peep audit`.
 
 Usage: python3 bench/exported.py FOLDER [TABLE]
 
-FOLDER lies outside the repository. TABLE gets the text of one table of all rules, with their proofs. For each rule `peep export` writes the formula that its sides
-differ; CaDiCaL has to refute it. Its proof, turned into lines with hints, is put into the table's
-text, which `peep audit` has to accept; and with one literal or one hint damaged it has to refuse
-just what a second checker refuses, at the same line.
+FOLDER is outside the repository. TABLE gets the text of one table of all rules, with their proofs. For each rule `peep export` writes the formula that its
+sides differ, and CaDiCaL has to refute it. Its proof, with hints added, goes into the table's text, which `peep audit` has to accept. With one literal or hint
+damaged, the audit has to refuse exactly what a second checker refuses, at the same line.
 """
 
 import os
@@ -52,7 +51,7 @@ RULES = [
 
 
 def entry(rule, lines):
-    """The lines of an entry, with those of its proof."""
+    """The text of an entry with these proof lines."""
     left, right, mask = rule
     sides = [f"left {instr}" for instr in left.split("; ")]
     sides += [f"right {instr}" for instr in right.split("; ") if instr]
@@ -60,7 +59,7 @@ def entry(rule, lines):
 
 
 def table(entries):
-    """The text of a table of entries, over the states of the shipped table."""
+    """The text of a table of entries, with the states of the shipped table."""
     states = [
         line
         for line in (TOP / "examples" / "moves.peep").read_text().splitlines()
@@ -71,7 +70,7 @@ def table(entries):
 
 
 def first_refused(clauses, lines):
-    """What the audit has to say of the lines: nothing, the kind and the number of the first that is refused, or that no clause is empty."""
+    """What the audit has to say of the lines: nothing; the kind and number of the first refused line; or that no clause is empty."""
     checker = Checker(clauses)
     refuted = [] in clauses
     for number, line in enumerate(lines, 1):

@@ -1,13 +1,13 @@
 #!/usr/bin/env python3
-"""Raises the shortening entries of tables to families as wide as they hold, and has them judged from outside.
+"""Generalises the shortening entries of tables to the widest families that hold, and checks these by independent means.
 
 Usage: bench/families.py FOLDER ROOM [LEARN_OPTION ..]
 
-FOLDER has listings, or tables, whose names end with .peep. Of each listing a table is learnt (ROOM, outside the repository, keeps them), and each entry that leaves fewer instructions and has a number of the
-pool in 8 bits is raised by `generalise`, from all bytes down: past each value that is refused towards the entry's own. What comes of it is told: how many entries
-and families, how wide, and how many windows more are replaced by them. CaDiCaL has to refute the formula that `export` writes of each family; where a
-range is refused for a value, a model that CaDiCaL finds has to be a state and a value that tell the two sides apart, by instructions as they are carried out here;
-and the sides have to leave the same for each value of a family on 1,000 states.
+FOLDER has listings, or tables, whose names end with .peep. A table is learnt from each listing (ROOM, outside the repository, keeps them). Each entry that
+saves instructions and has an 8-bit number of the pool goes to `generalise`, first with the range of all bytes, then narrowed towards the entry's own number,
+past each refused value. Printed are the numbers of entries and families, their widths, and how many more windows they replace. CaDiCaL has to refute the
+formula that `export` writes of each family. Where a range is refused for a value, a model that CaDiCaL finds has to be a state and a value that distinguish the
+two sides when instructions are executed here. Both sides have to leave the same for each value of a family on 1,000 states.
 """
 
 import os
@@ -39,7 +39,7 @@ def sum_of(x, y, carry):
 
 
 def shifted(name, x, amount, carry):
-    """A word shifted by an amount, which isn't cut, and the carry."""
+    """A word shifted by an amount, which isn't masked, and the carry."""
     if amount == 0:
         return x, carry
     if name == "lsls":
@@ -121,7 +121,7 @@ def instruction(text):
 
 
 def instance(side, number, value):
-    """A side with a value in its 8-bit places of a number."""
+    """A side with a value in place of a number, where it is an 8-bit operand."""
     is_hole = lambda name, operands: name in BYTES and len(operands) == 2 and operands[1] == number
     return [(name, [operands[0], value] if is_hole(name, operands) else operands) for name, operands in side]
 
@@ -159,7 +159,7 @@ def entries_of(text):
 
 
 def holes(entry, pool):
-    """The numbers of the pool that stand in 8 bits in the left side."""
+    """The numbers of the pool that are 8-bit operands in the left side."""
     return sorted({operands[1] for name, operands in entry["left"] if name in BYTES and len(operands) == 2 and operands[1] in pool})
 
 
@@ -174,7 +174,7 @@ def peep(*words):
 
 
 def solved(cnf):
-    """The literals of a model of a formula, or None where it has none."""
+    """The literals of a model of a formula, or None if it has none."""
     ran = subprocess.run(["cadical", "-q", cnf], capture_output=True, text=True)
     if ran.returncode == 20:
         return None
@@ -182,7 +182,7 @@ def solved(cnf):
 
 
 def judged_model(room, table, entry, at, number, low, high, scratch):
-    """Whether a model of the formula that a range has tells the sides apart: the number of the entry is counted from 1."""
+    """Whether a model of a range's formula distinguishes the sides of an entry. Entries are counted from 1."""
     text = table.read_text().removesuffix("end\n")
     text = text.replace(text.split("\n")[0], "peep 3", 1) + f"family {at} {number} {low} {high}\nproof\nend\n"
     tried, cnf, lrat = (room / f"{table.name}.{name}" for name in ("tried", "cnf", "lrat"))
@@ -200,7 +200,7 @@ def judged_model(room, table, entry, at, number, low, high, scratch):
 
 
 def raised(room, listing, options):
-    """Raises the entries of a listing's table. What came of it, as numbers to be added up, and the widths of the families."""
+    """Generalises the entries of a listing's table. Returns the results as numbers to be added up, and the widths of the families."""
     table, wider = room / f"{listing.name}.peep", room / f"{listing.name}.wide.peep"
     is_table = listing.suffix == ".peep"
     status, said = peep("upgrade", listing, table) if is_table else peep("learn", listing, table, *options)

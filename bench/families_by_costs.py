@@ -1,13 +1,14 @@
 #!/usr/bin/env python3
-"""Makes tables with costs and families at random, and has them judged by the plain programs of this folder and by readings in Python.
+"""Makes random tables with costs and families, and checks them by the plain programs of this folder and by Python code.
 
 Usage: bench/families_by_costs.py ROOM [TABLES [SEED]]    (ROOM, outside the repository, keeps what differs; PEEP names another program)
 
-For each table a cost file, a listing and options are made. What `peep learn --costs` writes has to be what the plain learner writes, and, for one in five of the narrow ones, what
-read_tables.py accepts. `peep generalise` raises numbers of its entries, each as wide as it holds; a value that it refuses has to tell the sides. Of each entry and family the sides have to leave the same on
-states, by instructions as families.py carries them out, with each value, and the right side may neither cost more nor have more instructions; no cheaper sequence that isn't named open
-may leave the same on all of them. The table and damaged copies have to be accepted, or refused by the same line, by `peep audit` and the plain auditor, and another listing rewritten alike
-by `peep rewrite` and the plain rewriter, with lower costs and no more instructions. The proof that `export` writes of each family has to refute its formula.
+For each table a cost file, a listing and options are made. `peep learn --costs` has to write what the plain learner writes, and read_tables.py has to accept
+one in five of the narrow tables. `peep generalise` is applied to numbers of its entries, each with the widest range that holds; a value that it refuses has to
+distinguish the sides. Both sides of each entry and family have to leave the same on states, for each value, by instructions as families.py executes them. The
+right side may neither cost more nor have more instructions; no cheaper sequence that isn't listed as open may leave the same on all states. `peep audit` and
+the plain auditor have to accept the table and damaged copies or refuse them with the same line; `peep rewrite` and the plain rewriter have to write the same
+for another listing, with lower costs and no more instructions. The proof that `export` writes of each family has to refute its formula.
 """
 
 import collections
@@ -47,7 +48,7 @@ def cost_text(chance, costs):
 
 
 def listing_of(chance, numbers, count):
-    """Pairs of instructions, behind most of which a register or the flags are written again, parted by labels and stores."""
+    """Pairs of instructions, most of them followed by one that overwrites a register or the flags, separated by labels and stores."""
     lines = ["f:"]
     for n in range(count):
         a, b = chance.sample(range(6), 2)
@@ -74,7 +75,7 @@ def built(room, name):
 
 
 def raised(chance, table, costs, scratch):
-    """Raises numbers of a table's entries, and says which."""
+    """Generalises numbers of a table's entries, and returns which."""
     text = table.read_text()
     entries, pool = entries_of(text), [int(word) for line in text.split("\n") if line.startswith("pool") for word in line.split()[1:]]
     wanted = [(at, entry, number) for at, entry in enumerate(entries, 1) for number in holes(entry, pool)]
@@ -107,7 +108,7 @@ def raised(chance, table, costs, scratch):
 
 
 def listed(text):
-    """The states that a table lists, as STATES has them."""
+    """The states that a table lists, in the form of STATES."""
     for line in text.split("\n"):
         if line.startswith("state "):
             *words, flags = (int(word, 16) for word in line.split()[1:])
@@ -152,7 +153,7 @@ def judge_sides(table, costs, scratch, families):
 
 
 def damaged(chance, text):
-    """The text with a line changed: a number or a letter of it, dropped, doubled, or in place of another."""
+    """The text with a line changed: a number or a letter of it, or the line deleted, doubled or put in place of another."""
     lines = text.split("\n")
     behind = [at for at, line in enumerate(lines) if line.startswith(("costs", "family", "left", "right", "mask", "scratch", "open")) or line[:1].isdigit() and chance.random() < 0.1]
     at, other = chance.choice(behind), chance.choice(behind)

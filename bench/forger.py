@@ -1,14 +1,14 @@
 #!/usr/bin/env python3
-"""Makes false tables that look right, and has `peep audit` judge them: what it says has to be what another reading of the rules says.
+"""Makes false tables that look right, has `peep audit` judge them, and compares its answers with those of an independent implementation of the rules.
 
 Usage: bench/forger.py FOLDER ROOM [COUNT]
 
-FOLDER has listings. From them tables of each version are learnt into ROOM, outside the repository, and their entries are raised to families; the tables of examples/ and tables/
-come with them. Of each at most COUNT entries (3) are taken, each with its families as a table of its own, and changed: right sides, also such that differ from the left side in
-one word alone, masks, costs, numbers and ranges of families, lines of proofs, names that are left open and their logs, and what stands in one entry where another's belongs. The
-verdict that is due is worked out here, from `formulas.py` and `read_tables.py`, with the checker of `lrat_lines.py`, so that a changed table that is accepted is one whose proof that
-checker accepts too. PEEP names another program than the repository's; JOBS runs go at a time, two without it. With `cadical` on the path a right side that differs in one word has the proof
-that the sides are equal but for it.
+FOLDER has listings. From them tables of each version are learnt into ROOM, outside the repository, and their entries are generalised to families; the tables of
+examples/ and tables/ are added. At most COUNT (3) entries of each are taken, each with its families as a table of its own, and changed: right sides, also such
+that differ from the left side in one word only, masks, costs, numbers and ranges of families, lines of proofs, open numbers and their logs, and parts of one
+entry put into another. The expected verdict is computed here with `formulas.py`, `read_tables.py` and the checker of `lrat_lines.py`, so a changed table that
+is accepted is one whose proof that checker accepts too. PEEP names another program than the repository's; JOBS (2) processes run at a time. With `cadical` on
+the path, a right side that differs in one word gets the proof that the sides are equal except for it.
 """
 
 import collections
@@ -34,14 +34,14 @@ PEEP = pathlib.Path(os.environ.get("PEEP", TOP / "crates/peep/out/peep"))
 JOBS = int(os.environ.get("JOBS", "2"))
 EXAMPLES = ("moves.peep", "rules.peep", "firmware.peep")
 SHIPPED = ("size.peep", "size-rare.peep", "size-families.peep", "size-numbers.peep", "size-others.peep")
-# what is learnt of each listing
+# the options for learning from each listing
 SETTINGS = {
     "plain": ["--budget", "1000"],
     "scratch": ["--regs", "2", "--left", "2", "--scratch", "1", "--budget", "50", "--pool", "0,1,24,255"],
     "open": ["--regs", "2", "--left", "2", "--budget", "3", "--pool", "0,24"],
     "costs": ["--regs", "2", "--left", "2", "--budget", "100", "--pool", "1,3,24", "--costs", str(TOP / "examples/small-multiplier.costs")],
 }
-# sides and masks whose numbers can be raised, some of them for their own value alone
+# sides and masks whose numbers can be generalised, some of them to a range of one value only
 RAISED = (
     (("movs r0, #24", "adds r1, r1, r0"), ("adds r1, #24",), "r1 n z c v"),
     (("movs r0, #24", "cmp r1, r0"), ("cmp r1, #24",), "r1 n z c v"),
@@ -53,7 +53,7 @@ RAISED = (
     (("movs r0, #24", "ands r0, r1"), ("movs r0, #24", "ands r0, r1"), "r0"),
 )
 HOLES = ("movs", "cmp", "adds", "subs")
-# of more sequences it isn't looked through here which of them no state tells
+# for more sequences, this script doesn't search for those that no state distinguishes
 SEQUENCES = 500_000
 EDGES = (0, 1, 2, 0x7FFFFFFF, 0x80000000, 0x80000001, 0xFFFFFFFF, 0xFFFFFFFE, 0x8000, 0xFFFF, 0xFF, 0x80, 0xFF00, 0x10000)
 
@@ -62,7 +62,7 @@ EDGES = (0, 1, 2, 0x7FFFFFFF, 0x80000000, 0x80000001, 0xFFFFFFFF, 0xFFFFFFFE, 0x
 
 
 class Table:
-    """A table: its settings by word, its lines of states, its entries and its families."""
+    """A table: its settings by word, the lines of its states, its entries and its families."""
 
     def __init__(self, text):
         lines = tables.Lines(text)
@@ -81,7 +81,7 @@ class Table:
         lines.take("end")
 
     def copy(self):
-        """One whose parts can be changed."""
+        """A copy whose parts can be changed."""
         other = object.__new__(Table)
         other.version, other.head, other.states = self.version, dict(self.head), list(self.states)
         other.entries = [{name: list(part) for name, part in entry.items()} for entry in self.entries]
@@ -113,12 +113,12 @@ class Table:
         return tuple(self.head["costs"]) if "costs" in self.head else None
 
     def sequences(self):
-        """How many sequences the header's registers have at most."""
+        """The number of sequences over the most registers that the header allows."""
         size = len(tables.alphabet(min(self.one("regs") + self.one("scratch"), 4), self.head["pool"]))
         return sum(size**n for n in range(self.one("left") + (self.costs() is not None)))
 
     def over(self, k):
-        """The sequences over k registers, with a scratch register those of one more."""
+        """The sequences over k registers, or one more with a scratch register."""
         return tables.sequences(min(k + self.one("scratch"), 4), tuple(self.head["pool"]), self.one("left"), self.one("seed"), self.costs())
 
 
@@ -126,7 +126,7 @@ class Table:
 
 
 def family_formula(left, right, numbers, mask, k):
-    """The formula that the sides of a family differ with a value of its range."""
+    """The formula that the sides of a family differ for a value of its range."""
     _, number, low, high = numbers
     b = formulas.Builder()
     start = [[b.input() for _ in range(32)] for _ in range(k)], {name: b.input() for name in "nzcv"}
@@ -156,7 +156,7 @@ def is_hole(text, number):
 
 
 def raised_step(b, text, number, word, r, f):
-    """The registers and flags after an instruction, in which a number stands for a word."""
+    """The registers and flags after an instruction in which a word takes the place of a number."""
     if not is_hole(text, number):
         return formulas.step(b, tables.halfword(text), r, f)
     name, (d, *_), _ = tables.operands(text)
@@ -171,7 +171,7 @@ def raised_step(b, text, number, word, r, f):
 
 
 def proof_fault(b, lines):
-    """The line of a proof that is refused, 0 where none comes to the empty clause, or None."""
+    """The number of the refused line of a proof, 0 if none is the empty clause, or None."""
     checker, refuted = Checker(b.clauses), [] in b.clauses
     for place, line in enumerate(lines, 1):
         if checker.fault(line):
@@ -182,7 +182,7 @@ def proof_fault(b, lines):
 
 
 class Judge:
-    """What an audit has to say of tables. Formulas and sequences that were looked through are kept."""
+    """What an audit has to answer for tables. Formulas and searched sequences are cached."""
 
     def __init__(self):
         self.untold = {}
@@ -190,7 +190,7 @@ class Judge:
         self.family = functools.lru_cache(2000)(family_formula)
 
     def due(self, table):
-        """The line, and whether a sequence that no state tells, or an open number, may be told in its place: where there are too many sequences to look through."""
+        """The expected line, and whether the audit may name a sequence or an open number instead: where there are too many sequences to search."""
         is_many = False
         seeded = [tables.state_line(state) for state in tables.seeded(table.one("seed"))]
         for place, line in enumerate(seeded, 1):
@@ -210,7 +210,7 @@ class Judge:
         return f"entries {len(table.entries)} open {sum(len(entry['opens']) for entry in table.entries)}", is_many
 
     def fits(self, table, entry):
-        """How many registers the left side names, where the sides and the mask fit."""
+        """How many registers the left side names, if the sides and the mask are valid."""
         left, right = entry["left"], entry["right"]
         named = tables.registers_of(left)
         k = len(named)
@@ -250,7 +250,7 @@ class Judge:
         return None
 
     def all_untold(self, over, left, right, bits, states):
-        """The sequences below the right side that no state tells from the left side, the lightest first."""
+        """The sequences below the right side that no state distinguishes from the left side, lightest first."""
         over.below(left)
         most, ends = over.weight(right), [tables.packed(tables.run(left, state)) for state in states]
         below = [number for number in range(over.count(len(left) + 1)) if number < len(over.weights) and over.weights[number] < most and not (over.left_by[number] ^ ends[0]) & bits]
@@ -278,7 +278,7 @@ def state_of(line):
 
 
 def changed_proofs(rng, lines, clauses, count):
-    """Proofs that differ in one place, each with what was done."""
+    """Proofs that differ in one place, each with a description of the change."""
     if not lines:
         number = len(clauses) + 1
         yield "a line that names itself", [(number, [], [number])]
@@ -312,7 +312,7 @@ def changed_proofs(rng, lines, clauses, count):
 
 
 def forged_entries(rng, table, entry, others, count):
-    """Changes of a table of one entry: what was done, and the table."""
+    """Changes of a table of one entry: a description of each, and the table."""
 
     def but(**parts):
         other = table.copy()
@@ -357,7 +357,7 @@ def forged_entries(rng, table, entry, others, count):
 
 
 def forged_heads(rng, table):
-    """Changes of what stands before the entries, those of the alphabet where it is small."""
+    """Changes of what precedes the entries; those of the alphabet if it is small."""
 
     def but(**parts):
         other = table.copy()
@@ -403,7 +403,7 @@ def forged_heads(rng, table):
 
 
 def forged_families(rng, table, others, judge, count):
-    """Changes of the families of a table of one entry, for which others lend their proofs."""
+    """Changes of the families of a table of one entry, some with proofs of other tables."""
     for at, family in enumerate(table.families):
 
         def but(**parts):
@@ -433,7 +433,7 @@ def forged_families(rng, table, others, judge, count):
 
 
 def near_pairs(most):
-    """Pairs of a left and a right side with a mask which no seeded state and none of 100 random ones tells apart, and one with an edge in it does: some of each kind."""
+    """Pairs of sides with a mask that no seeded state and none of 100 random ones distinguishes, but one with an edge value does: some of each kind."""
     chance = random.Random(3)
     for k, pool, masks in ((1, [1, 255], ("r0", "r0 n z", "r0 c", "r0 n z c", "n", "z", "c", "v", "n z c v", "z c", "r0 v")), (2, [0], ("r0", "r0 r1 z", "z", "c", "v", "z c", "n z"))):
         instrs = tables.alphabet(k, pool)
@@ -455,7 +455,7 @@ def near_pairs(most):
 
 
 def solved_but_for(b, words, k, room):
-    """Lines of a proof that a formula has no model but where the registers are these words, with the clause that says so left out; None where it has others."""
+    """Lines of a proof that a formula has no model except with these words in the registers, without the clause that says so; None if it has others."""
     extra = [-(32 * r + bit + 1) if words[r] >> bit & 1 else 32 * r + bit + 1 for r in range(k) for bit in range(32)]
     cnf, drat = room / "near.cnf", room / "near.drat"
     cnf.write_text(f"p cnf {b.variables} {len(b.clauses) + 1}\n" + "".join(" ".join(map(str, [*clause, 0])) + "\n" for clause in [*b.clauses, extra]))
@@ -473,7 +473,7 @@ def solved_but_for(b, words, k, room):
 
 
 def near_tables(room, most):
-    """Tables of one false entry, whose sides differ in few states: what was done, and the table."""
+    """Tables of one false entry whose sides differ in few states: a description, and the table."""
     head = "peep 2\nregs {}\nleft {}\nseed 42\nbudget 20000\npool {}\nscratch 0\n"
     states = "".join(tables.state_line(state) + "\n" for state in tables.seeded(42))
     for left, right, mask, k, pool, state in near_pairs(most):
@@ -506,7 +506,7 @@ def peep(*words):
 
 
 def peep_text(room, text):
-    """What the audit of a text says."""
+    """What `peep audit` prints for a text."""
     with tempfile.NamedTemporaryFile("w", dir=room, suffix=".peep") as file:
         file.write(text)
         file.flush()
@@ -514,7 +514,7 @@ def peep_text(room, text):
 
 
 def learnt(room, listing):
-    """The tables of a listing, and what can be raised of them."""
+    """The tables learnt from a listing, with the families that could be made of them."""
     made = []
     for name, options in SETTINGS.items():
         path = room / f"{listing.stem}.{name}.peep"
@@ -525,7 +525,7 @@ def learnt(room, listing):
 
 
 def by_hand(room):
-    """Tables of the sides above, of version 3 and by costs of version 4."""
+    """Tables of the sides above, in version 3, and with costs in version 4."""
     for version in (3, 4):
         head = f"peep {version}\nregs 2\nleft 2\nseed 42\nbudget 20000\npool 0 24\nscratch 0\n" + ("costs" + " 1" * 28 + "\n") * (version == 4)
         entries = (["entry", *(f"left {it}" for it in left), *(f"right {it}" for it in right), f"mask {mask}", "proof"] for left, right, mask in RAISED)
@@ -536,7 +536,7 @@ def by_hand(room):
 
 
 def with_open_names(room):
-    """Tables whose budgets are too small, so that numbers are left open with their logs, of version 2 and by costs of version 4."""
+    """Tables whose budgets are too small, so that numbers are left open with their logs, in version 2, and with costs in version 4."""
     listing, costs = room / "open.s", room / "open.costs"
     listing.write_text("\teors r0, r1\n\teors r0, r1\n\tbx lr\n")
     costs.write_text("costs 1\nmuls 3\neors 4\nsubs 3\nadds 3\n")
@@ -548,7 +548,7 @@ def with_open_names(room):
 
 
 def raise_all(path):
-    """Raises the entries of a table, each number to the first range that holds."""
+    """Generalises the entries of a table, each number to the first range that holds."""
     table = Table(path.read_text())
     for at, entry in enumerate(table.entries, 1):
         for number in table.head["pool"]:
@@ -559,7 +559,7 @@ def raise_all(path):
 
 
 def forgeries(judge, path, count):
-    """What is made of a table: what was done, and the table."""
+    """The changed copies of a table: a description of each, and the table."""
     rng = random.Random(path.name)
     whole = Table(path.read_text())
     yield "nothing changed", whole
@@ -575,7 +575,7 @@ def forgeries(judge, path, count):
 
 
 def cause(said):
-    """What a line tells, without its numbers but the kind."""
+    """What a line says, without its numbers except the kind."""
     words = said.split()
     if words[0] == "entries":
         return "accepted"
@@ -583,7 +583,7 @@ def cause(said):
 
 
 def tried(path, room, count):
-    """Tries what is made of a table, or where there is none the sides that differ in few states: the causes by what was done, and what is to be said of wrong answers."""
+    """Tries the changed copies of a table, or without one the sides that differ in few states. Returns the causes by change, and the wrong answers."""
     judge, counts, said_wrong, seen = Judge(), collections.defaultdict(collections.Counter), [], set()
     for what, table in forgeries(judge, path, count) if path else near_tables(room, 6 * count):
         text = table.text()

@@ -1,5 +1,5 @@
 #!/usr/bin/env python3
-"""The formula of an instruction against nothing, by a reading of its own: rows for a test. Use: bench/formulas.py"""
+"""The formula of an instruction against the empty sequence, made independently of the crates: rows for a test. Use: bench/formulas.py"""
 
 FALSE, TRUE = False, True
 

@@ -1,5 +1,5 @@
 #!/usr/bin/env bash
-# Measures the proved `formula` of two sides of three products each beside the same builder in plain Rust. Use: bench/formulas.sh [TURNS]
+# Measures `formula` for two sides of three products each, proved and in plain Rust by the same rules. Use: bench/formulas.sh [TURNS]
 . "$(dirname "$0")/common.sh"
 turns=${1:-5}
 take_crates bit_blast

@@ -1,10 +1,10 @@
-"""Changes tables, listings and texts of costs at random, runs them through every command, and checks what comes of each run.
+"""Changes tables, listings and cost files at random, runs every command on them, and checks each run.
 
-Use: fuzz.py PROGRAM RUNS SEED FOLDER, PROGRAM being built of runs/proved.rs and FOLDER one of listings. Tells how many runs of each command ended with each status, how many
-tables of each version were fetched, and how many of these accepted. JOBS processes run at a time, two without it.
+Use: fuzz.py PROGRAM RUNS SEED FOLDER, where PROGRAM is built from runs/proved.rs and FOLDER has listings. Prints how many runs of each command ended with each
+status, how many tables of each version were fetched, and how many of these were accepted. JOBS (2) processes run at a time.
 
-A refused run has to leave all as it was, and so has a run that met a fault, but for the names that it keeps: of these those are kept whose keep came before. What `upgrade`, `trim`
-and `generalise` keep is compared with the table that was given.
+A refused run has to leave all as it was. So has a run that met a fault, except that the names are kept whose keep came before the fault. What `upgrade`, `trim`
+and `generalise` keep is compared with the given table.
 """
 
 import collections
@@ -17,11 +17,11 @@ from concurrent.futures import ThreadPoolExecutor
 
 PROGRAM, RUNS, SEED, FOLDER = sys.argv[1], int(sys.argv[2]), int(sys.argv[3]), sys.argv[4]
 TOP = os.path.join(os.path.dirname(os.path.abspath(__file__)), "..")
-# runs of one process
+# runs per process
 BATCH = 5_000
-# no run takes longer, in microseconds
+# the longest that a run may take, in microseconds
 LONGEST = 10_000_000
-# what a refusal may say, as docs/COMMANDS.md has it
+# what a refusal may say, according to docs/COMMANDS.md
 FAULTS = {
     "table": rb"table \d+|states \d+|wide \d+|entry \d+ (1|2 \d+|3|4 \d+|5 \d+)|family \d+ (1|2 \d+|3)",
     "listing": rb"listing \d+ ([1236]|4 -?\d+|5 \d+)",
@@ -64,7 +64,7 @@ ENTRIES = [
     b"entry\nleft mvns r0, r0\nleft adds r0, #24\nright mvns r0, r0\nright adds r0, #24\nmask r0 n z\nproof\n",
     b"entry\nleft eors r0, r1\nright eors r0, r1\nmask r0 c\nproof\nopen 0\n99 1 0 1 0\nopen 3\n",
 ]
-# of versions 3 and 4: entries that can be raised, with families of them, right ones and forged ones
+# for versions 3 and 4: entries that can be generalised, with families of them, true ones and false ones
 RAISED = b"entry\nleft movs r0, #24\nleft adds r1, r1, r0\nright adds r1, #24\nmask r1 n z c v\nproof\n"
 ZEROED = b"entry\nleft movs r0, #0\nright eors r0, r0\nmask z\nproof\n"
 CUT = b"entry\nleft lsls r1, r0, #24\nleft lsrs r1, r1, #24\nright uxtb r1, r0\nmask r1\nproof\n".replace(b"r1", b"r2").replace(b"r0", b"r1").replace(b"r2", b"r0")
@@ -99,7 +99,7 @@ def read(name):
 
 
 def changed(rng, text, others):
-    """The text with one thing in it changed."""
+    """The text with one random change."""
     how = rng.randrange(10)
     at = rng.randrange(len(text) + 1)
     if how == 0:
@@ -131,7 +131,7 @@ def changed(rng, text, others):
 
 
 def mutated(rng, text, others, most):
-    """The text, or half the time one that differs behind the states of a table, where most is in it."""
+    """The text with up to `most` random changes, most of them from the last line of states on."""
     for _ in range(rng.randrange(most + 1)):
         at = text.rfind(b"state ") if rng.random() < 0.7 else 0
         at = max(at, 0)
@@ -140,7 +140,7 @@ def mutated(rng, text, others, most):
 
 
 def headers(states):
-    """Headers of each version with their states."""
+    """Headers of each version, with the lines of the states."""
     for version in range(1, 5):
         for budget, pool, left in ((1, b"24 255", 2), (20, b"0 24", 2), (20000, b"0", 1)):
             if version == 4 and left == 2:
@@ -151,7 +151,7 @@ def headers(states):
 
 
 def tables_of(states):
-    """Tables of no, one, two or all entries, and with families."""
+    """Tables with no entry, one, two or three, and with families."""
     for header in headers(states):
         yield header + b"end\n"
         yield header + b"".join(ENTRIES[:3]) + b"end\n"
@@ -178,7 +178,7 @@ def fail(what, line, told):
 
 
 def names_of(words):
-    """The names that words fetch and keep, in order."""
+    """The names that a command with these words fetches and keeps, in order."""
     names = [word for word in words if word in ("t", "l", "o", "i", "-")]
     if words[0] in ("audit", "trace"):
         return names[:1], []
@@ -190,7 +190,7 @@ def names_of(words):
 
 
 def without_proofs(table):
-    """A table's lines but those of proofs of entries and families; those of logs stay."""
+    """A table's lines without those of proofs of entries and families; those of logs stay."""
     kept, is_proof = [], False
     for line in table.split(b"\n"):
         word = line.split(b" ")[0]
@@ -203,7 +203,7 @@ def without_proofs(table):
 
 
 def raised(table, least):
-    """A table in a version of at least so much."""
+    """A table with its version set to `least` if it is lower."""
     head, rest = table.split(b"\n", 1)
     version = int(head.split()[1])
     if version == 1:
@@ -212,7 +212,7 @@ def raised(table, least):
 
 
 def is_kept(words, table, printed, out):
-    """Whether what upgrade, trim or generalise keeps is made of the table as it has to be."""
+    """Whether what upgrade, trim or generalise keeps is correctly made from the table."""
     numbers = [int(word) for word in printed.split() if word.isdigit()]
     if words[0] == "upgrade":
         return out == raised(table, 2)
@@ -225,12 +225,12 @@ def is_kept(words, table, printed, out):
 
 
 def text_of(held, given):
-    """What is held, where the answer tells it."""
+    """The held text, if the answer gives it."""
     return None if held == "-" else given if held == "=" else bytes.fromhex(held[1:])
 
 
 def check(line, told):
-    """What has to hold of a run; gives its status."""
+    """Checks the result of a run, and returns its status."""
     fields = told.split()
     if len(fields) != 8:
         fail("no answer", line, told)
@@ -244,7 +244,7 @@ def check(line, told):
     fetches, keeps = names_of(words)
     if time > LONGEST:
         fail("too long", line, told)
-    # the names that may be kept behind a fault
+    # the names that may have been kept before a fault
     reached = keeps[: max(call - len(fetches), 0)] if status == 3 else keeps
     stays = all(held[name] == before[name] for name in "tloi" if name not in reached)
     if status == 0:
@@ -267,7 +267,7 @@ def check(line, told):
 
 
 def words_of(rng):
-    """The words of a run."""
+    """The words of a random run."""
     chance = rng.random()
     if chance < 0.005:
         return f"demo {rng.randrange(1, 60)}"
@@ -279,12 +279,12 @@ def words_of(rng):
 
 
 def batch_of(seed, tables, listings, long):
-    """The lines of a process, and the versions of the tables."""
+    """The input lines of one process."""
     rng = random.Random(seed)
     lines = []
     for _ in range(BATCH):
         words = words_of(rng)
-        # mostly one of the two is whole, so that runs get beyond it
+        # often one of the two is unchanged, so that runs get further
         most = rng.choice([(1, 0), (3, 0), (0, 1), (0, 3), (2, 2), (0, 0)])
         if "--costs" in words:
             table = mutated(rng, rng.choice(COSTS), COSTS + tables[:1], most[0])
@@ -297,7 +297,7 @@ def batch_of(seed, tables, listings, long):
 
 
 def run_batch(lines):
-    """How many of a batch's runs ended with each status by command, and by version of the table that was fetched."""
+    """How many of a batch's runs ended with each status, by command, and by version of the fetched table."""
     ran = subprocess.run([PROGRAM], input="\n".join(lines).encode() + b"\n", stdout=subprocess.PIPE, stderr=subprocess.PIPE)
     told = ran.stdout.decode().splitlines()
     if ran.returncode != 0 or len(told) != len(lines):

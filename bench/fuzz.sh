@@ -1,6 +1,6 @@
 #!/usr/bin/env bash
-# Changes tables of each version, listings and texts of costs at random (bytes, lines, numbers at their edges) and runs them through every command, in few processes: each run has
-# to end with a stated status and line in time, and a refused one to leave all as it was. Use: bench/fuzz.sh FOLDER [RUNS [SEED]], a folder of listings
+# Changes tables of each version, listings and cost files at random (bytes, lines, numbers at their limits) and runs every command on them, in few processes.
+# Each run has to end in time with a documented status and line, and a refused one has to leave all as it was. Use: bench/fuzz.sh FOLDER [RUNS [SEED]]
 . "$(dirname "$0")/common.sh"
 folder=${1:-} runs=${2:-1000000} seed=${3:-1}
 [ -d "$folder" ] || { sed -n '2,3s/^# //p' "$0" >&2; exit 2; }

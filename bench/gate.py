@@ -1,14 +1,14 @@
 #!/usr/bin/env python3
 """Runs the gate from nothing, at the top of the repository, and writes what it took: for each crate the processor seconds of its proof, its tests and its
-must-fail edits, user's and system's together, as a table of docs/MEASURED.md.
+must-fail edits, user and system time together, as a table of docs/MEASURED.md.
 
-    bench/gate.py [--each] [NAME..]      --each: every edit's seconds too, the dearest first; NAME..: these crates and those below them alone
-    bench/gate.py --watch                of a run of the gate that has been begun elsewhere on this machine, which is the one that counts
+    bench/gate.py [--each] [NAME..]      --each: also each edit's seconds, the longest first; NAME..: only these crates and those that they use
+    bench/gate.py --watch                measures a run of the gate that was started elsewhere on this machine
 
-It runs `rt ci` from a folder of links to the toolchain, in which this script stands in the prover's place, runs the prover and notes what the process took with
-those that it started. What the run keeps goes with that folder, so it spares the gate nothing. The first edit of a crate is checked from nothing; where it has
-more, each further one is checked over what those before it left, and so is the crate itself, once, behind the last. The status is that of `rt ci`. Where it only
-watches, it looks every two seconds what each prover of the run has taken, so that of each up to two seconds are missed.
+It runs `rt ci` from a folder of links to the toolchain, in which this script replaces the prover, runs it and records the time that it and its child processes
+took. What the run caches goes into that folder and is removed with it, so it saves the gate nothing. The first edit of a crate is checked from nothing. Each
+further edit is checked incrementally after those before it, and so is the crate itself, once, after the last. The status is that of `rt ci`. With --watch
+it looks every two seconds what each prover of the run has taken, so up to two seconds of each are missed.
 """
 import contextlib
 import json
@@ -24,13 +24,13 @@ LOG, REAL = "GATE_LOG", "GATE_PROVER"
 
 
 def note_of(words, at, seconds):
-    """Returns what is noted of a prover's process: its words, the folder that it works in, and its seconds."""
+    """Returns the record of a prover's process: the crate, the part of the gate, and the seconds."""
     part = "edits" if "/rt-edit-" in at else "tests" if "--test" in words else "proof"
     return {"crate": words[words.index("--crate-name") + 1], "part": part, "seconds": seconds}
 
 
 def prove():
-    """Runs the prover with the words given, and notes its time."""
+    """Runs the prover with the given words, and records its time."""
     child = subprocess.Popen([os.environ[REAL], *sys.argv[1:]])
     for number in (signal.SIGTERM, signal.SIGINT):
         signal.signal(number, lambda given, _: child.send_signal(given))
@@ -46,14 +46,14 @@ def prove():
 
 
 def linked(kit, room):
-    """Lays a folder of links to the toolchain, and returns the path of its `rt`."""
+    """Makes a folder of links to the toolchain, and returns the path of its `rt`."""
     os.mkdir(f"{room}/bin")
     for name in os.listdir(kit):
         if name != "bin":
             os.symlink(f"{kit}/{name}", f"{room}/{name}")
     for name in os.listdir(f"{kit}/bin"):
         if name.startswith("rt"):
-            # (they look for the toolchain where they stand)
+            # (they look for the toolchain in their own folder)
             shutil.copy(f"{kit}/bin/{name}", f"{room}/bin/{name}")
         elif name != "rattle":
             os.symlink(f"{kit}/bin/{name}", f"{room}/bin/{name}")
@@ -73,9 +73,9 @@ def kit():
 
 
 def measured(names):
-    """Runs the gate, and returns what was noted and its status."""
+    """Runs the gate, and returns the records and its status."""
     with tempfile.TemporaryDirectory(prefix="gate-") as room:
-        # (what a run passed is kept beside the toolchain's folder)
+        # (what a run passed is cached beside the toolchain's folder)
         os.mkdir(f"{room}/kit")
         rt, log = linked(kit(), f"{room}/kit"), f"{room}/log"
         ran = subprocess.run([rt, "ci", *names], env={**os.environ, LOG: log, REAL: f"{kit()}/bin/rattle"})
@@ -84,7 +84,7 @@ def measured(names):
 
 
 def processes():
-    """Returns, of each process by its number, the one that began it, its words, and the seconds that it and those that it waited for have taken."""
+    """Returns, for each process number, its parent, its words, and the seconds that it and the children that it waited for have taken."""
     found, tick = {}, os.sysconf("SC_CLK_TCK")
     for number in filter(str.isdigit, os.listdir("/proc")):
         with contextlib.suppress(OSError):
@@ -97,14 +97,14 @@ def processes():
 
 
 def is_below(found, number, gates):
-    """Tells whether a process was begun by one of these, or by one that was."""
+    """Tells whether a process is a descendant of one of these."""
     while number in found and number not in gates:
         number = found[number][0]
     return number in gates
 
 
 def watched():
-    """Notes what the provers of a gate take that runs elsewhere, until it ends."""
+    """Records what the provers of a gate take that runs elsewhere, until it ends."""
     notes = {}
     while True:
         found = processes()
@@ -120,7 +120,7 @@ def watched():
 
 
 def table(notes):
-    """Prints the table, and returns the seconds in all, and those of each edit with its name."""
+    """Prints the table, and returns the total of the seconds, and those of each edit with its name."""
     parts, rows, each = ("proof", "tests", "edits"), {}, []
     for note in notes:
         row = rows.setdefault(note["crate"], {it: [] for it in parts})

@@ -1,7 +1,8 @@
 #!/usr/bin/env python3
-"""Writes a table and behind it a listing of some hostile shape, of about N lines. Use: bench/growth.py SHAPE N > input
+"""Writes a table followed by a listing of some hostile shape, of about N lines. Use: bench/growth.py SHAPE N > input
 
-With `--table` the table alone, and with `--listing` the listing. Without arguments: the shapes, each with a number that may also be doubled twice. Each shape is one that took time growing with the square of the lines or faster in some rewriter, or that could."""
+With `--table` only the table, and with `--listing` only the listing. Without arguments: the shapes, each with an N that may be doubled twice. For each shape
+the time of some rewriter grew with the square of the lines or faster, or could have."""
 import os
 import sys
 
@@ -14,14 +15,14 @@ ADCS = "entry\nleft adcs r0, r1\nleft movs r0, r0\nright adcs r0, r1\nmask r0 n 
 
 
 def example(name):
-    """The entries of a table among the examples."""
+    """The entries of a table of examples/."""
     with open(os.path.join(TOP, "examples", name)) as file:
         text = file.read()
     return text[text.index("entry\n") : text.rindex("end\n")]
 
 
 def states():
-    """The states of the seed, as an example has them: an audit refuses a table in which one of them is missing."""
+    """The states of the seed, from an example: an audit refuses a table that lacks one of them."""
     with open(os.path.join(TOP, "examples", "rules.peep")) as file:
         return [line.rstrip("\n") for line in file if line.startswith("state")]
 
@@ -31,7 +32,7 @@ def table(entries):
 
 
 def table_by_costs(entries):
-    """A table in which shifts to the left cost 2, and all else 1."""
+    """A table in which left shifts cost 2, and all else costs 1."""
     costs = " ".join("2" if place == 4 else "1" for place in range(28))
     return "\n".join(["peep 4", *HEADER[1:], "scratch 0", f"costs {costs}", *states()]) + "\n" + entries + "end\n"
 
@@ -41,18 +42,18 @@ def rules():
     return table(example("rules.peep") + example("moves.peep"))
 
 
-# ---- ways ----
+# ---- control flow ----
 
 
 def groups_backward(n):
-    """Windows, each in a group that branches to the group before: what is read at one place is live in all groups behind it."""
+    """Windows, each in a group that branches to the group before: what is read at one place is live in all later groups."""
     yield "a0: bx lr"
     for i in range(1, n // 3):
         yield from (f"a{i}: mov r1, r1", "movs r2, #1", f"b a{i - 1}")
 
 
 def groups_forward(n):
-    """The same with branches to the group behind."""
+    """The same with branches to the next group."""
     for i in range(n // 3):
         yield from (f"a{i}: mov r1, r1", "movs r2, #1", f"b a{i + 1}")
     yield f"a{n // 3}: bx lr"
@@ -66,14 +67,14 @@ def chain(n):
 
 
 def calls(n):
-    """A window behind each call of one function."""
+    """A window after each call of one function."""
     for _ in range(n // 2):
         yield from ("bl f", "mov r2, r2")
     yield from ("bx lr", "f: adds r2, #1", "bx lr")
 
 
 def pops(n):
-    """A window behind each return that pops a register."""
+    """A window after each return that pops a register."""
     for i in range(n // 3):
         yield from (f"f{i}: mov r2, r2", f"adds r{4 + i % 4}, #1", f"pop {{r{4 + i % 4}, pc}}")
 
@@ -86,7 +87,7 @@ def blx(n):
 
 
 def loop_of_calls(n):
-    """A loop by `bl` with windows in it and calls that go straight on, whose register is read at its head alone."""
+    """A loop by `bl` with windows and calls in it, whose register is read only at its head."""
     yield "a: adds r6, #1"
     for i in range(n // 4):
         yield from ("mov r6, r6", "adds r0, #1", f"bl b{i}", f"b{i}: adds r1, #1")
@@ -94,7 +95,7 @@ def loop_of_calls(n):
 
 
 def read_far_back(n):
-    """One loop by `bl` with windows, and a use only at its head, which is far from all of them."""
+    """One loop by `bl` with windows, and a read only at its head, which is far from all of them."""
     yield "a: str r6, [r0]"
     for _ in range(n // 2):
         yield from ("mov r6, r6", "adds r1, #1")
@@ -102,21 +103,21 @@ def read_far_back(n):
 
 
 def branches_over(n):
-    """Windows that a branch over them can leave out."""
+    """Windows that a branch may skip."""
     for i in range(n // 3):
         yield from (f"a{i}: adds r0, #1", f"beq a{i + 1}", "mov r1, r1")
     yield from (f"a{n // 3}: adds r1, #1", "bx lr")
 
 
 def idle_and_windows(n):
-    """Idle lines, as many windows behind them, and a use."""
+    """Idle lines, then as many windows, and a read."""
     yield from ["adds r0, #1"] * (n // 2)
     yield from ["mov r7, r7"] * (n // 2)
     yield from ("str r7, [r0]", "bx lr")
 
 
 def moves(n):
-    """Straight windows behind as many idle lines, that read and write by turns."""
+    """Idle lines, then as many windows in straight code that alternately read and write."""
     yield from ["adds r0, #1"] * (n // 2)
     for i in range(n // 4):
         yield from (f"mov r{i % 7 + 1}, r0", f"mov r{i % 7 + 1}, r{i % 7 + 1}")
@@ -124,7 +125,7 @@ def moves(n):
 
 
 def apart(n):
-    """Windows 70 lines apart behind n/2 idle lines, whose register is read behind all of them alone."""
+    """n/2 idle lines, then windows 70 lines apart whose register is read only after all of them."""
     yield from ["adds r0, #1"] * (n // 2)
     for _ in range(n // 142):
         yield "mov r7, r7"
@@ -133,7 +134,7 @@ def apart(n):
 
 
 def literals(n):
-    """Windows 80 lines before the next read of their register, a literal load in each part, and the literals behind an alignment."""
+    """Windows 80 lines before the next read of their register, a literal load in each part, and the literals after an alignment."""
     for i in range(n // 100):
         yield from (f"f{i}: ldr r3, l{i}", "mov r6, r6")
         yield from ["adds r0, #1"] * 92
@@ -141,7 +142,7 @@ def literals(n):
 
 
 def collapse_first(n):
-    """Moves there and back, of which the first two are always the next window."""
+    """Moves to and fro, of which the first two are always the next window."""
     for i in range(n // 2):
         yield from ("mov r1, r0", "mov r0, r1")
     yield from ("str r1, [r0]", "bx lr")
@@ -163,7 +164,7 @@ def ends(n):
 
 
 def alternating(n):
-    """Moves whose values nothing but the next one reads, by turns at both ends of the listing: each replacement lets go one at the other end."""
+    """Moves whose values only the next one reads, alternately at both ends of the listing: each replacement allows one at the other end."""
     count = n // 4
     for half in (range(0, 2 * count, 2), range(2 * count - 1, 0, -2)):
         for i in half:
@@ -172,14 +173,14 @@ def alternating(n):
 
 
 def return_points(n):
-    """`adcs` windows at return points, where the carry is live at each return by the others alone."""
+    """`adcs` windows at return points: the carry is live at each return only because of the others."""
     for _ in range(n // 5):
         yield from ("blx r4", "adcs r2, r3", "movs r2, r2", "movs r3, #0", "cmp r2, #1")
     yield "bx lr"
 
 
 def labels(n):
-    """2,000 labels on one place behind windows, and a branch to each."""
+    """2,000 labels at one place after windows, and a branch to each."""
     count = min(2000, n // 4)
     for i in range(count):
         yield f"bl a{i}"
@@ -194,14 +195,14 @@ def labels(n):
 
 
 def aligned(n):
-    """Windows before alignments, each of which takes up what goes, and a branch in each part."""
+    """Windows before alignments, each of which absorbs what is removed, and a branch in each part."""
     for i in range(n // 5):
         yield from (f"a{i}: mov r1, r1", f"beq a{i}", "adds r1, #1", ".align 3", f"b{i}: adds r0, #1")
     yield "bx lr"
 
 
 def moves_on(n):
-    """Windows between branches, with one literal far behind all of them, so that each moves all up to there."""
+    """Windows between branches, with one literal far after all of them, so that each replacement moves all lines up to there."""
     yield from ("ldr r3, loose", "b over", "loose: .word 1", "over:")
     for i in range(n // 3):
         yield from (f"a{i}: mov r1, r1", f"beq a{i}", "adds r1, #1")
@@ -209,7 +210,7 @@ def moves_on(n):
 
 
 def pools(n):
-    """Windows before literals and their alignments: what goes moves the next pool by four bytes or by none."""
+    """Windows before literals and their alignments: a replacement moves the next pool by four bytes or not at all."""
     for i in range(n // 8):
         yield from (f"ldr r3, l{i}", "mov r1, r1", f"ldr r2, l{i}", "mov r3, r3", "str r3, [r2]", f"b m{i}", ".align 2", f"l{i}: .word {i}")
         yield f"m{i}:"
@@ -217,7 +218,7 @@ def pools(n):
 
 
 def refused(n, parts):
-    """Branches at the end of their reach over an alignment, so that the window before each is refused."""
+    """Branches at the end of their reach across an alignment, so that the window before each is refused."""
     for i in parts:
         yield from (".align 2", f"w{i}: mov r1, r1", f"beq e{i}", *["adds r1, #1"] * 126, ".align 2", f"e{i}: adds r1, #1")
 
@@ -230,14 +231,14 @@ def refused_before(n):
 
 
 def refused_behind(n):
-    """Refused windows behind as many lines with accepted ones."""
+    """Refused windows after as many lines with accepted ones."""
     yield from ["mov r1, r1", "adds r1, #1"] * (n // 4)
     yield from refused(n, range(n // 264))
     yield "bx lr"
 
 
 def set_address(n):
-    """Calls of an address that is set at the end of the first one's reach, behind a window that is refused for it, and windows between them."""
+    """Calls of an address set at the end of the first call's reach, after a window that is refused because of it, and windows between them."""
     yield f".set f, {16_777_216 + 4}"
     yield from ("mov r1, r1", *(line for _ in range(n // 3) for line in ("bl f", "mov r2, r2", "adds r2, #1")), "bx lr")
 
@@ -246,13 +247,13 @@ def set_address(n):
 
 
 def equal_entries(n):
-    """As many equal entries as windows, of which the last applies to none: its items are live."""
+    """Windows that each of n/4 equal entries matches."""
     yield from ["mov r2, r2", "adds r2, #1"] * (n // 2)
     yield "bx lr"
 
 
 def forbidden_entries(n):
-    """As many entries that match each window and are forbidden, as the carry is read behind it."""
+    """Windows that each of n/4 entries matches, none of which applies, as the carry is read after it."""
     for _ in range(n // 3):
         yield from ("adcs r2, r3", "movs r2, r2", "adcs r2, r3")
     yield "bx lr"
@@ -262,14 +263,14 @@ def forbidden_entries(n):
 
 
 def labelled(n):
-    """Windows that give way to as many instructions, each with a label, which gets a line of its own."""
+    """Windows whose replacements are as long, each with a label, which gets a line of its own."""
     for i in range(n):
         yield f"a{i}: lsls r{i % 8}, r{i % 8}, #1"
     yield "bx lr"
 
 
 def waiting(n):
-    """A listing of as many lines as one may have: such windows, and behind them as many that take a line away, each of which makes room for one of them."""
+    """A listing with the most lines allowed: such windows, then as many windows whose replacement removes a line and so makes room for one of the former."""
     yield from list(labelled(n // 2))[:-1]
     yield from ["mov r1, r1"] * (n // 2)
     yield from [""] * (MOST_LINES - n // 2 * 2 - 1)

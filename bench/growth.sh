@@ -1,8 +1,8 @@
 #!/usr/bin/env bash
-# Measures how rewriting grows with listings of hostile shapes, beside a plain Rust program of the best algorithms known: each shape at N, 2 N and 4 N, as
-# growth.py says them. Prints a row for each: the processor's seconds of rewriting in both programs, auditing and reading aside, by which factor each doubling
-# takes longer, and the ratio at 4 N. What takes more than LIMIT (60) seconds is told as such, and not tried at more. First both rewrite 100 random listings, unless
-# shapes are named. They have to write the same, for each shape too. Where PROGRAM is given, a build of rewriting/proved.rs, it is measured, and nothing is proved.
+# Measures how the time of rewriting grows with listings of hostile shapes, beside a plain Rust program of the best known algorithms: each shape of growth.py
+# at N, 2 N and 4 N. Prints a row for each: the processor seconds of rewriting in both programs, without auditing and reading, the factor of each doubling, and
+# the ratio at 4 N. Runs of more than LIMIT (60) seconds are reported, larger ones skipped. Unless shapes are named, first both rewrite 100 random listings.
+# The outputs must be equal, for each shape too. If PROGRAM, a build of rewriting/proved.rs, is given, it is measured, and nothing is proved.
 # Use: bench/growth.sh [LIMIT [PROGRAM [SHAPE ..]]], PROGRAM - for none
 . "$(dirname "$0")/common.sh"
 limit=${1:-60} given=${2:--}
@@ -16,8 +16,8 @@ else
     proved=$(build_proved rewriting "$top/bench/rewriting/proved.rs" rule_table table_audit listing_parser window_rewrite step_ledger anyhow)
 fi
 
-# run PROGRAM SECONDS: runs a program, `proved` or `plain`, on $work/input for so many seconds of the processor at most. `$took` is what it tells first, in
-# microseconds, or nothing where it took more.
+# run PROGRAM SECONDS: runs a program, `proved` or `plain`, on $work/input for at most so many processor seconds. `$took` is the first number that it
+# prints, in microseconds, or empty if it took longer.
 run() {
     took=
     if (ulimit -t "$2" && on_processor "${!1}" < "$work/input" 2> "$work/$1.told" > "$work/$1.s") 2> /dev/null; then
@@ -25,7 +25,7 @@ run() {
     fi
 }
 
-# agree WHAT: both programs have to have written and told the same, times aside.
+# agree WHAT: fails unless both programs wrote and printed the same, except for times.
 agree() {
     if ! cmp -s "$work/proved.s" "$work/plain.s" || ! cmp -s <(cut -d' ' -f3- "$work/proved.told") <(cut -d' ' -f3- "$work/plain.told"); then
         echo "$1 differs" && head -n 1 "$work"/*.told >&2
@@ -36,10 +36,10 @@ agree() {
 # seconds MICROSECONDS: as seconds, or that it took more than the limit.
 seconds() { if [ -n "$1" ]; then awk "BEGIN { printf \"%.3f\", $1 / 1000000 }"; else echo "> $limit"; fi; }
 
-# quotient A B: A through B, where both are known.
+# quotient A B: A divided by B, if both are known.
 quotient() { if [ -n "$1" ] && [ -n "$2" ] && [ "$2" -gt 0 ]; then awk "BEGIN { printf \"%.1f\", $1 / $2 }"; else echo -; fi; }
 
-# compare COUNT: both rewrite so many random listings.
+# compare COUNT: both programs rewrite COUNT random listings.
 compare() {
     local listing
     mkdir -p "$work/random"
@@ -62,7 +62,7 @@ measure() {
         at=0
         for count in "$2" $(($2 * 2)) $(($2 * 4)); do
             if [ "$at" = 0 ] || [ -n "${times[$program$((at - 1))]}" ]; then
-                # what auditing the table takes
+                # the time for auditing the table
                 python3 "$top/bench/growth.py" "$1" "$count" --table > "$work/input"
                 audit=0
                 if [ "$program" = proved ]; then
@@ -71,7 +71,7 @@ measure() {
                 fi
                 python3 "$top/bench/growth.py" "$1" "$count" > "$work/input"
                 run "$program" $((limit + audit))
-                # the lesser one of two where it is short
+                # a short run is made twice, and the lesser time counts
                 if [ -n "$took" ] && [ "$took" -lt 1000000 ]; then
                     times[$program$at]=$took
                     run "$program" $((limit + audit))

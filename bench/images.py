@@ -1,12 +1,12 @@
 #!/usr/bin/env python3
 """Compares images with those of GNU as and ld and with what objdump reads in them, and adds addresses to listings. In both, each external name gets an odd
-address, from 0xc00001 behind the base on.
+address, from 0xc00001 after the base on.
 
-Use: bench/images.py compare PROGRAM LISTING.., where PROGRAM reads a listing and writes its image from 0, or with a word from 0x8000000,
-or   bench/images.py addressed < LISTING > LISTING, where debug lines become comments, for a repeated one has names of theirs twice,
-or   bench/images.py gnu < LISTING > LISTING: in one section, with external names of functions, as GNU as wants them.
+Use: bench/images.py compare PROGRAM LISTING.., where PROGRAM reads a listing and writes its image from 0, or with an argument from 0x8000000,
+or   bench/images.py addressed < LISTING > LISTING, which turns debug lines into comments, since a repeated listing has their names twice,
+or   bench/images.py gnu < LISTING > LISTING: in one section, with external names marked as functions, as GNU as needs them.
 
-Two halfwords count as the same where one is a `nop` (BF00, or 46C0 of GNU as), or padding of GNU as by zeros, or where one is the 3-bit form of an addition to a
+Two halfwords count as the same if one is a `nop` (BF00, or 46C0 of GNU as) or zero padding of GNU as, or if one is the 3-bit form of an addition to a
 register's own value and the other its 8-bit form; GNU as also fills the end up to a multiple of 4."""
 import re
 import subprocess
@@ -31,7 +31,7 @@ def mentioned(lines):
 
 
 def addressed(text, base=0):
-    """The text behind lines that set the addresses of its external names."""
+    """The text, preceded by lines that set the addresses of its external names."""
     lines = text.splitlines()
     known = defined(lines)
     names = dict.fromkeys(name for name in mentioned(lines) if name not in known)
@@ -45,14 +45,14 @@ def image(program, text, base):
 
 
 def gnu_text(text):
-    """The text for GNU as: in one section, with external names of functions."""
+    """The text for GNU as: in one section, with external names marked as functions."""
     source = re.sub(r"(?m)^\s*\.section.*$", "\t.text", text)
     source = re.sub(r"(?m)^\t\.set (\S+), (0x\S+)$", r"\t.thumb_set \1, \2", source)
     return ".syntax unified\n.thumb\n" + source
 
 
 def gnu_image(text, base, folder):
-    """The bytes that GNU as and ld make of a text."""
+    """The bytes that GNU as and ld make from a text."""
     (folder / "in.s").write_text(gnu_text(text))
     subprocess.run(["arm-none-eabi-as", "-mcpu=cortex-m0", "-mthumb", folder / "in.s", "-o", folder / "in.o"], check=True)
     subprocess.run(["arm-none-eabi-ld", f"-Ttext={base:#x}", "-e", "0", folder / "in.o", "-o", folder / "in.elf"], check=True)
@@ -61,14 +61,14 @@ def gnu_image(text, base, folder):
 
 
 def short_form(half):
-    """An addition of a 3-bit number to the register's own value, in its 8-bit form."""
+    """An addition of a 3-bit number to the register's own value, in its 8-bit form; other halfwords unchanged."""
     if half >> 10 == 0b000111 and half & 7 == half >> 3 & 7:
         return (0b00110 | half >> 9 & 1) << 11 | (half & 7) << 8 | half >> 6 & 7
     return half
 
 
 def differences(ours, theirs):
-    """The offsets of halfwords that are no other form of one another."""
+    """The offsets of halfwords that don't count as the same."""
     if len(ours) != len(theirs) and theirs[len(ours) :] not in (b"\x00\x00", b"\xc0\x46"):
         yield min(len(ours), len(theirs)) // 2 * 2
     for at in range(0, min(len(ours), len(theirs)) - 1, 2):

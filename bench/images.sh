@@ -1,6 +1,6 @@
 #!/usr/bin/env bash
-# Compares the images of the files of a folder with those of GNU as and ld and with what objdump reads in them, at the bases 0 and 0x8000000; and measures
-# assembling a listing of about 65,500 lines, made by repeating the files, with the proved crates beside a plain Rust program, and beside GNU as and ld.
+# Compares the images of the files of a folder with those of GNU as and ld and with what objdump reads in them, at the bases 0 and 0x8000000. Also measures
+# assembling a listing of about 65,500 lines, made by repeating the files, with the proved crates, with a plain Rust program, and with GNU as and ld.
 # Use: bench/images.sh FOLDER [TURNS]
 . "$(dirname "$0")/common.sh"
 folder=${1:-} turns=${2:-9}
@@ -9,7 +9,7 @@ take_crates thumb_assembler
 proved=$(build_proved images "$top/bench/images/proved.rs" listing_parser label_layout thumb_assembler anyhow)
 plain=$(build_plain "$top/bench/images/plain.rs")
 python3 "$top/bench/images.py" compare "$proved" "$folder"/*
-# the limit is 65,536 lines, and those that set addresses come before
+# with the lines that set addresses, which come first, these are about 65,500 lines
 python3 "$top/bench/repeated.py" "$folder" 65392 | python3 "$top/bench/images.py" addressed > "$work/listing.s"
 python3 "$top/bench/images.py" gnu < "$work/listing.s" > "$work/gnu.s"
 
@@ -25,7 +25,7 @@ for _ in $(seq "$turns"); do
     cmp "$work/proved.image" "$work/plain.image"
     clocked gnu 2>> "$work/gnu.times"
 done
-# the first number is assembling's, the second that of reading, laying out and assembling
+# the first number is the time of assembling, the second that of reading, laying out and assembling
 said="$(wc -l < "$work/listing.s") lines to $(wc -c < "$work/proved.image") bytes"
 print_times "assembling $said" us "$(shortest proved 1)" "$(shortest plain 1)"
 print_times "reading, laying out and assembling $said" us "$(shortest proved 2)" "$(shortest plain 2)"

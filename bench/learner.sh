@@ -1,9 +1,9 @@
 #!/usr/bin/env bash
 # Measures learning tables from the windows of listings (three registers, three instructions, the default pool, a budget of 20,000) with the proved crates
-# beside a plain Rust learner of the same rules, which gets its windows from a plain Rust reader of the listing. For each listing both tables have to be the
-# same, byte for byte, proofs and logs too. Then `peep learn` as a whole beside the plain learner's time. Where `perf` is there, the shares of the time are told.
+# and with a plain Rust learner by the same rules, which gets its windows from a plain Rust reader of the listing. For each listing both tables must be equal
+# byte for byte, including proofs and logs. Then `peep learn` is compared with the plain learner's time. If `perf` is there, the shares of the time are printed.
 # With a cost file the tables are learnt by these costs, from windows of at most two instructions.
-# Use: bench/learner.sh [--costs COSTS] FOLDER [TURNS [LISTINGS]], of the folder's listings the first so many
+# Use: bench/learner.sh [--costs COSTS] FOLDER [TURNS [LISTINGS]], only the first LISTINGS of the folder
 . "$(dirname "$0")/common.sh"
 costs=
 if [ "${1:-}" = --costs ]; then
@@ -29,7 +29,7 @@ proved=$(build_proved learner_times "$top/bench/learner/proved.rs" listing_parse
 "$top/peep" > "$work/built" 2>&1 || true
 peep=$top/crates/peep/out/peep
 
-# costs_line: the line that a table has of the cost file.
+# costs_line: the line of a table for the cost file.
 costs_line() {
     local names="adds subs movs cmp lsls lsrs asrs ands eors adcs sbcs rors tst rsbs cmn orrs muls bics mvns mov add sxth sxtb uxth uxtb rev rev16 revsh"
     awk -v names="$names" 'NR > 1 { cost[$1] = $2 } END { count = split(names, name); printf "costs"; for (n = 1; n <= count; n++) printf " %d", name[n] in cost ? cost[name[n]] : 1 }' "$costs"
@@ -44,7 +44,7 @@ windows() {
     fi
 }
 
-# given LISTING: what the proved program reads: the listing, and before it, where there are costs, the cost file and an empty line.
+# given LISTING: the proved program's input: the listing, preceded by the cost file and an empty line if there are costs.
 given() {
     [ -z "$costs" ] || { cat "$costs" && echo; }
     cat "$1"
@@ -56,7 +56,7 @@ for listing in "${listings[@]}"; do
     given "$listing" > "$work/given/$(basename "$listing")"
 done
 
-# learning PROGRAM LISTING: the proved program reads the listing, the plain one its windows.
+# learning PROGRAM LISTING: runs a program, the proved one on the listing, the plain one on its windows.
 learning() {
     case $1 in
         "$proved") "$1" < "$work/given/$(basename "$2")" ;;
@@ -86,12 +86,12 @@ print_times "learning $windows windows of ${#listings[@]} listings" ms "$proved_
 print_times "\`peep learn\` of them" ms "$peep_sum" "$plain_sum" "the plain learner's learning"
 awk '{ all += $1; i += $3; s += $4; f += $5; o += $6 } END { printf "plain Rust: outcomes %.0f %%, states %.0f %%, formulas %.0f %%, solver %.0f %%\n", 100 * i / all, 100 * s / all, 100 * f / all, 100 * o / all }' "$work/shares"
 
-# share NAMES: which part of the time that perf saw was spent in functions of these crates.
+# share NAMES: the share of the time that perf saw in functions of these crates.
 share() { awk -v names="$1" '$0 ~ names { sum += $1 } END { printf "%.0f %%", sum }' "$work/seen"; }
 
 if command -v perf > /dev/null; then
     number=0
-    # those that take longest say most
+    # the profiles of all listings are summed, so longer runs count more
     for listing in "${listings[@]}"; do perf record -q -e cpu-clock -o "$work/perf.$((number += 1))" "$proved" < "$work/given/$(basename "$listing")" > "$work/proved.table" 2> "$work/told" || true; done
     for n in $(seq "$number"); do perf report -i "$work/perf.$n" --no-children --stdio -n 2> "$work/told"; done | grep -v '^#' | awk 'NF > 3 { $1 = $2; print }' > "$work/counts"
     awk 'NR == FNR { all += $1; next } { $1 = 100 * $1 / all; print }' "$work/counts" "$work/counts" > "$work/seen"

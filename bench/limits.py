@@ -1,10 +1,11 @@
 #!/usr/bin/env python3
-"""Runs every command at the limits of its sizes and at half of them, and prints the time of the processor, the peak of memory and the factor of growth, as rows of a table.
+"""Runs every command at the limits of its sizes and at half of them, and prints processor time, peak memory and the growth factor, as rows of a table.
 
 Usage: bench/limits.py FOLDER ROOM [WORD ..]
 
-FOLDER has listings that gcc wrote; ROOM, outside the repository, gets what is made of them, up to 400 MB. Of words that are given only cases run whose name has one of them. PEEP names
-another program than the repository's, TURNS how many turns are taken, of whose times the least is told (2). What grows by more than 2.3 is marked.
+FOLDER has listings that gcc wrote; ROOM, outside the repository, gets the inputs made from them, up to 400 MB. If words are given, only cases run whose name
+contains one of them. PEEP names another program than the repository's; TURNS (2) is the number of runs, of which the least time counts. Factors above 2.3 are
+marked.
 """
 
 import os
@@ -24,11 +25,11 @@ HEAD = "peep {}\nregs 2\nleft 2\nseed 42\nbudget {}\npool 24 255\n"
 SUM = "entry\nleft movs r0, #24\nleft adds r1, r1, r0\nright adds r1, #24\nmask r1 n z c v\nproof\n"
 
 
-# ---- what is fetched ----
+# ---- inputs ----
 
 
 class Inputs:
-    """Texts of a size, made once, by name."""
+    """Texts of given sizes, each made once, by name."""
 
     def __init__(self, folder, room):
         self.folder, self.room = folder, room
@@ -40,28 +41,28 @@ class Inputs:
         return path
 
     def listing(self, lines):
-        """Lines that gcc wrote, files repeated."""
+        """Lines that gcc wrote, with files repeated."""
         repeated = lambda: subprocess.run([sys.executable, TOP / "bench/repeated.py", self.folder, str(lines)], capture_output=True, check=True).stdout.decode("latin-1")
         return self.made(f"gcc-{lines}.s", repeated)
 
     def blocks(self, lines):
-        """Functions that mention nothing outside: windows, branches and words."""
+        """Functions that mention no external names: windows, branches and words."""
         block = "f{0}:\n\tlsls r0, r0, #24\n\tlsrs r0, r0, #24\n\tcmp r0, #1\n\tbeq e{0}\n\tmovs r2, #50\n\tadds r3, r3, r2\n\tmovs r2, #0\ne{0}:\n\tbx lr\n"
         count = block.count("\n")
         return self.made(f"blocks-{lines}.s", lambda: "".join(block.format(n) for n in range(lines // count)))
 
     def loop(self, lines):
-        """One function whose run goes through all lines again and again."""
+        """One function whose run passes through all lines again and again."""
         return self.made(f"loop-{lines}.s", lambda: "f:\n" + "\tadds r0, #1\n\tnop\n" * (lines // 2 - 2) + "\tbl f\n\tbx lr\n")
 
     def families(self, count):
-        """A table of one entry and so many families, whose lines are short, so that 2,900,000 fit."""
+        """A table of one entry and `count` families with short lines, of which 2,900,000 fit."""
         numbers = lambda n: f"family 1 9 {n % 10} {9 + n // 10 % 90}\nproof\n"
         head = (HEAD.format(3, 1) + "scratch 0\n" + STATES + SUM).replace("pool 24", "pool 9").replace("#24", "#9")
         return self.made(f"families-{count}.peep", lambda: head + "".join(map(numbers, range(count))) + "end\n")
 
     def repeated(self, name, source, room, version=None):
-        """A table's entries again and again, as many as fit into so many bytes."""
+        """A table's entries repeated, as many as fit into `room` bytes."""
 
         def text():
             head, *entries = source.read_text().removesuffix("end\n").split("entry\n")
@@ -72,7 +73,7 @@ class Inputs:
         return self.made(f"{name}-{room}.peep", text)
 
     def hints(self, room, version=1):
-        """A table of just so many bytes, most of them hints that no check looks at, since the formula's last clause is empty."""
+        """A table of exactly `room` bytes, most of them hints that no check reads, since the formula's last clause is empty."""
 
         def text():
             clauses = len(read_tables.formula(["movs r0, #24", "adds r1, r1, r0"], ["adds r1, #24"], "r1 n z c v".split(), 2).clauses)
@@ -84,7 +85,7 @@ class Inputs:
         return self.made(f"hints{version}-{room}.peep", text)
 
     def open_logs(self, room):
-        """A table of numbers that are left open, with their logs, again and again."""
+        """A table of numbers that are left open, with their logs, repeated."""
         listing = self.made("open.s", lambda: "\teors r0, r1\n\teors r0, r1\n\tbx lr\n")
         table = self.room / "open.peep"
         subprocess.run([PEEP, "learn", listing, table, "--left", "2", "--regs", "2", "--budget", "1", "--pool", "255"], check=True, stdout=subprocess.DEVNULL)
@@ -100,7 +101,7 @@ class Inputs:
 
 
 def cases(inputs):
-    """Names, what is measured at a share of the limit, and the words of the run."""
+    """Names, a function from a share of the limit to the command's words."""
     rules = TOP / "examples/rules.peep"
     costs = ["--costs", TOP / "examples/small-multiplier.costs"]
     lines = lambda share: inputs.listing(int(LINES * share))
@@ -136,7 +137,7 @@ def cases(inputs):
 
 
 def measured(words):
-    """The status, what is printed, the seconds of the processor and the megabytes at the peak."""
+    """The status, the first printed line, the processor seconds and the peak memory in megabytes."""
     reader, writer = os.pipe()
     child = os.fork()
     if child == 0:

@@ -1,9 +1,9 @@
 #!/usr/bin/env bash
-# Measures reading a listing and printing it back, and reading it and laying it out, with the proved crates beside a plain Rust program that reads the same grammar.
+# Measures reading and printing a listing, and reading it and laying it out, with the proved crates and with a plain Rust program for the same grammar.
 # Use: bench/listing_lines.sh LISTING [TURNS]
-# or   bench/listing_lines.sh --each FOLDER, which tries that each file of a folder is printed back byte for byte, and laid out alike by both programs,
-# or   bench/listing_lines.sh --shapes [TURNS], which measures listings of some shapes at n and 2n: where time is linear the factor is about that of plain Rust,
-# or   bench/listing_lines.sh --all FOLDER [TURNS]: the folder's files each, one listing of about 65,000 lines made by repeating them, and the shapes.
+# or   bench/listing_lines.sh --each FOLDER, which tests that both programs print each file of a folder back byte for byte, and lay it out alike,
+# or   bench/listing_lines.sh --shapes [TURNS], which measures listings of some shapes at n and 2n: if time is linear, both programs' factors are about equal,
+# or   bench/listing_lines.sh --all FOLDER [TURNS]: each file of the folder, one listing of about 65,000 lines made by repeating them, and the shapes.
 . "$(dirname "$0")/common.sh"
 usage() { sed -n '2,6s/^# //p' "$0" >&2; exit 2; }
 what=$work/listing.s
@@ -21,7 +21,7 @@ take_crates listing_parser label_layout
 proved=$(build_proved listing_lines "$top/bench/listing_lines/proved.rs" listing_parser label_layout anyhow)
 plain=$(build_plain "$top/bench/listing_lines/plain/main.rs")
 
-# run_both LISTING: runs both programs on a listing in turn, as many turns as there are; both have to print it back and to tell the same beside times.
+# run_both LISTING: runs both programs alternately on a listing, TURNS times; both must print it back and report the same, except for times.
 run_both() {
     local program
     for _ in $(seq "$turns"); do
@@ -36,7 +36,7 @@ run_both() {
     mv "$work/plain.times" "$work/plain.last"
 }
 
-# shortest PROGRAM SUM: the least of a sum of times over the last runs of a program. $1 is reading and printing, $2 reading, $4 laying out.
+# shortest PROGRAM SUM: the least sum of times over the last runs of a program. $1 is reading and printing, $2 reading, $4 laying out.
 shortest() { awk "{ print $2 }" "$work/$1.last" | sort -n | head -n 1; }
 
 # try_each FOLDER: reads each file of a folder with both programs.

@@ -1,12 +1,12 @@
 #!/usr/bin/env bash
-# Measures finding the live items of a listing and harvesting its windows with the proved crates beside a plain Rust program with the same rules: on one listing of about 65,000
-# lines made by repeating the files of a folder, and on a chain of branches backward, each to the one before, along which what is live comes back.
+# Measures finding the live items of a listing and its windows with the proved crates and with a plain Rust program by the same rules: on one listing of about
+# 65,000 lines, made by repeating the files of a folder, and on a chain of backward branches, each to the one before, along which liveness spreads back.
 # Use: bench/live_items.sh FOLDER [TURNS]
 . "$(dirname "$0")/common.sh"
 folder=${1:-} turns=${2:-9}
 [ -d "$folder" ] || { sed -n '2,4s/^# //p' "$0" >&2; exit 2; }
 take_crates window_harvest
-# the ledger of which contracts alone see the count has the name of the blank that it is made of
+# the proof folder for the program's step ledger, which counts in contracts only
 mkdir -p "$work/crates/live_items/proofs/main"
 cat > "$work/crates/live_items/proofs/main/Invariants.antt" <<'ANTT'
 use Rattle.live_items.proofs.main.Given as goal
@@ -17,7 +17,7 @@ ANTT
 proved=$(build_proved live_items "$top/bench/live_items/proved.rs" thumb_model listing_parser liveness window_harvest seq_enum step_ledger anyhow)
 plain=$(build_plain "$top/bench/live_items/plain.rs")
 
-# run_both LISTING TURNS: runs both programs in turn; they have to tell the same beside times.
+# run_both LISTING TURNS: runs both programs alternately; they must report the same, except for times.
 run_both() {
     local program
     rm -f "$work"/*.times
@@ -30,7 +30,7 @@ run_both() {
     done
 }
 
-# chain N: N branches backward, each to the one before, and a return.
+# chain N: N backward branches, each to the one before, and a return.
 chain() {
     echo "x0: bx lr"
     for n in $(seq "$1"); do echo "x$n: b x$((n - 1))"; done

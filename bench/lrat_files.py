@@ -1,8 +1,8 @@
 """Builds, outside the repository, a program that runs `lrat_check` on files.
 
-The program reads `formula.cnf` and `lines.txt` in the folder that it is run in and prints a word
-for each line: `ok`, the fault, or `unread`. At the end it tells, on standard error, the
-milliseconds that reading the lines and checking them took, and whether the formula is refuted.
+The program reads `formula.cnf` and `lines.txt` in its working folder and prints a word for each
+line: `ok`, the fault, or `unread`. At the end it prints on standard error the milliseconds of
+reading and of checking the lines, and whether the formula is refuted.
 """
 
 import pathlib
@@ -14,7 +14,7 @@ TAKEN = ("cnf_gates", "step_ledger", "clause_model", "lrat_check")
 
 
 def crates():
-    """The lines of crates.txt of the crates that are taken, and the program's."""
+    """The lines of crates.txt for the crates that are used, and for the program."""
     lines = (REPOSITORY / "crates.txt").read_text().splitlines()
     return [line for line in lines if line.split(":")[0] in TAKEN] + ["lrat_files: lrat_check cnf_gates step_ledger anyhow"]
 
@@ -128,7 +128,7 @@ loop-word-preserved-in-Continue-1 c =
 
 
 def build(folder):
-    """The program, built in a folder outside the repository."""
+    """Builds the program in a folder outside the repository, and returns its path."""
     folder = pathlib.Path(folder)
     for name in TAKEN:
         shutil.copytree(
@@ -156,7 +156,7 @@ def build(folder):
 
 
 def run(binary, folder, clauses, lines):
-    """What the program says of each line, and its report."""
+    """The program's answer for each line, and its report."""
     folder = pathlib.Path(folder)
     folder.mkdir(parents=True, exist_ok=True)
     text = "".join(" ".join(map(str, [*clause, 0])) + "\n" for clause in clauses)

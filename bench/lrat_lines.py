@@ -2,7 +2,7 @@
 
 A proof that a solver wrote in DRAT (a line for each clause that is added or, after `d`, deleted)
 becomes lines of LRAT: each added clause gets the hints by which reverse unit propagation accepts
-it, found by propagating over the live clauses and walking back from the clause that became false.
+it, found by propagating over the live clauses and tracing back from the clause that became false.
 """
 
 
@@ -59,7 +59,7 @@ class Propagator:
             self.watchers.setdefault(literal, []).append(number)
 
     def delete(self, clause):
-        """The number of a live clause with these literals, which is live no longer."""
+        """Deletes a live clause with these literals, and returns its number."""
         numbers = self.by_literals.get(tuple(sorted(set(clause))))
         if not numbers:
             return None
@@ -69,7 +69,7 @@ class Propagator:
         return number
 
     def hints(self, clause):
-        """The hints that show the clause, or None where propagation doesn't."""
+        """The hints for the clause, or None if propagation doesn't derive it."""
         reasons, trail = {}, []
 
         def assign(literal, reason):
@@ -161,7 +161,7 @@ def text(line):
 
 
 class Checker:
-    """The checker, written again from the format's description, to tell which damage shows."""
+    """A second checker, written from the format's description, to judge damaged lines."""
 
     def __init__(self, clauses):
         self.live = dict(enumerate(clauses, 1))

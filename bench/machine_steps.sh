@@ -1,5 +1,5 @@
 #!/usr/bin/env bash
-# Measures a million steps of the proved machine beside a plain Rust interpreter of the same instructions, on a loop of loads, stores and branches.
+# Measures a million steps of the proved machine and of a plain Rust interpreter of the same instructions, on a loop of loads, stores and branches.
 # Use: bench/machine_steps.sh [TURNS]
 . "$(dirname "$0")/common.sh"
 turns=${1:-5}

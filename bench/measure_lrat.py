@@ -1,11 +1,11 @@
-"""Measures `lrat_check` beside a plain Rust checker, on proofs over 10,000 clauses and more.
+"""Measures `lrat_check` and a plain Rust checker, on proofs over 10,000 clauses and more.
 
 Usage: python3 bench/measure_lrat.py FOLDER [REPEATS]
 
-FOLDER lies outside the repository. Each formula is that of pigeons, among 10,000 clauses of three
-literals over 5,000 other variables; CaDiCaL refutes it, and both programs check the same lines.
-Times are the least of the repeats, in milliseconds. The time of checking should grow as the sum of
-the lengths of the clauses that the hints name, which stands beside it.
+FOLDER is outside the repository. Each formula is a pigeonhole formula among 10,000 clauses of
+three literals over 5,000 other variables; CaDiCaL refutes it, and both programs check the same
+lines. Times are the least of the repeats, in milliseconds. The time of checking should grow in
+proportion to the total length of the clauses that the hints name, which is printed too.
 """
 
 import pathlib
@@ -19,13 +19,13 @@ from lrat_lines import text
 
 
 def least(runs):
-    """The least times of reading and of checking that the reports tell."""
+    """The least times of reading and of checking in the reports."""
     reports = [run.split() for run in runs]
     return [min(int(report[k]) for report in reports) for k in (1, 3)]
 
 
 def looked_at(clauses, proof_lines):
-    """The sum of the lengths of the clauses that the hints name."""
+    """The total length of the clauses that the hints name."""
     lengths = {number: len(clause) for number, clause in enumerate(clauses, 1)}
     total = 0
     for line in proof_lines:

@@ -1,7 +1,7 @@
 #!/usr/bin/env bash
-# Measures the judgement of logs that spend a budget, each line accepted and each clause new, with the proved crate beside a plain Rust program that keeps the
-# same lists of clauses by literals; both have to say the same. The logs are of LINES clauses of ten literals by chance and of twice as many, and one of 20,000
-# clauses that the plain solver learns of pigeons. Use: bench/newness.sh [LINES [TURNS]]
+# Measures judging logs that spend a budget (each line accepted and each clause new) with the proved crate and with a plain Rust program that keeps the same
+# lists of clauses by literals; both must answer the same. The logs have LINES random clauses of ten literals, twice as many, and the 20,000 clauses that the
+# plain solver learns from a pigeonhole formula. Use: bench/newness.sh [LINES [TURNS]]
 . "$(dirname "$0")/common.sh"
 lines=${1:-50000} turns=${2:-5}
 take_crates lrat_check
@@ -10,7 +10,7 @@ proved=$(build_proved newness_times "$top/bench/newness/proved.rs" lrat_check cn
 solver=$(build_plain "$top/bench/solver/plain.rs") && mv "$solver" "$work/solver"
 plain=$(build_plain "$top/bench/newness/plain.rs")
 
-# judging PROGRAM, on the log that is set.
+# judging PROGRAM: runs it on $log.
 judging() { "$1" < "$log"; }
 
 # try_log LOG NAME

@@ -1,5 +1,5 @@
-//! The alphabet and the states of a seed in plain Rust, which the plain programs of the measures share.
-// not each program needs all of it
+//! The alphabet and the states of a seed in plain Rust, shared by the plain programs of the measures.
+// not every program needs all of it
 #![allow(dead_code)]
 
 use crate::plain_steps::{ByteOperation, Extension, Instr, Operation, Reversal, Shift, Sum, WState};

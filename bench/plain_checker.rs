@@ -1,8 +1,8 @@
-//! The checker of proofs as plain Rust, which the plain programs of the measures share.
+//! The checker of proofs in plain Rust, shared by the plain programs of the measures.
 
 use std::collections::{HashMap, HashSet};
 
-// The places are only printed.
+// Line numbers are only printed.
 #[allow(dead_code)]
 #[derive(Debug)]
 pub enum Fault {
@@ -13,7 +13,7 @@ pub enum Fault {
     NoConflict,
 }
 
-/// A number of DIMACS as twice the variable, and 1 more where it is negative.
+/// A DIMACS number as a literal: twice the variable, plus 1 if it is negative.
 pub fn code(number: i64) -> u32 {
     let variable = number.unsigned_abs() as u32 - 1;
     2 * variable + u32::from(number < 0)
@@ -30,7 +30,7 @@ pub struct Checker {
 }
 
 impl Checker {
-    /// A checker whose live clauses are those given, numbered from 1.
+    /// A checker whose live clauses are the given ones, numbered from 1.
     pub fn new(clauses: Vec<Vec<u32>>) -> Checker {
         let (last, refuted) = (clauses.len() as u64, clauses.iter().any(Vec::is_empty));
         Checker { live: (1..).zip(clauses).collect(), last, refuted, used: 0, marks: Vec::new(), trail: Vec::new() }
@@ -78,7 +78,7 @@ impl Checker {
         Err(Fault::NoConflict)
     }
 
-    /// Adds a clause that follows by its hints.
+    /// Adds a clause that follows by its hints, or returns a fault.
     pub fn add(&mut self, id: u32, literals: Vec<u32>, hints: &[i64]) -> Result<(), Fault> {
         let id = u64::from(id);
         if id <= self.last {

@@ -1,5 +1,5 @@
-//! What instructions of windows cost, by their mnemonics, in plain Rust, which the plain programs of the measures share.
-// not each program needs all of it
+//! What instructions of windows cost, by their mnemonics, in plain Rust, shared by the plain programs of the measures.
+// not every program needs all of it
 #![allow(dead_code)]
 
 /// The mnemonics of instructions of windows, in the order of a table's costs.
@@ -11,7 +11,7 @@ pub const MNEMONICS: [&str; 28] = [
 /// A number for each mnemonic, 1 to 64.
 pub type Costs = [u8; MNEMONICS.len()];
 
-/// What an instruction costs by its canonical text; 1 without costs.
+/// The cost of an instruction, by its canonical text; 1 without costs.
 pub fn cost_of(costs: Option<&Costs>, text: &str) -> u32 {
     let mnemonic = text.split(' ').next();
     let place = MNEMONICS.iter().position(|name| Some(*name) == mnemonic).expect("an instruction of a window");

@@ -1,5 +1,5 @@
-//! The ways of a listing's instructions and its live items in plain Rust, which the plain programs of the measures share.
-// not each program needs all of it
+//! The control flow of a listing's instructions and its live items in plain Rust, shared by the plain programs of the measures.
+// not every program needs all of it
 #![allow(dead_code)]
 
 use crate::instruction::{Access, ByteOperation, Condition, Instr, Operation};
@@ -44,13 +44,13 @@ impl Ways {
     }
 }
 
-/// A place from which a branch or call leads to another, and the number of the one before it that leads there too, counted from 1, or 0.
+/// A place from which a branch or call leads to another, and the number of the previous jump to the same place, counted from 1, or 0.
 struct Jump {
     place: u32,
     earlier: u32,
 }
 
-/// For each place the number of the last jump that leads there, counted from 1, or 0; the jumps, and the places from which a way leads to any code point.
+/// For each place the number of the last jump to it, counted from 1, or 0; the jumps, and the places with a flow to any code point.
 struct Callers {
     last: Vec<u32>,
     jumps: Vec<Jump>,
@@ -74,7 +74,7 @@ impl Callers {
     }
 }
 
-/// The places that wait for a visit: those below `fresh`, of which none was visited yet, and those that are to be visited again, all of them marked.
+/// The places that wait for a visit: those below `fresh`, none of which was visited yet, and those to be visited again, all of them marked.
 struct Waiting {
     fresh: usize,
     again: Vec<u32>,
@@ -125,7 +125,7 @@ fn accessed(access: Access, target: u8) -> (u32, u32) {
     }
 }
 
-/// What an instruction that goes on to the next place reads and writes.
+/// What an instruction that continues to the next place reads and writes.
 pub fn shape(instr: &Instr) -> (u32, u32) {
     match *instr {
         Instr::Mov { target, source } => (bit(source), bit(target)),
@@ -237,7 +237,7 @@ fn code_label(listing: &Listing, name: &[u8]) -> Option<usize> {
     }
 }
 
-/// The places of code labels, and those behind calls.
+/// The places of code labels, and those after calls.
 fn points_of(listing: &Listing) -> Vec<bool> {
     let mut marks = vec![false; listing.spots.len() + 1];
     for (line, place) in listing.lines.iter().zip(&listing.passed) {
@@ -258,19 +258,19 @@ pub struct Flows {
     pub is_point: Vec<bool>,
     pub before: Vec<u32>,
     pub after: Vec<u32>,
-    /// The items that are live before some code point.
+    /// The items that are live before at least one code point.
     pub points: u32,
 }
 
 impl Flows {
-    /// The ways of a listing, with no item live yet.
+    /// The control flow of a listing, with no item live yet.
     pub fn of(listing: &Listing) -> Flows {
         let count = listing.spots.len();
         let ways = (0..count).map(|place| op_at(listing, place).map(|(instr, target)| ways_of(instr, target, place))).collect();
         Flows { ways, is_point: points_of(listing), before: vec![0; count], after: vec![0; count], points: 0 }
     }
 
-    /// What is live before a place and after it, as far as the sets of other places tell.
+    /// What is live before a place and after it, according to the current sets of other places.
     #[inline]
     pub fn seen(&self, place: usize) -> (u32, u32) {
         let mut seen = (0, 0);
@@ -292,7 +292,7 @@ impl Flows {
         seen
     }
 
-    /// Finds the live items by visits of all places, the last first, and of each again where what its ways lead to has grown. Tells how many visits.
+    /// Finds the live items by visits of all places, from the last on, and of each again when what its successors need has grown. Returns the number of visits.
     pub fn find(&mut self) -> u64 {
         let callers = Callers::of(&self.ways);
         let count = self.ways.len();

@@ -1,11 +1,11 @@
-//! The formula that two sequences leave something different, in plain Rust, which the plain programs of the measures share.
-// not each program needs all of it
+//! The formula that two sequences leave something different, in plain Rust, shared by the plain programs of the measures.
+// not every program needs all of it
 #![allow(dead_code)]
 
 use crate::plain_steps::{ByteOperation, Extension, Instr, Mask, Operation, Reversal, Shift, Sum};
 use std::collections::HashMap;
 
-/// A variable or its contrary: twice the variable, and 1 more where negative.
+/// A variable or its negation: twice the variable, plus 1 if negated.
 type Literal = u32;
 
 #[derive(Clone, Copy, PartialEq, Eq)]
@@ -138,7 +138,7 @@ impl Builder {
         std::array::from_fn(|i| self.ite(a, y[i], x[i]))
     }
 
-    /// The bits of a sum, C and V.
+    /// The bits of a sum, and its flags C and V.
     fn add(&mut self, x: &Word, y: &Word, c: Bit) -> (Word, Bit, Bit) {
         let mut value = [FALSE; 32];
         let (mut carry, mut before) = (c, c);
@@ -213,7 +213,7 @@ fn moved_out(kind: Shift, n: usize, x: &Word) -> Bit {
     if matches!(kind, Shift::Lsl) { x[32 - n] } else { x[n - 1] }
 }
 
-/// The registers and flags as bits, and the number of 8 bits that stands for a word, if one does.
+/// The registers and flags as bits, and the 8-bit number that is variable, if there is one.
 #[derive(Clone)]
 struct Bits {
     symbol: Option<(u32, Word)>,
@@ -233,7 +233,7 @@ impl Bits {
         self.registers[register as usize] = value;
     }
 
-    /// N and Z of a value.
+    /// Sets N and Z for a value.
     fn test(&mut self, b: &mut Builder, value: &Word) {
         self.z = value.iter().fold(TRUE, |z, bit| b.and(z, bit.not()));
         self.n = value[31];
@@ -249,7 +249,7 @@ impl Bits {
         self.c = c;
     }
 
-    /// A sum with its flags.
+    /// A sum, with the flags set.
     fn sum(&mut self, b: &mut Builder, x: &Word, y: &Word, c: Bit) -> Word {
         let (value, carry, overflow) = b.add(x, y, c);
         self.test(b, &value);
@@ -372,7 +372,7 @@ impl Bits {
     }
 }
 
-/// The clause of each bit that a number of at least so much needs: it, or one of the higher ones that the least hasn't.
+/// A clause for each 1 bit of the lower bound of a number: this bit, or one of the higher bits that are 0 in the bound.
 fn at_least(b: &mut Builder, bits: &[Bit; 8], least: u32) {
     for j in (0..8).rev().filter(|j| least >> j & 1 == 1) {
         let higher = (j + 1..8).rev().filter(|i| least >> i & 1 == 0).map(|i| bits[i]);
@@ -381,7 +381,7 @@ fn at_least(b: &mut Builder, bits: &[Bit; 8], least: u32) {
     }
 }
 
-/// What two sequences leave differs under the mask.
+/// The clauses that what two sequences leave differs under the mask.
 fn add_difference(b: &mut Builder, start: Bits, left: &[Instr], right: &[Instr], mask: Mask) {
     let (mut l, mut r) = (start.clone(), start);
     left.iter().for_each(|instr| l.form(b, instr));
@@ -399,7 +399,7 @@ fn add_difference(b: &mut Builder, start: Bits, left: &[Instr], right: &[Instr],
     b.some_of(&found);
 }
 
-/// A start of the first `k` registers.
+/// A start state of the first `k` registers.
 fn start(b: &mut Builder, k: usize) -> Bits {
     let registers = (0..k).map(|_| std::array::from_fn(|_| b.input())).collect();
     Bits { symbol: None, registers, n: b.input(), z: b.input(), c: b.input(), v: b.input() }
@@ -413,7 +413,7 @@ pub fn formula(left: &[Instr], right: &[Instr], mask: Mask, k: usize) -> Builder
     b
 }
 
-/// The same with a value of a range in place of a number of 8 bits.
+/// The same with a value of a range in place of an 8-bit number.
 pub fn family_formula(left: &[Instr], right: &[Instr], number: u32, low: u32, high: u32, mask: Mask, k: usize) -> Builder {
     let mut b = Builder::default();
     let mut start = start(&mut b, k);

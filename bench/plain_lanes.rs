@@ -1,10 +1,10 @@
-//! Eight states side by side in plain Rust, their steps, and the prints of all sequences along the tree of their beginnings.
+//! Eight states side by side in plain Rust, their steps, and the prints of all sequences along the tree of their prefixes.
 
 use crate::plain_steps::{ByteOperation, Extension, Instr, Mask, Operation, Reversal, Shift, Sum, WState};
 
 type Words = [u32; 8];
 
-/// A lane of `n` has the flag N as its bit 31, a lane of `c` C, a lane of `v` V; a lane of `z` is zero where Z is set.
+/// A lane of `n`, `c` or `v` has the flag N, C or V as its bit 31; a lane of `z` is zero if Z is set.
 #[derive(Clone, Copy)]
 pub struct Lanes {
     r: [Words; 4],
@@ -32,7 +32,7 @@ fn both(a: Words, b: Words, f: impl Fn(u32, u32) -> u32) -> Words {
     out
 }
 
-/// Values with their carries out, as bit 31.
+/// Values with their carries out in bit 31.
 #[derive(Clone, Copy)]
 struct Moved {
     value: Words,
@@ -60,7 +60,7 @@ fn add_with_carry(x: Words, y: Words, c: Words) -> Sums {
     sums
 }
 
-/// A shift by a number from 1 to 32.
+/// A shift by a constant from 1 to 32.
 #[inline(always)]
 fn by_number(kind: Shift, x: Words, n: u32) -> Moved {
     match kind {
@@ -111,7 +111,7 @@ fn by_register(kind: Shift, x: Words, y: Words, c: Words) -> Moved {
 }
 
 impl Lanes {
-    /// States of zeros stand behind those given.
+    /// The given states, filled up with zero states.
     pub fn of(states: &[WState]) -> Lanes {
         let mut lanes = Lanes { r: [[0; 8]; 4], n: [0; 8], z: [1; 8], c: [0; 8], v: [0; 8] };
         for (i, state) in states.iter().enumerate() {
@@ -265,7 +265,7 @@ fn mixed(print: u64, word: u32) -> u64 {
     (print.rotate_left(5) ^ u64::from(word)).wrapping_mul(0x9E37_79B9_7F4A_7C15)
 }
 
-/// Prints so far with more states, mixed in turn, so that none waits for another.
+/// Prints so far combined with more states, in turn, so that no computation waits for another.
 #[inline(always)]
 fn with_lanes<const N: usize>(mut prints: [u64; N], lanes: [&Lanes; N], count: usize, mask: Mask) -> [u64; N] {
     let flags = lanes.map(Lanes::nzcv);

@@ -1,4 +1,4 @@
-//! Whether clauses are new beside those before them, in plain Rust, which the plain programs of the measures share.
+//! Whether clauses are new compared with those before them, in plain Rust, shared by the plain programs of the measures.
 
 /// Clauses, each in the shortest of the lists of its literals.
 #[derive(Default)]
@@ -47,7 +47,7 @@ impl Lists {
     }
 }
 
-/// Whether each of some clauses contains none of a formula's, and none before it.
+/// Whether each of some clauses contains none of a formula's clauses and none before it.
 pub fn are_new<'a>(formula: &[Vec<u32>], mut clauses: impl Iterator<Item = &'a [u32]>) -> bool {
     let mut lists = Lists::default();
     formula.iter().for_each(|clause| lists.keep(clause));

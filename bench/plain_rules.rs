@@ -1,6 +1,6 @@
-//! The entries and families of a table by their left sides, and the listing that rewriting leaves, in plain Rust, which the plain programs that rewrite share.
+//! The entries and families of a table by their left sides, and the rewritten listing, in plain Rust, shared by the plain programs that rewrite.
 
-// not each program needs all of it
+// not every program needs all of it
 #![allow(dead_code)]
 
 use crate::instruction::instruction;
@@ -15,13 +15,13 @@ use std::hash::{BuildHasherDefault, Hasher};
 /// The most instructions of a left side.
 pub const LONGEST: usize = 5;
 
-/// An instruction as it stands in keys: never 0.
+/// An instruction as a part of keys: never 0.
 fn code(instr: &WindowInstr) -> u128 {
     let [a, b, c] = instr.registers.map(u128::from);
     u128::from(instr.form) + 1 | a << 6 | b << 8 | c << 10 | u128::from(instr.number) << 12
 }
 
-/// A key with an instruction more.
+/// A key with one more instruction.
 pub fn longer(key: u128, instr: &WindowInstr) -> u128 {
     key << 20 | code(instr)
 }
@@ -44,23 +44,23 @@ impl Hasher for Mixed {
     }
 }
 
-/// An entry whose right side is the lighter one: shorter, or cheaper where the table has costs.
+/// An entry whose right side is lighter: shorter, or cheaper if the table has costs.
 #[derive(Clone)]
 pub struct Rule {
-    /// The right side, each with the items that it reads and writes.
+    /// The right side's instructions, each with the items that it reads and writes.
     pub right: Vec<(WindowInstr, u32, u32)>,
-    /// The registers that its left side names and its mask doesn't have, and the flags that its mask doesn't have.
+    /// The registers that its left side names and that aren't in its mask, and the flags that aren't in its mask.
     pub dead: u32,
-    /// Whether its right side names a register more.
+    /// Whether its right side names one more register.
     pub needs_scratch: bool,
 }
 
-/// An instruction whose number has 8 bits, with another number.
+/// An instruction with an 8-bit number, with another number.
 pub fn with_byte(instr: &WindowInstr, number: u8) -> WindowInstr {
     if (4..=7).contains(&instr.form) { WindowInstr { number, ..*instr } } else { *instr }
 }
 
-/// A family of such an entry: the entry's rule, and where its number stands in the left side.
+/// A family of such an entry: the entry's rule, and the places of its number in the left side.
 pub struct Family {
     pub rule: Rule,
     left: Vec<WindowInstr>,
@@ -76,7 +76,7 @@ impl Family {
         if instr.number == self.number { with_byte(instr, value) } else { *instr }
     }
 
-    /// The rule of the value under which the left side is a window, where it is.
+    /// The rule of the value for which the left side is a window, if there is one.
     pub fn instance(&self, window: &[WindowInstr]) -> Option<Rule> {
         let value = window[self.hole].number;
         let is_left = |(own, there): (&WindowInstr, &WindowInstr)| self.filled(own, value).number == there.number;
@@ -88,8 +88,8 @@ impl Family {
     }
 }
 
-/// The entries of a table by the keys of their left sides, each key's in their order. One that fits only where an earlier one does is left out. The families
-/// by the keys of their left sides with 0 for each number of 8 bits.
+/// The entries of a table by the keys of their left sides, in order for each key. An entry that applies only where an earlier one does is left out. The
+/// families by the keys of their left sides with 0 in place of each 8-bit number.
 pub struct Rules {
     pub by_left: HashMap<u128, Vec<Rule>, BuildHasherDefault<Mixed>>,
     pub by_blinded: HashMap<u128, Vec<Family>, BuildHasherDefault<Mixed>>,
@@ -108,12 +108,12 @@ fn instrs_of(side: &[plain_tables::Instr]) -> Vec<(WindowInstr, u32, u32)> {
     side.iter().map(made).collect()
 }
 
-/// Items by other names, those of r0 to r3.
+/// Items with the registers in place of the names r0 to r3.
 pub fn under(order: &[u8; 8], items: u32) -> u32 {
     (0..4).filter(|name| items >> name & 1 == 1).fold(items & !0xf, |all, name| all | 1 << order[name])
 }
 
-/// An entry's rule, and its left side by its names.
+/// An entry's rule, and its left side with renamed registers.
 fn rule_of(entry: &Entry) -> (Rule, Vec<WindowInstr>) {
     let mut naming = Naming::new();
     let left: Vec<WindowInstr> = instrs_of(&entry.left).iter().map(|(instr, ..)| naming.named(instr)).collect();
@@ -153,13 +153,12 @@ impl Rules {
     }
 }
 
-/// The line of a text, which is one.
+/// The line of a text that is one line.
 fn line_of(text: &[u8]) -> Line {
     line(text).expect("a line")
 }
 
-/// The listing of the lines that are left of the given one, by the places that are kept, in order: the instruction that stands there, and the line of the
-/// window that it came of.
+/// The listing of the remaining lines of the given one, by the kept places, in order: the instruction at each, and the line of the window from which it comes.
 pub fn left_of(given: Listing, kept: impl Iterator<Item = (u32, Option<WindowInstr>)>, is_changed: &[bool]) -> Listing {
     let mut lines = Vec::with_capacity(given.lines.len());
     let mut kept = kept.peekable();
@@ -190,7 +189,7 @@ pub fn instruction_count(listing: &Listing) -> usize {
     listing.lines.iter().filter(|line| matches!(line.statement, Statement::Runs { .. })).count()
 }
 
-/// The text of the table, up to its last line, and what is behind it.
+/// The text of the table, up to its last line, and the rest.
 pub fn parted(text: &[u8]) -> (&[u8], &[u8]) {
     let last = b"\nend\n";
     let end = text.windows(last.len()).position(|bytes| bytes == last).map_or(text.len(), |at| at + last.len());

@@ -1,12 +1,12 @@
-//! The solver as plain Rust, which the plain programs of the measures share: it takes the same decisions, propagates in the same order and shortens what it
-//! learns alike, so that its log is the same.
-// not each program needs all of it
+//! The solver in plain Rust, shared by the plain programs of the measures: it makes the same decisions, propagates in the same order and shortens what it
+//! learns in the same way as the proved one, so that its log is equal.
+// not every program needs all of it
 #![allow(dead_code)]
 
 const NONE: u32 = u32::MAX;
 
-/// Clauses in one vector of words: the length, for either slot the watched literal and the link to the next watch, then the literals. A link is twice the
-/// clause's place plus the slot.
+/// Clauses in one vector of words: the length, for each of two slots the watched literal and the link to the next watch, then the literals. A link is twice the
+/// clause's index plus the slot.
 struct Arena {
     words: Vec<u32>,
     heads: Vec<u32>,
@@ -47,12 +47,12 @@ impl Arena {
     }
 }
 
-/// The true literals, each with the clause by which it became so.
+/// The true literals, each with the clause that implied it.
 struct Trail {
     marks: Vec<bool>,
     literals: Vec<u32>,
     reasons: Vec<u32>,
-    /// Where a variable's literal stands.
+    /// The index of each variable's literal.
     places: Vec<u32>,
 }
 
@@ -80,7 +80,7 @@ impl Trail {
     }
 }
 
-/// Literals that were seen, with their marks.
+/// Literals that were seen, with marks.
 struct Seen {
     marks: Vec<bool>,
     literals: Vec<u32>,
@@ -93,7 +93,7 @@ impl Seen {
         }
     }
 
-    /// Sees the true literals whose contraries the clause has.
+    /// Marks the true literals whose negations are in the clause.
     fn see(&mut self, clause: &[u32], trail: &Trail) {
         for literal in clause {
             let contrary = literal ^ 1;
@@ -160,10 +160,10 @@ pub struct Line {
 
 struct Solver {
     arena: Arena,
-    /// The clauses that the arena holds, with their numbers.
+    /// The clauses in the arena, with their numbers.
     refs: Vec<u32>,
     ids: Vec<u32>,
-    /// How many literals were true before any decision when clauses were dropped last.
+    /// How many literals were true before any decision when clauses were last dropped.
     swept: usize,
     trail: Trail,
     seen: Seen,
@@ -198,7 +198,7 @@ impl Solver {
         }
     }
 
-    /// Adds a clause; the answer is whether it is false.
+    /// Adds a clause; returns it if it is false.
     fn adopt(&mut self, literals: &[u32], id: u32) -> Option<u32> {
         let at = self.arena.push(literals);
         self.refs.push(at);
@@ -216,7 +216,7 @@ impl Solver {
         None
     }
 
-    /// Drops the clauses that are true before any decision and are no reasons, once they have more than half of the words of the proved solver's arena, in
+    /// Drops the clauses that are true before any decision and aren't reasons, once they have more than half of the words of the proved solver's arena, in
     /// which a clause has six besides its literals.
     fn drop_true(&mut self) {
         let Solver { arena, refs, ids, trail, swept, .. } = self;
@@ -269,7 +269,7 @@ impl Solver {
         conflict
     }
 
-    /// Goes along the watches of a literal that has become false.
+    /// Visits the watches of a literal that has become false.
     fn walk(&mut self, falsified: u32) -> Option<u32> {
         let Solver { arena, trail, .. } = self;
         let mut before = NONE;
@@ -296,13 +296,13 @@ impl Solver {
         None
     }
 
-    /// The literal of the first unique implication point, and the others.
+    /// The literal of the first unique implication point, and the other literals.
     fn analyse(&mut self, low: usize, start: usize, conflict: u32) -> (u32, Vec<u32>) {
         let Solver { arena, trail, seen, .. } = self;
         seen.clear();
         let (mut at, mut open, mut clause) = (trail.literals.len(), 0, conflict);
         loop {
-            // how many seen literals of this level wait
+            // how many seen literals of this level are pending
             let count = seen.literals.len();
             seen.see(arena.literals(clause), trail);
             open += seen.literals[count..].iter().filter(|l| trail.places[**l as usize / 2] as usize >= start).count();
@@ -319,7 +319,7 @@ impl Solver {
         }
     }
 
-    /// Makes literals false, up to one that is true; the answer is whether one is.
+    /// Makes literals false, up to one that is true; returns whether there is one.
     fn assume(&mut self, literals: &[u32]) -> bool {
         for literal in literals {
             if self.trail.is_true(*literal) {
@@ -332,7 +332,7 @@ impl Solver {
         false
     }
 
-    /// Those of the literals that are needed where `denied` are false as well.
+    /// Those of the literals that are needed when `denied` are false as well.
     fn needed(&mut self, denied: &[u32], literals: &[u32]) -> Vec<u32> {
         let mark = self.trail.literals.len();
         let mut part = Vec::new();
@@ -350,7 +350,7 @@ impl Solver {
         part
     }
 
-    /// The line that adds the contraries of the given literals, which leave a clause false.
+    /// The line that adds the negations of the given literals, which make a clause false.
     fn derive(&mut self, givens: std::ops::Range<usize>, conflict: u32) -> Line {
         let Solver { arena, trail, seen, refs, ids, .. } = self;
         let hint_of = |at: u32| ids[refs.binary_search(&at).unwrap()];
@@ -368,7 +368,7 @@ impl Solver {
         Line { literals, hints }
     }
 
-    /// The line of the clause that a conflict teaches.
+    /// The line of the clause learnt from a conflict.
     fn learn(&mut self, low: usize, start: usize, conflict: u32) -> Line {
         let (literal, others) = self.analyse(low, start, conflict);
         self.trail.back(low);
@@ -412,13 +412,13 @@ pub enum Verdict {
     Spent(Vec<Line>),
 }
 
-/// The number of a literal, as DIMACS has it.
+/// The number of a literal in DIMACS.
 pub fn number(literal: u32) -> i32 {
     let variable = (literal / 2) as i32 + 1;
     if literal % 2 == 0 { variable } else { -variable }
 }
 
-/// Whether clauses of literals, twice the variable and 1 more where negative, have a model, as far as `budget` learnt clauses tell.
+/// Whether clauses have a model, with at most `budget` learnt clauses. A literal is twice the variable, plus 1 if negative.
 pub fn solve(variables: usize, clauses: &[Vec<u32>], budget: usize) -> Verdict {
     if clauses.iter().any(Vec::is_empty) {
         return Verdict::Unsat(Vec::new());

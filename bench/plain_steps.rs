@@ -1,5 +1,5 @@
-//! The step of windows over r0 to r3 in plain Rust, which the plain programs of the measures share.
-// not each program needs all of it
+//! The step of windows over r0 to r3 in plain Rust, shared by the plain programs of the measures.
+// not every program needs all of it
 #![allow(dead_code)]
 
 #[derive(Clone, Copy)]

@@ -1,5 +1,5 @@
-//! Tables as plain Rust, which the plain programs of the measures share: their text is read and written.
-// not each program needs all of it
+//! Tables in plain Rust, shared by the plain programs of the measures: their text is read and written.
+// not every program needs all of it
 #![allow(dead_code)]
 
 use crate::plain_costs::{Costs, cost_of};
@@ -10,7 +10,7 @@ use std::io::Write;
 #[derive(Clone, Copy, PartialEq)]
 pub enum Operand { Register(u8), Number(u16) }
 
-/// An instruction of windows: its mnemonic's place in the list, and up to three operands.
+/// An instruction of windows: the index of its mnemonic, and up to three operands.
 #[derive(Clone, Copy, PartialEq)]
 pub struct Instr { pub mnemonic: u8, pub operands: [Operand; 3], pub count: u8 }
 
@@ -25,10 +25,10 @@ pub struct Entry { pub left: Vec<Instr>, pub right: Vec<Instr>, pub mask: u8, pu
 
 pub struct Family { pub entry: u32, pub number: u32, pub low: u32, pub high: u32, pub proof: Vec<Line> }
 
-/// Version 4 alone has costs.
+/// Only version 4 has costs.
 pub struct Table { pub version: u8, pub scratch: u8, pub costs: Option<Costs>, pub regs: u8, pub left: u8, pub seed: u32, pub budget: u32, pub pool: Vec<u8>, pub states: Vec<([u32; 4], u8)>, pub entries: Vec<Entry>, pub families: Vec<Family> }
 
-/// What follows a mnemonic: registers as `r`, the same register as the first as `=`, and numbers by their ranges.
+/// The operands of a mnemonic: registers as `r`, a repetition of the first register as `=`, and numbers by their ranges.
 enum Shape { Registers(usize), Product, Negation, RegistersAndNumber(usize, u16, u16) }
 
 use Shape::{Negation, Product, Registers, RegistersAndNumber};
@@ -256,7 +256,7 @@ fn entry_or_end(table: &mut Table, line: &str) -> Option<Place> {
 }
 
 impl Table {
-    /// How much a side weighs: what it costs, and without costs how long it is.
+    /// The weight of a side: its cost, or without costs its length.
     pub fn weight(&self, side: &[Instr]) -> u32 {
         side.iter().map(|instr| cost_of(self.costs.as_ref(), FORMS[instr.mnemonic as usize].0)).sum()
     }

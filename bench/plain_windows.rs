@@ -1,5 +1,5 @@
-//! The instructions of windows in plain Rust, their names by first appearance and their texts, which the plain programs of the measures share.
-// not each program needs all of it
+//! The instructions of windows in plain Rust, their names by first appearance and their texts, shared by the plain programs of the measures.
+// not every program needs all of it
 #![allow(dead_code)]
 
 use crate::instruction::{ByteOperation, Extension, Instr, Reversal, Right, Sum};
@@ -15,7 +15,7 @@ pub struct WindowInstr {
     pub number: u8,
 }
 
-/// The instruction as it stands in windows, where it may stand in one: one of both encodings of an effect.
+/// The instruction in its window form, if a window may contain it: one form for both encodings of an effect.
 pub fn window_instr(instr: &Instr) -> Option<WindowInstr> {
     let made = |form: u8, registers: &[u8], number: u8| {
         let mut all = [0; 3];
@@ -80,7 +80,7 @@ impl Naming {
         Naming { names: [u8::MAX; 8], order: [0; 8], count: 0 }
     }
 
-    /// The instruction with its registers' names.
+    /// The instruction with its registers' names in place of registers.
     #[inline]
     pub fn named(&mut self, instr: &WindowInstr) -> WindowInstr {
         instr.with(|register| {
@@ -106,7 +106,7 @@ impl WindowInstr {
         instr
     }
 
-    /// Puts its canonical text behind others.
+    /// Appends its canonical text.
     pub fn write(&self, text: &mut Vec<u8>) {
         let put = |text: &mut Vec<u8>, register: u8| text.extend_from_slice(&[b'r', b'0' + register]);
         text.extend_from_slice(NAMES[usize::from(self.form)].as_bytes());
@@ -126,7 +126,7 @@ impl WindowInstr {
     }
 }
 
-/// The places of a listing: the instruction that stands there, and whether it is behind the instruction before with nothing between that ends a window.
+/// The places of a listing: the instruction, and whether it follows the instruction before with nothing between that ends a window.
 pub fn rows(listing: &Listing) -> Vec<(Option<WindowInstr>, bool)> {
     let mut rows = Vec::with_capacity(listing.spots.len());
     let mut joined = false;
@@ -147,7 +147,7 @@ pub fn rows(listing: &Listing) -> Vec<(Option<WindowInstr>, bool)> {
     rows
 }
 
-/// The mnemonics of the forms, in their order.
+/// The mnemonics of the forms, in order.
 const NAMES: [&str; 37] = [
     "adds", "subs", "adds", "subs", "movs", "cmp", "adds", "subs", "lsls", "lsrs", "asrs", "ands", "eors", "lsls", "lsrs", "asrs", "adcs", "sbcs", "rors", "tst",
     "rsbs", "cmp", "cmn", "orrs", "muls", "bics", "mvns", "movs", "mov", "add", "sxth", "sxtb", "uxth", "uxtb", "rev", "rev16", "revsh",

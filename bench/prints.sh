@@ -1,6 +1,6 @@
 #!/usr/bin/env bash
 # Measures the proved index of the prints of all 401,323 sequences of at most two instructions over r0 to r2 and the default pool, eight states side by side,
-# beside the same in plain Rust, one state after the other. Use: bench/prints.sh [TURNS]
+# and the same in plain Rust. Use: bench/prints.sh [TURNS]
 . "$(dirname "$0")/common.sh"
 turns=${1:-5}
 take_crates fingerprints

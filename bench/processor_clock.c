@@ -1,4 +1,4 @@
-// Loaded before a program's own libraries: its clocks tell the time of the processor that it took itself, so that what else runs on the machine isn't measured.
+// Preloaded into a program: its clocks return the processor time that it used itself, so that other load on the machine isn't measured.
 #include <sys/syscall.h>
 #include <time.h>
 #include <unistd.h>

@@ -1,15 +1,15 @@
 #!/usr/bin/env python3
-"""Reads and audits the texts of tables, by a reading of its own of their format.
+"""Reads and audits tables, independently of the crates.
 
 Usage: python3 bench/read_tables.py TABLE ..
        python3 bench/read_tables.py --learn FOLDER OUT [OPTION ..]     for each listing of FOLDER, `peep learn` into the folder OUT, `peep audit`, and this
        python3 bench/read_tables.py --seeded SEED          the digest of the lines of a seed's 64 states
 
-PEEP names another program than the repository's. Of each table are tried: its lines; its first 64 states, by the published generator; the sides of each
-entry, which are run on the listed states and on others; its proof, checked by the checker of lrat_lines.py over the formula that formulas.py makes (and
-where CADICAL is set, that formula is refuted by that program too); each sequence below the right side, shorter or by costs cheaper, which a listed state tells or
-which is named open; each open number with its log; that no sequence before the right side was passed over; and that each state past the first 64 tells a sequence
-of some window that none before it tells. Families aren't read.
+PEEP names another program than the repository's. Tested are of each table: its lines; its first 64 states, against the published generator; the sides of each
+entry, which are run on the listed states and on others; its proof, checked by the checker of lrat_lines.py over the formula that formulas.py makes (if CADICAL
+is set, that program has to refute the formula too); that each sequence below the right side, shorter or with costs cheaper, is distinguished by a listed state
+or listed as open; each open number with its log; that no sequence before the right side was passed over; and that each state after the first 64 distinguishes a
+sequence from some window that no earlier state does. Families aren't read.
 """
 
 import functools
@@ -42,7 +42,7 @@ class Bad(Exception):
 
 
 def seeded(seed):
-    """64 states of the generator of 64 bits with 32 bits of output, at stream 54."""
+    """64 states of the generator PCG XSH RR 64/32, at stream 54."""
     increment = 54 << 1 | 1
     state = 0
 
@@ -92,7 +92,7 @@ def alphabet(k, pool):
 
 
 def operands(text):
-    """The mnemonic, the registers in order, and the number behind # if there is one."""
+    """The mnemonic, the registers in order, and the number after # if there is one."""
     name, rest = text.split(" ", 1)
     parts = rest.split(", ")
     return name, [int(part[1:]) for part in parts if part[0] == "r"], next((int(p[1:]) for p in parts if p[0] == "#"), None)
@@ -217,13 +217,13 @@ def run(texts, state):
 
 
 def packed(state):
-    """A state as one number: the registers of 32 bits each, and then the flags."""
+    """A state as one number: the registers of 32 bits each, then the flags."""
     registers, flags = state
     return sum(word << 32 * place for place, word in enumerate(registers)) | flags << 128
 
 
 def mask_bits(mask):
-    """The bits of a packed state that a mask has."""
+    """The bits of a packed state that belong to a mask."""
     return sum(WORD << 32 * place for place in range(4) if f"r{place}" in mask) | sum(1 << 131 - place for place in range(4) if "nzcv"[place] in mask)
 
 
@@ -231,7 +231,7 @@ def mask_bits(mask):
 
 
 class Lines:
-    """The lines of a text, with one that isn't read yet."""
+    """The lines of a text, with the next one to be read."""
 
     def __init__(self, text):
         if not text.endswith("\n"):
@@ -239,7 +239,7 @@ class Lines:
         self.lines, self.at = text[:-1].split("\n"), 0
 
     def match(self, pattern):
-        """The parts of the next line, where it is of a form."""
+        """The parts of the next line, if it has a given form."""
         found = self.at < len(self.lines) and re.fullmatch(pattern, self.lines[self.at])
         if found:
             self.at += 1
@@ -257,7 +257,7 @@ class Lines:
 
 
 def proof_line(text):
-    """A line as lrat_lines.py has it."""
+    """A proof line in the form of lrat_lines.py."""
     words = text.split(" ")
     if words[1] == "d":
         return int(words[0]), [int(word) for word in words[2:-1]]
@@ -318,8 +318,8 @@ def read(text):
 
 
 class Sequences:
-    """The sequences over an alphabet by number, what each leaves of the first state, and what each weighs: those of fewer instructions than `left`, or with costs of
-    at most so many."""
+    """The sequences over an alphabet by number, what each leaves of the first state, and its weight: those of fewer instructions than `left`, or with costs
+    of at most as many."""
 
     def __init__(self, k, pool, left, first, costs):
         self.alphabet = alphabet(k, pool)
@@ -328,11 +328,11 @@ class Sequences:
         self.left_by, self.weights = None, None
 
     def weight(self, texts):
-        """What a sequence costs, and without costs how long it is."""
+        """What a sequence costs, or without costs its length."""
         return sum(1 if self.costs is None else self.costs[MNEMONICS.index(text.split(" ")[0])] for text in texts)
 
     def count(self, length):
-        """How many have fewer instructions."""
+        """How many sequences have fewer instructions."""
         return sum(len(self.alphabet) ** n for n in range(length))
 
     def at(self, number):
@@ -370,7 +370,7 @@ class Sequences:
         return [number for number, weight in zip(range(self.count(len(left) + 1)), self.weights) if weight < most]
 
     def candidates(self, left, bits, below):
-        """Those that the first state doesn't tell, lightest first."""
+        """Those that the first state doesn't distinguish, lightest first."""
         want = packed(run(left, self.first))
         return sorted((number for number in below if not (self.left_by[number] ^ want) & bits), key=lambda number: (self.weights[number], number))
 
@@ -422,7 +422,7 @@ def is_proof(b, lines):
 
 
 def is_log(b, lines, budget):
-    """As many clauses as the budget, none empty, each accepted, and none that holds all literals of another."""
+    """Whether the log has as many clauses as the budget, none empty, each accepted, and none containing all literals of an earlier one."""
     checker, clauses, added = Checker(b.clauses), [set(clause) for clause in b.clauses], 0
     for line in lines:
         if checker.fault(line):
@@ -443,7 +443,7 @@ class Audit:
         self.counts = dict(told=0, candidates=0, proofs=0, lines=0, logs=0)
 
     def sides(self, entry):
-        """The alphabet of the left side's registers, where the sides are what they may be."""
+        """The alphabet of the left side's registers, if the sides are valid."""
         table, left, right = self.table, entry["left"], entry["right"]
         try:
             named = registers_of(left)
@@ -459,7 +459,7 @@ class Audit:
         return most, over
 
     def told_at(self, left, seq, bits, states):
-        """The first of the states that tells."""
+        """The index of the first state that distinguishes the two."""
         return next((place for place, state in enumerate(states) if (packed(run(left, state)) ^ packed(run(seq, state))) & bits), None)
 
     def entry(self, entry):
@@ -499,7 +499,7 @@ class Audit:
 
 
 def audit(text):
-    """The figures of a table that is accepted."""
+    """Audits a table; returns the figures of an accepted one."""
     table = read(text)
     if table["states"][:64] != seeded(table["seed"]):
         raise Bad("the states of the seed")
@@ -537,7 +537,7 @@ def timed(*words):
 
 
 def learnt(listing, folder, options):
-    """Learns from a listing and audits by the program, and says what each printed."""
+    """Learns from a listing and audits with the program; returns what each printed."""
     table = folder / (listing.stem + ".peep")
     said, learning = timed("learn", listing, table, *options)
     answer, auditing = timed("audit", table)

@@ -1,9 +1,9 @@
 #!/usr/bin/env python3
-"""Prints the files of definitions that the program's promise rests on, in the order in which a stranger reads them.
+"""Prints the files of definitions on which the program's promise depends, in an order for reading.
 
-The first is the flat headline; behind it come the files that it imports, in the order of its import lines, then those that these import, and so on, each
-file once, where it is first met. `--write` puts the list into docs/PROVED.md, between the two lines that mark it there; `--check` fails where that list is
-not the one of today.
+The first is the headline; then come the files that it imports, in the order of its import lines, then those that these import, and so on. Each file is listed
+once, where it is first met. `--write` puts the list into docs/PROVED.md, between the two lines that mark its place; `--check` fails if the list there is
+outdated.
 """
 import pathlib
 import re
@@ -23,7 +23,7 @@ def file_of(crate, module):
 
 
 def imports_of(text):
-    """The files of definitions that a file imports, in order; types that the code declares have none."""
+    """The files of definitions that a file imports, in order, without types that the code declares."""
     for crate, path in USE.findall(text):
         parts = path.strip(".").split(".")
         for count in range(len(parts), 0, -1):
@@ -34,7 +34,7 @@ def imports_of(text):
 
 
 def reading_order():
-    """Each file with its distance from the first, its text's lines and what its first line says of it."""
+    """Each file with its distance from the first, its number of lines and what its first line says of it."""
     order, seen, step = [], {FIRST}, [FIRST]
     distance = 0
     while step:

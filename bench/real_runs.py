@@ -1,11 +1,11 @@
 #!/usr/bin/env python3
-"""Takes each listing of a folder through `peep`: learns its table, audits it, rewrites the listing, rewrites what came of it, tidies both, has GNU as read all, and
+"""Runs `peep` on each listing of a folder: learns its table, audits it, rewrites the listing, rewrites the result again, tidies both, has GNU as read all, and
 traces them from each label.
 
 Usage: python3 bench/real_runs.py FOLDER [STEPS [OPTIONS of learn..]]
 
-A run of the rewritten or tidied listing has to tell the events of the given one. They may differ in words that are addresses of code, which lies elsewhere now, and in how
-far STEPS (10,000) steps go. Tells what was counted, and ends with status 1 where something else differs. PEEP names another program than ./peep.
+A run of the rewritten or tidied listing has to have the events of the given one. They may differ in words that are addresses of code, which has moved, and in
+how far STEPS (10,000) steps go. Prints what was counted, and ends with status 1 if anything else differs. PEEP names another program than ./peep.
 """
 
 import collections
@@ -40,12 +40,12 @@ def is_assembled(listing, work):
 
 
 def without_code(lines, end):
-    """Events without the words that may be addresses of code, which ends there."""
+    """Events without the words that may be addresses of code, which ends at `end`."""
     return [WORD.sub(lambda word: "code" if int(word[0], 16) <= end else word[0], line) for line in lines]
 
 
 def compare(old, new, end):
-    """How the events of two runs differ, the last line of each being how it ended."""
+    """How the events of two runs differ; the last line of each says how it ended."""
     if old == new:
         return "the same events"
     old, new = without_code(old, end), without_code(new, end)

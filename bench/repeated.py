@@ -1,7 +1,7 @@
 #!/usr/bin/env python3
 """Writes one listing by repeating the files of a folder, as many as LINES (65,000) lines can hold. Use: bench/repeated.py FOLDER [LINES] > listing.s
 
-Each name that a file defines, by a label or by `.set`, gets the copy's number behind it wherever the file's statements name it."""
+The copy's number is appended to each name that a file defines, by a label or by `.set`, wherever the file's statements mention it."""
 import re
 import sys
 from pathlib import Path
@@ -30,7 +30,7 @@ def defined(lines):
 
 
 def copied(lines, names, number):
-    """The lines with a number behind each of the names."""
+    """The lines with a number appended to each of the names."""
 
     def numbered(text):
         return re.sub(NAME, lambda m: f"{m.group()}_{number}" if m.group() in names else m.group(), text)

@@ -1,9 +1,9 @@
 #!/usr/bin/env bash
-# Measures rewriting listings with the proved crates beside a plain Rust program of the same rules, by a table of 500 entries that is learnt from the files of
-# a folder: one of about LINES (65,536) lines made by repeating the files, and as many of its lines as leave room for WINDOWS (20,000) windows that may be
-# replaced, with these. Both at half the size, too: where time is linear the factor is about 2. Then 50,000 of their lines that go straight on. Then the first two
-# with five lines before them, for which the layout has to be asked before each replacement. Then 131,000 windows and half of them that give way to as many
-# instructions by a table with costs, each with a label, which gets a line of its own. Both programs have to write the same listings.
+# Measures rewriting with the proved crates and with a plain Rust program by the same rules, by a table of 500 entries learnt from the files of a folder. The
+# listings, each also at half the size, where the factor is about 2 if time is linear: LINES (65,536) lines made by repeating the files, and fewer of them with
+# WINDOWS (20,000) windows that may be replaced. Then 50,000 straight lines. Then the first two with five lines in front, because of which the layout is asked
+# before each replacement. Then 131,000 and half as many windows whose replacements, by a table with costs, are as long; each has a label, which gets a line of
+# its own. Both programs have to write the same listings.
 # Use: bench/rewriting.sh FOLDER [LINES [WINDOWS [TURNS]]]
 . "$(dirname "$0")/common.sh"
 folder=${1:-} lines=${2:-65536} windows=${3:-20000} turns=${4:-3}
@@ -14,7 +14,7 @@ plain=$(build_plain "$top/bench/rewriting/plain.rs")
 take_crates window_rewrite
 proved=$(build_proved rewriting "$top/bench/rewriting/proved.rs" rule_table table_audit listing_parser window_rewrite step_ledger anyhow)
 
-# taught: the windows that are put in, each once, and each file of the folder once.
+# taught: the listing to learn from: the added windows, each once, and each file of the folder once.
 taught() {
     printf '\t%s\n' 'lsls r0, r0, #24' 'lsrs r0, r0, #24' nop 'mvns r0, r0' 'adds r0, #1' nop 'mov r0, r0' 'bx lr'
     python3 "$top/bench/repeated.py" "$folder" "$(cat "$folder"/* | wc -l)"
@@ -24,10 +24,10 @@ taught | "$work/harvest" windows 2> "$work/told" | "$work/learner" 2> "$work/tol
 # listing LINES WINDOWS: writes a listing. Two of three windows take two lines.
 listing() { python3 "$top/bench/repeated.py" "$folder" $(($1 - $2 * 5 / 3 - 1)) | python3 "$top/bench/rewriting/salted.py" "$2"; }
 
-# loose: puts before a listing a literal whose label nothing aligns, so that only the layout tells whether it stays in place.
+# loose: prepends a literal whose label isn't aligned, so that only the layout can tell whether it stays in place.
 loose() { printf 'loose:\n\tldr\tr0, .Lloose\n\tbx\tlr\n.Lloose:\n\t.word\t5\n'; cat; }
 
-# run_both: runs both programs in turn on the table and a listing, $work/listing.s. `$said` tells what it was.
+# run_both: runs both programs alternately on the table and $work/listing.s. `$said` describes the run.
 run_both() {
     local program replaced
     cat "$work/table" "$work/listing.s" > "$work/input"
@@ -44,13 +44,13 @@ run_both() {
     said="$(wc -l < "$work/listing.s") lines by $(grep -c '^entry' "$work/table") entries, $replaced windows replaced"
 }
 
-# tell: prints what both took.
+# tell: prints the times of both.
 tell() {
     print_times "rewriting $said" us "$(shortest proved 1)" "$(shortest plain 1)"
     print_times "reading, rewriting and printing $said" us "$(shortest proved 2)" "$(shortest plain 2)"
 }
 
-# grow: runs both programs on $work/half.s, then on $work/whole.s, and prints what that took and how much longer it took.
+# grow: runs both programs on $work/half.s, then on $work/whole.s, and prints the times and their growth.
 grow() {
     local half_proved half_plain
     cp "$work/half.s" "$work/listing.s"

@@ -1,7 +1,7 @@
 #!/usr/bin/env python3
-"""Writes windows that get shorter with a register to spare, as a table whose entries have no right sides: three shifts or extensions of one register that come to
-an `ands` with a number of the pool, each under masks with and without flags. Behind them stand the windows of the tables that are named, in their order, as far as
-they are over the pool. Use: scratch_rules.py WINDOWS [TABLE ..] > windows, for a learner with `scratch 1`"""
+"""Writes windows that get shorter with a scratch register, as a table whose entries have no right sides: three shifts or extensions of one register that equal
+an `ands` with a number of the pool, each under masks with and without flags. After them come the windows of the named tables, in order, if they are over the
+pool. Use: scratch_rules.py WINDOWS [TABLE ..] > windows, for a learner with `scratch 1`"""
 import itertools
 import random
 import re
@@ -13,7 +13,7 @@ EXTENSIONS = {"uxtb": lambda x: x & 0xFF, "uxth": lambda x: x & 0xFFFF, "sxtb": 
 
 
 def instrs():
-    """Each instruction's text, and what it makes of a word."""
+    """Each instruction's text, and its effect on a word."""
     for amount in (number for number in POOL if number < 32):
         yield f"lsls r0, r0, #{amount}", lambda x, n=amount: x << n & FULL
         yield f"lsrs r0, r0, #{amount}", lambda x, n=amount: x >> n
@@ -23,7 +23,7 @@ def instrs():
 
 
 def is_mask(effects, number, words):
-    """Whether the three come to an `ands` with the number."""
+    """Whether the three equal an `ands` with the number."""
     first, second, third = effects
     return all(third(second(first(word))) == word & number for word in words)
 

@@ -1,6 +1,6 @@
 #!/usr/bin/env bash
-# Builds mbedtls' algorithms with their self tests by gcc and by the driver, links them with newlib, runs both in an emulator, and compares what they print. The
-# settings of the driver hold. Use: bench/self_tests.sh SOURCES, the folder where the packages of tables/packages.txt lie unpacked.
+# Builds mbedtls' algorithms with their self tests, once with gcc and once with the driver, links them with newlib, runs both in an emulator, and compares
+# what they print. The driver's settings apply. Use: bench/self_tests.sh SOURCES, the folder with the unpacked packages of tables/packages.txt.
 set -eu
 top=$(cd "$(dirname "$0")/.." && pwd)
 sources=${1:-}
@@ -12,7 +12,7 @@ work=$(mktemp -d)
 trap 'rm -rf "$work"' EXIT
 export PEEP_LOG=$work/log
 
-# built COMPILER FLAG..: links the program, and prints how many bytes of code and constants it has; it is $work/program.
+# built COMPILER FLAG..: builds $work/program, and prints how many bytes of code and constants it has.
 built() {
     local unit objects=()
     for unit in "${units[@]}"; do
@@ -24,7 +24,7 @@ built() {
     arm-none-eabi-size "$work/program" | awk 'NR == 2 { print $1 }'
 }
 
-# printed: what the program prints.
+# printed: runs the program, which prints its results.
 printed() { qemu-system-arm -M mps2-an385 -nographic -semihosting -kernel "$work/program"; }
 
 for flags in "-Os" "-Os -g" "-O2"; do

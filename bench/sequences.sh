@@ -1,5 +1,5 @@
 #!/usr/bin/env bash
-# Measures the proved walk through the first 5,000,000 sequences of three registers and the default pool beside the same in plain Rust. Use: bench/sequences.sh [TURNS]
+# Measures walking through the first 5,000,000 sequences of three registers and the default pool, proved and in plain Rust. Use: bench/sequences.sh [TURNS]
 . "$(dirname "$0")/common.sh"
 turns=${1:-5}
 take_crates seq_enum thumb_table

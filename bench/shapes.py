@@ -1,12 +1,12 @@
 #!/usr/bin/env python3
-"""Writes a listing of some shape whose reading has to take time linear in N. Use: bench/shapes.py SHAPE N > listing.s
+"""Writes a listing of a shape for which the time of reading must be linear in N. Use: bench/shapes.py SHAPE N > listing.s
 
-Without arguments: the shapes, each with a number that may also be doubled, within the limits of 65,536 lines and 1,024 bytes a line."""
+Without arguments: the shapes, each with an N that may be doubled within 65,536 lines of at most 1,024 bytes."""
 import sys
 
 
 def literals(n):
-    """N loads of one run of N words."""
+    """N loads from one run of N words."""
     return ["ldr r0, run+1020"] * n + ["run:"] + [f".word {i}" for i in range(n)]
 
 
@@ -27,22 +27,22 @@ def names(n):
 
 
 def functions(n):
-    """N names that are marked as functions, and a word of each."""
+    """N names that are marked as functions, and a word for each."""
     return [line for i in range(n) for line in (f".type f{i}, %function", f"f{i}: nop", f".word f{n - 1 - i}")]
 
 
 def empty(n):
-    """N lines that are empty or have a comment alone."""
+    """N lines that are empty or have only a comment."""
     return ["", "@ nothing"] * (n // 2)
 
 
 def behind(n):
-    """A load whose word stands behind N such lines."""
+    """A load whose word comes after N such lines."""
     return ["ldr r0, word", ".align 2", "word:"] + empty(n) + [".word 1"]
 
 
 def many_behind(n):
-    """N loads of one word, which stands behind N such lines."""
+    """N loads of one word, which comes after N such lines."""
     return ["ldr r0, word"] * n + [".align 2", "word:"] + empty(n) + [".word 1"]
 
 

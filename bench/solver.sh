@@ -1,8 +1,8 @@
 #!/usr/bin/env bash
-# Measures the proved solver beside one in plain Rust that follows the same rules, and beside CaDiCaL, on pigeons and on pairs of sequences of
-# instructions, and on the formulas of the 100 windows of listings that take the most conflicts. Both logs have to be the same, each verdict CaDiCaL's, and each
-# log is checked by `lrat_check` and by a second checker. Times are the processor's, the least of the turns. Where `perf` is there, the share of propagation
-# is told. Use: bench/solver.sh [TURNS [FOLDER]], a folder of listings
+# Measures the proved solver, one in plain Rust by the same rules, and CaDiCaL, on pigeonhole formulas, on pairs of sequences of instructions, and on the
+# formulas of the 100 windows of listings that take the most conflicts. Both logs have to be equal, each verdict has to be CaDiCaL's, and each log is checked by
+# `lrat_check` and by a second checker. Times are processor times, the least of the turns. If `perf` is there, the share of propagation is printed.
+# Use: bench/solver.sh [TURNS [FOLDER]], a folder of listings
 . "$(dirname "$0")/common.sh"
 turns=${1:-5} folder=${2:-}
 take_crates cdcl_core
@@ -12,7 +12,7 @@ proved=$(build_proved solver_times "$top/bench/solver/proved.rs" cdcl_core cnf_g
 plain=$(build_plain "$top/bench/solver/plain.rs")
 python3 "$top/bench/solver/formulas.py" "$work/formulas"
 
-# solving PROGRAM, on the formula that is set.
+# solving PROGRAM: runs it on $formula.
 solving() { "$1" < "$formula"; }
 
 cadical_in() { cadical -q -n "$formula" > "$work/other.txt" || true; }
@@ -30,7 +30,7 @@ try_formula() {
     python3 "$top/bench/solver/checked.py" "$work" "$formula" "$work/proved.printed" > "$work/build.log" 2>&1 || { tail -n 20 "$work/build.log" >&2; exit 1; }
 }
 
-# share FORMULA..: which part of the proved solver's time on formulas is spent in propagation.
+# share FORMULA..: the share of the proved solver's time on formulas that is spent in propagation.
 share() {
     command -v perf > /dev/null || return 0
     perf record -q -e cpu-clock -o "$work/perf" bash -c 'for formula in "${@:2}"; do "$1" < "$formula" > /dev/null; done' solve "$proved" "$@" 2> "$work/told" || return 0
@@ -51,7 +51,7 @@ for formula in "$work"/formulas/*.cnf; do
 done
 [ -d "$folder" ] || exit 0
 
-# the formulas that a learner asks a solver for the listings' windows
+# the formulas that a learner gives the solver for the listings' windows
 harvest=$(build_plain "$top/bench/live_items/plain.rs") && mv "$harvest" "$work/harvest"
 learner=$(build_plain "$top/bench/learner/plain.rs") && mv "$learner" "$work/learner"
 plain=$(build_plain "$top/bench/solver/plain.rs")

@@ -1,5 +1,5 @@
 #!/usr/bin/env python3
-"""Writes the sources of some crates as one plain Rust file: the same code with its contracts, ghost text and tests taken out.
+"""Writes the sources of some crates as one plain Rust file: the same code without contracts, ghost code and tests.
 Use: stripped.py OUT.rs CRATE.. [-- LEFT_OUT_MODULE..]"""
 import re
 import sys

@@ -1,4 +1,4 @@
-"""Writes a table's text of about so many bytes to standard output: the same for the same number. Use: tables.py BYTES"""
+"""Writes a table of about BYTES bytes to standard output: always the same for the same number. Use: tables.py BYTES"""
 import random
 import sys
 

@@ -1,10 +1,10 @@
 #!/usr/bin/env bash
-# Measures how tidying grows with the proved crates, beside a plain Rust program of the best algorithms known: over N lines made by repeating the files of a
-# folder, and over listings of shapes that tidying/shapes.py says, each at N and 2 N. Prints a row for each: the processor's seconds of reading, tidying and
-# printing in both programs, those of tidying alone, and by which factor each takes longer at 2 N. What takes more than LIMIT (20) seconds is told as such, and
-# not tried at more. First both tidy 200 random listings, and so does a program that goes by the definition, unless shapes are named. They have to write the
-# same, for each shape too. PROGRAM is a build of tidying/proved.rs; without one, or with -, it is proved and built, and with none the plain program is measured
-# alone.
+# Measures how the time of tidying grows with the proved crates and with a plain Rust program of the best known algorithms: for N lines made by repeating the
+# files of a folder, and for listings of the shapes of tidying/shapes.py, each at N and 2 N. Prints a row for each: processor seconds of reading, tidying and
+# printing in both programs, those of tidying alone, and the factor of each at 2 N. A run of more than LIMIT (20) seconds is reported, and larger ones are
+# skipped. Unless shapes are named, first both tidy 200 random listings, and so does a program that follows the definition. The outputs must be equal, for each
+# shape too. PROGRAM is a build of tidying/proved.rs; without one, or with -, it is proved and built; with none, only the plain program is
+# measured.
 # Use: bench/tidying.sh FOLDER [LIMIT [PROGRAM [SHAPE ..]]]
 . "$(dirname "$0")/common.sh"
 folder=${1:-} limit=${2:-20} proved=${3:--}
@@ -21,17 +21,17 @@ if [ "$proved" = - ]; then
     proved=$(build_proved tidying "$top/bench/tidying/proved.rs" listing_parser flow_tidy step_ledger anyhow)
 fi
 
-# run PROGRAM [BASE LINES BYTES]: tidies $work/listing.s to $work/PROGRAM.s by a program, `plain`, `slow` or `proved`. `$tidying` and `$whole` are the microseconds
-# that it tells, and `$said` the rest; nothing where it takes more than the limit.
+# run PROGRAM [BASE LINES BYTES]: tidies $work/listing.s to $work/PROGRAM.s with a program, `plain`, `slow` or `proved`. `$tidying` and `$whole` are the
+# microseconds that it reports, and `$said` the rest; empty if it takes more than the limit.
 run() {
     tidying="" whole="" said=""
     (ulimit -t "$limit" && on_processor "${!1}" "${@:2}" < "$work/listing.s" 2> "$work/$1.told" > "$work/$1.s") 2> "$work/stopped" || return 0
     read -r tidying whole said < "$work/$1.told"
-    # what is refused has no times
+    # a refusal has no times
     [ "$tidying" != refused ] || { said="refused $whole $said" tidying="" whole=""; }
 }
 
-# agree WHAT PROGRAM: it has to have written what the plain program wrote.
+# agree WHAT PROGRAM: fails unless the program wrote what the plain program wrote.
 agree() {
     cmp -s "$work/$2.s" "$work/plain.s" || { echo "$1 differs" && exit 1; }
 }
@@ -39,7 +39,7 @@ agree() {
 # seconds MICROSECONDS: as seconds, or that it took more than the limit.
 seconds() { if [ -n "$1" ]; then awk "BEGIN { printf \"%.3f\", $1 / 1000000 }"; else echo "> $limit"; fi; }
 
-# quotient A B: A through B, where both are known.
+# quotient A B: A divided by B, if both are known.
 quotient() { if [ -n "$1" ] && [ -n "$2" ] && [ "$2" -gt 0 ]; then awk "BEGIN { printf \"%.2f\", $1 / $2 }"; else echo -; fi; }
 
 # compare_plain WHAT [BASE LINES BYTES]: both plain programs tidy $work/listing.s.
@@ -52,7 +52,7 @@ compare_plain() {
     [ "$said" = "$by_definition" ] || { echo "$1: $said for $by_definition" && exit 1; }
 }
 
-# compare COUNT: all tidy so many random listings of each of two kinds, and the plain programs also with limits that these just meet.
+# compare COUNT: all programs tidy COUNT random listings of each of two kinds, and the plain programs also with limits that these just meet.
 compare() {
     local listing
     mkdir -p "$work/rewritten" "$work/chained"
@@ -78,7 +78,7 @@ listing() {
     esac
 }
 
-# least PROGRAM: runs a program twice. `$tidying` and `$whole` are the lesser ones.
+# least PROGRAM: runs a program twice. `$tidying` and `$whole` are the lesser times.
 least() {
     local first=() changes
     run "$1"

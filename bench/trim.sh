@@ -1,6 +1,6 @@
 #!/usr/bin/env bash
-# Measures `peep trim` on tables with proofs of half of MEGABYTES and of MEGABYTES, reading, auditing and writing with it, beside a plain Rust program that checks
-# each proof once and trims by the hints that it saw used, and `peep audit` of the same tables. Both have to write the same.
+# Measures `peep trim` (reading, auditing and writing) on tables with MEGABYTES and half of MEGABYTES of proofs, and a plain Rust program that checks each proof
+# once and trims by the hints that it saw used, and also `peep audit` of the same tables. Both have to write the same.
 # Use: bench/trim.sh [MEGABYTES [TURNS]]
 . "$(dirname "$0")/common.sh"
 megabytes=${1:-50} turns=${2:-3}
@@ -10,7 +10,7 @@ plain=$(build_plain "$top/bench/audit/plain.rs")
 "$top/peep" > "$work/built" 2>&1 || true
 peep=$top/crates/peep/out/peep
 
-# by_plain: trims the table by the plain program.
+# by_plain: trims the table with the plain program.
 by_plain() { "$plain" trim < "$work/table" > "$work/plain.table" 2> "$work/told"; }
 
 for bytes in $((megabytes * 500000)) $((megabytes * 1000000)); do

@@ -1,10 +1,10 @@
 #!/usr/bin/env python3
-"""Trims the proofs of tables by `peep trim`, and judges what comes.
+"""Trims the proofs of tables with `peep trim`, and checks the result.
 
 Usage: python3 bench/trimmed.py TABLE ..
 
-For each entry whose proof has lines, the formula that `peep export` writes is refuted by the trimmed lines by a checker written again in Python, the lines are
-those of a trimming written again from its description, and trimming again changes nothing; all else of the text is as it was. PEEP names another program than
+For each entry whose proof has lines, the trimmed lines have to refute the formula that `peep export` writes, by a second checker in Python, and to be those
+of a second trimming, written from its description. Trimming again has to change nothing, and the rest of the text has to stay. PEEP names another program than
 ./peep.
 """
 
@@ -25,7 +25,7 @@ def peep(*words):
 
 
 def parted(text):
-    """The lines of a table, and those of each entry's proof, with where they stand."""
+    """The lines of a table, and those of each entry's proof with their line numbers."""
     lines, proofs, at = text.split("\n"), [], 0
     while at < len(lines):
         if lines[at] == "proof":
@@ -61,7 +61,7 @@ def used_hints(checker, line):
 
 
 def trimmed(clauses, lines):
-    """What is left of a proof, by the description."""
+    """A proof after trimming, by the description."""
     checker, kept = Checker(clauses), []
     for line in lines:
         if len(line) == 3:
@@ -88,7 +88,7 @@ def is_refuted(clauses, lines):
 
 
 def judge(table, work):
-    """Judges a table; answers how many proofs have lines, and how many lines they have before and after."""
+    """Checks a table; returns how many proofs have lines, and how many lines they have before and after."""
     peep("trim", table, work / "trimmed")
     old, old_proofs = parted(table.read_text())
     new, new_proofs = parted((work / "trimmed").read_text())

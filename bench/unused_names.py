@@ -1,10 +1,10 @@
 #!/usr/bin/env python3
-"""Lists names that a file of a crate's sources, definitions or proofs brings by a `use` line and doesn't say, which `rt tidy` doesn't all see.
+"""Lists names that a file of a crate's sources, definitions or proofs imports by a `use` line and doesn't mention, not all of which `rt tidy` sees.
 
-    bench/unused_names.py [--take-out] [CRATE..]      --take-out: takes them out; CRATE..: of these crates alone
+    bench/unused_names.py [--take-out] [CRATE..]      --take-out: removes them; CRATE..: only in these crates
 
-A name is looked for as a word in the file's other lines, comments among them, and an operator by its signs. Whether the crate is still proved without what was
-taken out, only a check tells. What `pub use` hands on stays, and so do files that do nothing else.
+A name is searched as a word in the file's other lines, including comments, and an operator by its symbols. Only a check tells whether the crate is still proved
+after the removal. Names of `pub use` stay, and so do files that do nothing else.
 """
 import glob
 import os
@@ -17,7 +17,7 @@ USE = re.compile(r"\s*(?:pub )?(?:ghost )?use ")
 
 
 def is_said(name, body):
-    """Whether a name, or what it is called here, stands in a file's other lines."""
+    """Whether a name, or its local name, occurs in a file's other lines."""
     called = name.split(" as ")[-1].strip()
     if "◌" in called:
         return all(sign in body for sign in called.split("◌") if sign)
@@ -25,7 +25,7 @@ def is_said(name, body):
 
 
 def looked_over(text):
-    """Returns the text without the names that it doesn't say, and these names."""
+    """Returns the text without the names that it doesn't mention, and these names."""
     lines, kept, unused = text.split("\n"), [], []
     body = "\n".join(line for line in lines if not USE.match(line))
     if all(line.startswith("--") or not line or USE.match(line) for line in lines):

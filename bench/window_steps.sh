@@ -1,5 +1,5 @@
 #!/usr/bin/env bash
-# Measures the proved `step` of windows beside the same in plain Rust, on random instructions over r0 to r3. Use: bench/window_steps.sh [TURNS]
+# Measures `step` of windows, proved and in plain Rust, on random instructions over r0 to r3. Use: bench/window_steps.sh [TURNS]
 . "$(dirname "$0")/common.sh"
 turns=${1:-5}
 take_crates window_exec

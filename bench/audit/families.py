@@ -1,5 +1,5 @@
 #!/usr/bin/env python3
-"""Writes the text of a table that the audit accepts: one entry, and so many families of it, of ranges about its number. Use: families.py FAMILIES > TABLE"""
+"""Writes a table that the audit accepts: one entry, and FAMILIES families of it, with ranges around its number. Use: families.py FAMILIES > TABLE"""
 import sys
 
 from table import state, words

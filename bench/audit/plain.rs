@@ -1,8 +1,8 @@
-//! Audits the table whose text stands on standard input in plain Rust, and prints how many entries it has, or in the command's words why it is refused. Its states
-//! are compared with the seed's. Each entry's proof is checked over the formula of its sides; the sequences below its right side that the first state doesn't tell
-//! are looked up, lightest first, and run on the other states until one tells them; then the logs of those named open are checked. Then each family's proof is
-//! checked over its formula. Tells on standard error the microseconds of the audit and those of reading. With the word `trim` it writes the table with trimmed
-//! proofs, and tells the microseconds of trimming and writing too.
+//! Audits the table on standard input in plain Rust, and prints how many entries it has, or why it is refused, in the command's words. Its states are compared
+//! with the seed's. Each entry's proof is checked over the formula of its sides. The sequences below its right side that the first state doesn't distinguish
+//! are looked up, lightest first, and run on the other states until one distinguishes them; then the logs of its open numbers are checked. Then each family's
+//! proof is checked over its formula. Prints on standard error the microseconds of auditing and those of reading. With the word `trim` it writes the table with
+//! trimmed proofs, and also prints the microseconds of trimming and writing.
 
 #[path = "../plain_checker.rs"]
 mod plain_checker;
@@ -32,7 +32,7 @@ use std::collections::HashMap;
 use std::io::{self, Read, Write};
 use std::time::Instant;
 
-/// A checker that accepted all lines, and how many hints each needed, those of deletions being 0; or the first line that it doesn't accept, from 1.
+/// A checker that accepted all lines, and how many hints each needed, 0 for deletions; or the number of the first refused line, from 1.
 fn checked(formula: Builder, lines: &[Line]) -> Result<(Checker, Vec<usize>), usize> {
     let mut checker = Checker::new(formula.clauses);
     let mut used = Vec::with_capacity(lines.len());
@@ -52,7 +52,7 @@ fn codes(literals: &[i32]) -> Vec<u32> {
     literals.iter().map(|literal| code(i64::from(*literal))).collect()
 }
 
-/// How many hints each line needs, where the proof refutes the formula; or why it doesn't. A proof without lines needs no checker.
+/// How many hints each line needs, if the proof refutes the formula; or why it doesn't. A proof without lines needs no checker.
 fn refutation(formula: Builder, proof: &[Line]) -> Result<Vec<usize>, String> {
     if proof.is_empty() {
         return if formula.clauses.iter().any(Vec::is_empty) { Ok(Vec::new()) } else { Err(String::from("3")) };
@@ -61,7 +61,7 @@ fn refutation(formula: Builder, proof: &[Line]) -> Result<Vec<usize>, String> {
     if checker.refuted { Ok(used) } else { Err(String::from("3")) }
 }
 
-/// The lines that the first empty clause stands on, each with the hints that it needs.
+/// The lines on which the first empty clause depends, each with the hints that it needs.
 fn trimmed(proof: &[Line], used: &[usize]) -> Vec<Line> {
     let is_empty = |line: &Line| matches!(line, Line::Addition { literals, .. } if literals.is_empty());
     let Some(end) = proof.iter().position(is_empty) else {
@@ -88,7 +88,7 @@ fn mask_of(bits: u8) -> Mask {
     Mask { registers: std::array::from_fn(|register| bits >> register & 1 == 1), nzcv: flags }
 }
 
-/// How many registers a side names, where these are r0, r1 and so on by first appearance.
+/// How many registers a side names, if these are r0, r1 and so on by first appearance.
 fn named_count(side: &[plain_tables::Instr]) -> Option<u8> {
     side.iter().flat_map(|instr| &instr.operands[..usize::from(instr.count)]).try_fold(0, |count, operand| match operand {
         Operand::Register(register) if *register > count => None,
@@ -97,7 +97,7 @@ fn named_count(side: &[plain_tables::Instr]) -> Option<u8> {
     })
 }
 
-/// An entry's sides where they are of the table's form, how many registers its sequences have, and how much its right side weighs.
+/// An entry's valid sides, how many registers its sequences have, and how much its right side weighs.
 struct Sides {
     left: Vec<Instr>,
     right: Vec<Instr>,
@@ -115,7 +115,7 @@ struct Auditor<'a> {
     /// The instructions over r0 to r3 and the pool, by their texts.
     instrs: HashMap<String, Instr>,
     states: Vec<WState>,
-    /// By the count of registers.
+    /// One for each count of registers.
     outcomes: Vec<Outcomes>,
 }
 
@@ -129,26 +129,26 @@ impl<'a> Auditor<'a> {
         Auditor { table, pool, instrs, states, outcomes }
     }
 
-    /// So many registers and, where the table allows one and r0 to r3 have one left, a scratch register.
+    /// A count of registers, with a scratch register if the table allows one and r0 to r3 have one left.
     fn with_scratch(&self, registers: u8) -> u8 {
         (registers + self.table.scratch).min(4)
     }
 
-    /// Whether each of the seed's states is the table's at its place.
+    /// Whether the table lists each of the seed's states at its place.
     fn judge_states(&self) -> Result<(), String> {
         let is_at = |place: usize, state: WState| self.states.get(place).is_some_and(|held| held.r == state.r && held.nzcv == state.nzcv);
         let bad = seeded(u64::from(self.table.seed)).into_iter().enumerate().position(|(place, state)| !is_at(place, state));
         bad.map_or(Ok(()), |place| Err(format!("states {}", place + 1)))
     }
 
-    /// Whether an entry may have to be told from few enough sequences.
+    /// Whether the number of sequences that an entry may need is within the limit.
     fn judge_width(&self) -> Result<(), String> {
         let size = alphabet(u32::from(self.with_scratch(self.table.regs)), &self.pool).len();
         let width = width(size, usize::from(self.table.left), self.table.costs.as_ref());
         if width > WIDEST { Err(format!("wide {width}")) } else { Ok(()) }
     }
 
-    /// A side's instructions, where they are of the alphabet of so many registers.
+    /// A side's instructions, if they are in the alphabet of the given registers.
     fn side(&self, side: &[plain_tables::Instr], registers: u8) -> Option<Vec<Instr>> {
         let mut text = Vec::new();
         side.iter().for_each(|instr| write_instr(&mut text, "", instr));
@@ -158,7 +158,7 @@ impl<'a> Auditor<'a> {
         String::from_utf8(text).ok()?.lines().map(instr).collect()
     }
 
-    /// The sides of an entry and its mask, where they are of the table's form.
+    /// The sides of an entry and its mask, if they are valid.
     fn sides(&self, entry: &Entry) -> Option<Sides> {
         let Table { regs, left: longest, .. } = self.table;
         let count = named_count(&entry.left).filter(|count| count <= regs)?;
@@ -172,7 +172,7 @@ impl<'a> Auditor<'a> {
         has_form.then(|| Sides { left, right, mask: mask_of(entry.mask), k: usize::from(k), weight })
     }
 
-    /// The first sequence below an entry's right side, by weight and then by number, that isn't named open and that no state tells.
+    /// The first sequence below an entry's right side, by weight and then by number, that isn't listed as open and that no state distinguishes.
     fn untold(&mut self, sides: &Sides, opens: &[Open], trials: &Trials) -> Option<u64> {
         let outcomes = &mut self.outcomes[sides.k];
         let numbers = outcomes.below(sides.left.len(), sides.weight, &trials[0].1, sides.mask);
@@ -184,7 +184,7 @@ impl<'a> Auditor<'a> {
         numbers.into_iter().find(|number| !is_named(*number) && !is_told(*number)).map(u64::from)
     }
 
-    /// Whether a number is that of a sequence below an entry's right side that no state tells, and its log adds as many new clauses as the budget, none of them empty.
+    /// Whether a number is that of a sequence below the right side that no state distinguishes, and its log adds as many new non-empty clauses as the budget.
     fn is_rightly_open(&self, sides: &Sides, open: &Open, trials: &Trials) -> bool {
         let outcomes = &self.outcomes[sides.k];
         if open.number >= outcomes.count_below(sides.left.len() + 1) as u64 {
@@ -205,7 +205,7 @@ impl<'a> Auditor<'a> {
     /// How many hints each line of an accepted entry's proof needs; or why the entry is refused.
     fn judge_entry(&mut self, entry: &Entry) -> Result<Vec<usize>, String> {
         let sides = self.sides(entry).ok_or("1")?;
-        // the formula of a side against itself ends in the empty clause
+        // the formula of a side against itself contains the empty clause
         let is_unshortened = entry.proof.is_empty() && entry.left == entry.right;
         let used = if is_unshortened { Vec::new() } else { refutation(formula(&sides.left, &sides.right, sides.mask, sides.k), &entry.proof)? };
         let trials: Trials = self.states.iter().map(|state| (*state, run(&sides.left, *state))).collect();
@@ -218,7 +218,7 @@ impl<'a> Auditor<'a> {
         }
     }
 
-    /// The same of a family.
+    /// The same for a family.
     fn judge_family(&self, family: &Family) -> Result<Vec<usize>, String> {
         let Family { entry, number, low, high, .. } = *family;
         let entry = (entry as usize).checked_sub(1).and_then(|place| self.table.entries.get(place)).ok_or("1")?;
@@ -230,7 +230,7 @@ impl<'a> Auditor<'a> {
         refutation(family_formula(&left, &right, number, low, high, mask, k), &family.proof)
     }
 
-    /// How many hints each line of each proof needs, of entries and of families; or why the table is refused.
+    /// How many hints each line of each proof needs, for entries and families; or why the table is refused.
     fn judge(&mut self) -> Result<[Vec<Vec<usize>>; 2], String> {
         self.judge_states()?;
         self.judge_width()?;

@@ -1,4 +1,4 @@
-//! Writes the text of a table whose proofs have at least so many bytes, the first word: the sum of three numbers in another order, again and again.
+//! Writes a table whose proofs have at least as many bytes as the argument says: the sum of three numbers in another order, repeated.
 
 #[path = "../plain_formulas.rs"]
 mod plain_formulas;

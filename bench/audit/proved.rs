@@ -1,4 +1,4 @@
-//! Audits the table whose text stands on standard input, and tells the microseconds of the audit and those of reading. In Rattle; audit.sh builds it.
+//! Audits the table on standard input, and prints on standard error the microseconds of auditing and those of reading. In Rattle; audit.sh builds it.
 #![tactic(auto)]
 
 use rule_table::read_table;

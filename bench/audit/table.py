@@ -1,6 +1,6 @@
 #!/usr/bin/env python3
-"""Writes the text of a table that the audit accepts: entries of three instructions, each writing another of three registers and kept as it is,
-so that all 401,323 sequences of at most two instructions have to be told from it. Use: table.py ENTRIES > TABLE"""
+"""Writes a table that the audit accepts: each entry has three instructions, each of which writes another of three registers, and equal sides,
+so that the audit has to distinguish it from all 401,323 sequences of at most two instructions. Use: table.py ENTRIES > TABLE"""
 import random
 import sys
 
@@ -27,7 +27,7 @@ def state(generator):
 
 
 def changed(target, others):
-    """An instruction that gives a register something new."""
+    """An instruction that gives a register a new value."""
     kind = random.randrange(3)
     if kind == 0:
         return f"adds r{target}, r{random.choice(others)}, r{random.choice(others)}"

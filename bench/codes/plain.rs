@@ -1,4 +1,4 @@
-// The same in plain Rust, behind the crates' code with its contracts taken out. codes.sh puts sum.rs behind it.
+// The same in plain Rust, appended to the crates' code without contracts. codes.sh appends sum.rs.
 use thumb_table::{Code, decode, encode};
 
 fn main() {

@@ -1,4 +1,4 @@
-//! Decodes all first halfwords and encodes them back with the proved crates. In Rattle; codes.sh puts sum.rs behind it and builds it.
+//! Decodes all first halfwords and encodes them again with the proved crates. In Rattle; codes.sh appends sum.rs and builds it.
 #![tactic(auto)]
 
 use std::io;

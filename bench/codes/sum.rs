@@ -1,7 +1,7 @@
 
 const TURNS: u32 = 1000;
 
-/// The sum of the codes of all first halfwords, each decoded and encoded back, so many times.
+/// The sum of the codes of all first halfwords, each decoded and encoded again, TURNS times.
 fn sum_of_codes() -> u64 {
     let mut sum = 0u64;
     for _ in 0..TURNS {

@@ -1,6 +1,6 @@
 """Runs every command with faults, and checks how each run ends, what it prints and what it leaves.
 
-Use: faults.py PROGRAM LIBRARY RUNS, LIBRARY being built of refuse.c and RUNS of runs/proved.rs. Tells how many faults of each kind were met.
+Use: faults.py PROGRAM LIBRARY RUNS, where LIBRARY is built from refuse.c and RUNS from runs/proved.rs. Prints how many faults of each kind occurred.
 """
 
 import os
@@ -12,13 +12,13 @@ from concurrent.futures import ThreadPoolExecutor
 PROGRAM, LIBRARY, RUNS = map(os.path.abspath, sys.argv[1:4])
 TOP = os.path.join(os.path.dirname(os.path.abspath(__file__)), "..", "..")
 WORDS = {3: b"store\n", 4: b"sink\n", 5: b"memory\n", 6: b"big\n", 7: b"missing\n"}
-# no run takes longer
+# limit for each run
 SECONDS = 60
 with open(os.path.join(TOP, "examples", "moves.peep"), "rb") as moves:
     TABLE = moves.read()
 SUM = b"f:\n\tmov r3, r3\n\tadds r0, r0, r1\n\tmov r0, r0\n\tbx lr\n"
 STATES = b"".join(line + b"\n" for line in TABLE.split(b"\n") if line.startswith(b"state "))
-# a table of version 3, whose family a rewriting goes by; one of version 4; a proof that can be trimmed; and a text of costs
+# a table of version 3 with a family that `rewrite` applies; one of version 4; a proof that can be trimmed; and a cost file
 ZEROS = (
     b"regs 1\nleft 1\nseed 42\nbudget 20000\npool 0\nscratch 0\n%s" + STATES + b"entry\nleft movs r0, #0\nright eors r0, r0\nmask z\nproof\n"
     b"family 1 0 0 0\nproof\n31 45 0 8 7 11 0\n32 -44 0 1 0\n33 0 6 5 4 3 2 1 31 14 17 20 23 26 29 30 0\nend\n"
@@ -32,7 +32,7 @@ PROOF = b"peep 3\n" + ZEROS % b""
 DEAR = b"peep 4\n" + ZEROS % (b"costs" + b" 1" * 27 + b" 64\n")
 COSTS = b"costs 1\nmuls 32\nmovs 2\n"
 CHAIN = b"f:\n\tbeq a\n\tbx lr\n\tnop\na:\tb c\nd:\tbx lr\nc:\tbx lr\n"
-# the command's words, the number of names that it fetches, the names that it keeps, in order, and what lies under `t` and `l`
+# the command's words, the number of names that it fetches, the names that it keeps, in order, and the contents of `t` and `l`
 COMMANDS = {
     "rewrite": ("rewrite t l o i", 2, ["o", "i"], TABLE, SUM),
     "rewrite by a family": ("rewrite t l o i", 2, ["o", "i"], RAISED, BYTES),
@@ -54,7 +54,7 @@ COMMANDS = {
 }
 
 class Ended:
-    """How a run ended, what it printed and what then lay in its folder."""
+    """How a run ended, what it printed, and the files in its folder afterwards."""
 
     def __init__(self, folder, words, fault=None, **how):
         mark = folder + ".mark"
@@ -78,7 +78,7 @@ def fail(what, ended):
 
 
 def run(words, fault=None, texts=(TABLE, SUM), **how):
-    """A run in a fresh folder with two texts."""
+    """Runs in a fresh folder with two texts."""
     with tempfile.TemporaryDirectory() as work:
         folder = os.path.join(work, "run")
         os.mkdir(folder)
@@ -95,7 +95,7 @@ def is_promised(ended, whole, keeps):
     if ended.status == whole.status:
         return ended.out == whole.out and ended.files == whole.files
     counts = range(len(keeps) + 1)
-    # of the name whose keep failed nothing is told
+    # of the name that couldn't be kept nothing is promised
     but = [{n: t for n, t in ended.files.items() if n != name} for name in keeps]
     begun = [{n: t for n, t in whole.files.items() if n not in keeps[at:]} for at in counts]
     if ended.status == 3:
@@ -107,8 +107,8 @@ def is_promised(ended, whole, keeps):
     return ended.status == 7 and ended.out == b"" and ended.files == begun[0]
 
 
-# Which statuses a fault may end with, 0 standing for that of the run without it. A vector that is refused twice its size asks for what it needs, so that one refused growth may change nothing; and
-# a name that can't be opened is one that isn't found or can't be kept.
+# Which statuses a fault may end with, 0 being that of the run without the fault. A vector that can't get double its size asks for exactly what it needs, so one
+# refused growth may have no effect. A name that can't be opened is one that isn't found or can't be kept.
 STATUSES = {
     "growth": {0, 5},
     "hunger": {5},
@@ -122,7 +122,7 @@ STATUSES = {
 
 
 def try_faults(command):
-    """Each fault of the process in turn. How many of each kind were met, and what is to be said of them."""
+    """Causes each fault of the process in turn. Returns how many of each kind occurred, and what went wrong."""
     words, _, keeps, *texts = COMMANDS[command]
     whole = run(words.split(), texts=texts)
     if whole.status != ("refused" in command):
@@ -145,7 +145,7 @@ def try_faults(command):
 
 
 def try_calls(command):
-    """Each call of a store in memory fails in turn, and the put."""
+    """Fails each call of a store in memory in turn, and the put."""
     words, fetches, keeps, table, listing = COMMANDS[command]
     calls = fetches + len(keeps)
     faults = [(0, 0), *((call, 0) for call in range(1, calls + 1)), (0, 1)]
@@ -156,7 +156,7 @@ def try_calls(command):
     if int(whole[0]) != ("refused" in command):
         sys.exit(f"{words}: {whole}")
     for (call, put), answer in zip(faults[1:], told[1:]):
-        # of t and l nothing changes, and of o and i those are kept whose keep came before
+        # t and l don't change; of o and i those are kept whose keep came before the fault
         done = len(keeps) if put else max(call - fetches - 1, 0)
         held = ["=", "=", *(whole[6 + at] if at < done else "-" for at in range(2))]
         if [answer[0], answer[3], *answer[4:]] != ["4" if put else "3", "x", *held]:
@@ -166,7 +166,7 @@ def try_calls(command):
 
 
 def ends(what, words, status, out=None, how=None):
-    """A run that has to end so."""
+    """Makes a run that has to end with this status."""
     ended = run(words.split() if isinstance(words, str) else words, **(how or {}))
     word = {2: b"usage\n", **WORDS}.get(status, b"")
     if ended.status != status or ended.told != word or out is not None and ended.out != out:

@@ -1,6 +1,6 @@
-// Makes one call of the C library fail or fall short in a process that loads this before all else. FAULT is KIND:N, and the Nth call of that kind since the
-// start of main is touched: `growth` refuses memory, and `hunger` from there on; `open`, `read` and `write` fail; `short_read` and `short_write` move one byte; `no_write` takes nothing.
-// The file named by FAULT_MARK is made once the call has come. Standard error is left alone.
+// Makes one call of the C library fail or fall short in a process into which this is preloaded. FAULT is KIND:N: the Nth call of that kind since the start of
+// main is affected. `growth` refuses memory, `hunger` all memory from there on; `open`, `read` and `write` fail; `short_read` and `short_write` move one byte;
+// `no_write` writes nothing. The file named by FAULT_MARK is created once the call has occurred. Standard error is never affected.
 #define _GNU_SOURCE
 #include <errno.h>
 #include <fcntl.h>
@@ -31,7 +31,7 @@ __attribute__((constructor)) static void begin(void) {
     left = atol(colon + 1);
 }
 
-// Whether this call of a kind is the one.
+// Whether this call of a kind is the affected one.
 static int is_hit(const char *of) {
     if (left == 0 || strcmp(kind, of) != 0 || --left != 0)
         return 0;

@@ -1,4 +1,4 @@
-// The formula of two sides of three products each, by the same builder in plain Rust.
+// The formula of two sides of three products each, by the same rules in plain Rust.
 use std::collections::HashMap;
 use std::time::Instant;
 

@@ -1,5 +1,5 @@
-//! A layout that is kept while instructions give way to fewer. Lines are in blocks, of which the first alone may have labels, mention a name or align. What
-//! moves is looked at from one alignment to the next, and of what is mentioned only what can come out of reach: mentions across an alignment that grows, labels
+//! A layout that is kept while instructions are replaced by fewer. Lines are in blocks, of which only the first may have labels, mention a name or align. Moves
+//! are followed from one alignment to the next, and only those mentions are checked that can get out of reach: mentions across an alignment that grows, labels
 //! of literals, and addresses that are set.
 
 use crate::instruction::Instr;
@@ -8,10 +8,10 @@ use crate::line::{Mention, Statement};
 use crate::listing::{Listing, Meaning};
 use crate::refusals::Refused;
 
-/// Blocks are in groups of so many, each with how far all of it has moved.
+/// The size of a group of blocks, each with how far all of it has moved.
 const GROUP: usize = 512;
 
-/// No mention of a label reaches further, in bytes, but that of a call.
+/// The longest reach of a mention of a label, in bytes, except for calls.
 const REACH: u32 = 2052;
 
 #[derive(Clone, Copy)]
@@ -27,7 +27,7 @@ enum Head {
     Aims { instr: Instr, plus: u32, to: Target },
 }
 
-/// Where all blocks lie.
+/// The addresses of all blocks.
 struct Starts {
     at: Vec<u32>,
     moved: Vec<u32>,
@@ -38,7 +38,7 @@ impl Starts {
         self.at[block] - self.moved[block / GROUP]
     }
 
-    /// Moves the blocks from one up to before another by so many bytes to the front.
+    /// Moves the blocks from one up to before another to the front by a number of bytes.
     fn shift(&mut self, from: usize, to: usize, by: u32) {
         let (first, last) = (from.div_ceil(GROUP), to / GROUP);
         if first >= last {
@@ -80,7 +80,7 @@ impl Slack {
         }
     }
 
-    /// Takes so much from each between two numbers within the range of a node, and tells the least of them.
+    /// Subtracts an amount from each number between two within the range of a node, and returns the least of them.
     fn change(&mut self, at: usize, range: (usize, usize), from: usize, to: usize, by: i64) -> i64 {
         let (start, end) = range;
         if to <= start || end <= from {
@@ -100,14 +100,14 @@ impl Slack {
         low.min(high)
     }
 
-    /// Takes so much from those of the blocks between two, and tells the least of them.
+    /// Subtracts an amount from the numbers of the blocks between two, and returns the least of them.
     fn shift(&mut self, from: usize, to: usize, by: u32) -> i64 {
         let (from, to) = (self.blocks.partition_point(|block| *block < from), self.blocks.partition_point(|block| *block < to));
         self.change(1, (0, self.width), from, to, i64::from(by))
     }
 }
 
-/// Blocks from the first up to before the next such move by so many bytes to the front.
+/// A move: the blocks from the first up to before the next move move to the front by a number of bytes.
 #[derive(Clone, Copy)]
 struct Move {
     first: usize,
@@ -118,13 +118,13 @@ pub struct Blocks {
     heads: Vec<Head>,
     starts: Starts,
     bytes: Vec<u32>,
-    /// Of each line.
+    /// The block of each line.
     numbers: Vec<u32>,
-    /// The blocks that mention a label, those that call one, and for each block the least one at or behind it whose label a literal mentions.
+    /// The blocks that mention a label, those that call one, and for each block the least one at or after it whose label a literal mentions.
     mentions: Vec<usize>,
     calls: Vec<usize>,
     literals: Vec<u32>,
-    /// For each power of 2 and each block the least one at or behind it that aligns to a greater number.
+    /// For each power of 2 and each block the least one at or after it that aligns to a greater number.
     aligned: [Vec<u32>; 9],
     slack: Slack,
     is_far: bool,
@@ -158,7 +158,7 @@ fn is_literal(instr: Instr) -> bool {
     matches!(instr, Instr::Literal { .. } | Instr::Address { .. })
 }
 
-/// What a line's block begins with, where the line is its first one. Alignments that never take a byte, as instructions have two or four, are none.
+/// What a line's block begins with, if the line is its first one. Alignments that never take a byte, as instructions have two or four, don't count.
 fn head_of(listing: &Listing, statement: &Statement, numbers: &[u32]) -> Option<Head> {
     match statement {
         Statement::Aligns { size, most } if *size > 2 && *most >= 2 => Some(Head::Pads { size: *size, most: *most }),
@@ -253,7 +253,7 @@ impl Blocks {
         behind.checked_sub(1).map_or(0, |last| self.moves[last].by)
     }
 
-    /// The mention of a block that comes out of reach.
+    /// The mention of a block, if it gets out of reach.
     fn fault(&self, here: usize, number: usize) -> Option<Refused> {
         let Head::Aims { instr, plus, to: Target::Block(to) } = self.heads[number] else { return None };
         let start = |block| self.starts.of(block) - self.moved(block);
@@ -261,7 +261,7 @@ impl Blocks {
         fault.map(|_| Refused { first: here.min(number).min(to), last: number.max(to) })
     }
 
-    /// What is behind a block that takes so many bytes fewer moves: from one alignment that takes notice to the next.
+    /// Moves what follows a block that shrinks by a number of bytes: from one affected alignment to the next.
     fn walk(&mut self, here: usize, bytes: u32) -> Result<(), Refused> {
         let count = self.heads.len();
         self.moves.clear();
@@ -289,7 +289,7 @@ impl Blocks {
         Ok(())
     }
 
-    /// Whether all that is mentioned across an alignment, where more lies between now, stays in reach.
+    /// Whether all that is mentioned across an alignment that grows stays in reach.
     fn reaches_across(&self, here: usize, at: usize) -> Result<(), Refused> {
         let far = if self.is_far { u32::MAX } else { REACH };
         let start = self.starts.of(at);
@@ -302,7 +302,7 @@ impl Blocks {
         before.chain(behind).chain(calls).filter(is_across).find_map(|number| self.fault(here, *number)).map_or(Ok(()), Err)
     }
 
-    /// Takes what was moved from the room of addresses that are set. Where one has none left all is put back.
+    /// Subtracts the moves from the slack of addresses that are set. If one has too little all is restored.
     fn take_slack(&mut self) -> Result<(), Refused> {
         if self.slack.blocks.is_empty() {
             return Ok(());
@@ -324,11 +324,11 @@ impl Blocks {
             let (from, to) = (self.slack.blocks.partition_point(|block| *block < from), self.slack.blocks.partition_point(|block| *block < to));
             self.slack.change(1, (0, self.slack.width), from, to, -i64::from(by));
         }
-        // what moves a mention so far now does so as long as nothing between them changes, and its room never grows
+        // what moves a mention this far does so as long as nothing between them changes, and its slack never grows
         Err(Refused { first: self.changed[0], last: last.unwrap_or(count - 1) })
     }
 
-    /// Takes so many bytes from a block where no mention comes out of reach.
+    /// Shrinks a block by a number of bytes if no mention gets out of reach.
     pub fn gives_way(&mut self, here: usize, bytes: u32) -> Result<(), Refused> {
         self.walk(here, bytes)?;
         for n in 1..self.moves.len() {

@@ -1,6 +1,6 @@
-//! Live items over the places of the given listing, whose ways never change but where a window stands. What is live is found by a worklist. Of each place is
-//! kept also what is read along ways forward alone, which is worked out anew after a change with no clearing: where an item that is read no more is such a
-//! one, clearing ends.
+//! Live items over the places of the given listing, whose control flow never changes except at a window. What is live is found by a worklist. For each place
+//! also the items are kept that are read along forward edges only. These are recomputed after each change without clearing: where an item that is no longer
+//! read at one place is among them, clearing ends.
 
 use super::kept::{Kept, NONE};
 use crate::listing::Listing;
@@ -12,20 +12,20 @@ const ITEMS: usize = 19;
 pub struct Graph {
     ways: Vec<Option<Ways>>,
     pub kept: Kept,
-    /// The places with a way to a place that isn't the next one: those of a place stand from its end to that of the next.
+    /// The places with an edge to a place that isn't the next one: those of a place lie from its end to that of the next.
     callers: Vec<u32>,
     ends: Vec<u32>,
-    /// The least place at or behind each to which such a way leads.
+    /// The least place at or after each to which such an edge leads.
     aims: Vec<u32>,
-    /// How many code points stand before each place.
+    /// How many code points there are before each place.
     points_before: Vec<u32>,
-    /// The places with a way to any code point, and the items that some of them pass.
+    /// The places with an edge to any code point, and the items that pass through some of them.
     returns: Vec<usize>,
     passed: u32,
-    /// What is live before each place, and what is read from it by ways forward.
+    /// What is live before each place, and what is read from it along forward edges.
     before: Vec<u32>,
     forward: Vec<u32>,
-    /// Of how many code points each passed item is in these sets, and the items of some.
+    /// In how many code points' sets each passed item is, and the items of at least one.
     live_points: [u32; ITEMS],
     forward_points: [u32; ITEMS],
     at_points: u32,
@@ -53,7 +53,7 @@ fn count(counts: &mut [u32; ITEMS], old: u32, new: u32) {
     items(old & !new).for_each(|item| counts[item] -= 1);
 }
 
-/// What a run of instructions reads before it writes it, and what it writes, where each goes on to the next.
+/// What a sequence of instructions reads before it writes it, and what it writes, where each continues to the next.
 fn read_and_written(run: &[(u32, u32)]) -> (u32, u32) {
     run.iter().rev().fold((0, 0), |(read, written), (uses, writes)| (uses | read & !writes, written | writes))
 }
@@ -119,7 +119,7 @@ impl Graph {
         graph
     }
 
-    /// What is live before what stands at a place or behind it.
+    /// What is live before the first kept place from a place on.
     pub fn live_at(&self, node: usize) -> u32 {
         self.before[node]
     }
@@ -146,7 +146,7 @@ impl Graph {
         }
     }
 
-    /// The passed items that some code point has.
+    /// The passed items that are live at some code point.
     fn held_by_points(&self) -> u32 {
         items(self.passed).filter(|item| self.live_points[*item] > 0).fold(0, |held, item| held | 1 << item)
     }
@@ -174,7 +174,7 @@ impl Graph {
         })
     }
 
-    /// Calls for each place with a way to one of these places, of which the last is kept.
+    /// Calls `put` for each place with an edge to one of these places, of which the last is kept.
     fn each_source(&self, start: usize, place: usize, mut put: impl FnMut(usize)) {
         let before = self.kept.previous[place];
         if before != NONE && self.ways[before].is_some_and(|ways| all(ways).any(|way| way.next == Next::Place(before + 1))) {
@@ -217,7 +217,7 @@ impl Graph {
         }
     }
 
-    /// What is live at first: one pass over ways forward, then a worklist of the places with other ways.
+    /// Computes what is live at first: one pass over forward edges, then a worklist of the places with other edges.
     fn find(&mut self) {
         for place in (0..self.kept.end()).rev() {
             let forward = self.seen_forward(place);
@@ -266,7 +266,7 @@ impl Graph {
         }
     }
 
-    /// Works out anew what is read by ways forward, where the set of a place has changed: greatest places first.
+    /// Recomputes what is read along forward edges where the set of a place has changed: greatest places first.
     fn refresh_forward(&mut self, place: usize) {
         let mut waiting: BinaryHeap<usize> = self.sources(place).into_iter().filter(|source| *source < place).collect();
         let mut last = NONE;
@@ -283,12 +283,12 @@ impl Graph {
         }
     }
 
-    /// Takes items away from before each place that passes them on to before places that lost them.
+    /// Removes items from before each place that passes them on to places that lost them.
     fn clear(&mut self, window: &Window, lost: u32) {
         let mut cleared = vec![(window.first, lost)];
         while let Some((place, lost)) = cleared.pop() {
             for source in self.sources(place) {
-                // the window as it was is one place
+                // the window as it was counts as one place
                 if source == window.last {
                     self.lose(window.first, lost & !window.written & !window.read, &mut cleared);
                 } else if let Some(ways) = self.ways[source] {
@@ -305,7 +305,7 @@ impl Graph {
         }
     }
 
-    /// Takes items away from all code points, where none of them has it by ways forward.
+    /// Removes items from all code points, if none of them has it along forward edges.
     fn clear_points(&mut self, lost: u32, cleared: &mut Vec<(usize, u32)>) {
         let lost = items(lost).filter(|item| self.forward_points[*item] == 0).fold(0, |lost, item| lost | 1 << item);
         if lost == 0 {
@@ -329,7 +329,7 @@ impl Graph {
         }
     }
 
-    /// Instructions with these uses and writes stand in place of a window's first ones, and none in place of the others. Calls for each kept place before
+    /// Puts instructions with these reads and writes in place of a window's first ones, and removes the others. Calls `lost_at` for each kept place before
     /// which fewer items are live than before.
     pub fn replace(&mut self, places: &[usize], new: &[(u32, u32)], mut lost_at: impl FnMut(usize, &Kept)) {
         let (first, last) = (places[0], places[places.len() - 1]);
@@ -361,7 +361,7 @@ impl Graph {
         }
     }
 
-    /// Puts the new instructions in, with what is live before them, and lets wait what may lack something.
+    /// Inserts the new instructions, with what is live before them, and queues what may lack something.
     fn put_in(&mut self, places: &[usize], new: &[(u32, u32)], behind: usize) {
         let first = places[0];
         let cleared = self.before[first];
@@ -396,13 +396,13 @@ impl Graph {
         }
     }
 
-    /// Takes a place away: what is behind it stands for it.
+    /// Removes a place: what follows it represents it.
     fn leave(&mut self, place: usize) {
         let behind = self.kept.next[place];
         let (live, forward) = (self.before[behind], self.forward[behind]);
         self.put_live(place, 0);
         self.put_forward(place, 0);
-        // the sets of what is behind are counted again, as it may be a code point now
+        // the sets of what follows are counted again, as it may be a code point now
         self.put_live(behind, 0);
         self.put_forward(behind, 0);
         self.kept.leave(place);
@@ -411,7 +411,7 @@ impl Graph {
     }
 }
 
-/// A window as it was.
+/// A window before its replacement.
 struct Window {
     first: usize,
     last: usize,

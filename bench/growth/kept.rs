@@ -1,11 +1,11 @@
-//! The places of a listing while some of them go, and which of them are due to be looked at. A place keeps its number.
+//! The places of a listing while some of them are removed, and which are due for a check. A place keeps its number.
 
 /// No place.
 pub const NONE: usize = usize::MAX;
 
-/// The places that are kept. A kept place stands also for those right before it that are gone; the place behind the last one is always kept.
+/// The places that are kept. A kept place also represents those right before it that are removed; the place after the last one is always kept.
 pub struct Kept {
-    /// A place at or behind each, the same where it is kept.
+    /// A place at or after each; the same if it is kept.
     onward: Vec<u32>,
     pub next: Vec<usize>,
     pub previous: Vec<usize>,
@@ -20,7 +20,7 @@ impl Kept {
         }
     }
 
-    /// The place behind the last one.
+    /// The place after the last one.
     pub fn end(&self) -> usize {
         self.onward.len() - 1
     }
@@ -29,7 +29,7 @@ impl Kept {
         self.onward[place] as usize == place
     }
 
-    /// The kept place that stands for a place.
+    /// The kept place that represents a place.
     pub fn node(&mut self, place: usize) -> usize {
         let mut at = place;
         while self.onward[at] as usize != at {
@@ -40,12 +40,12 @@ impl Kept {
         at
     }
 
-    /// The first place that a kept place stands for.
+    /// The first place that a kept place represents.
     pub fn start(&self, place: usize) -> usize {
         self.previous[place].wrapping_add(1)
     }
 
-    /// Takes a kept place away.
+    /// Removes a kept place.
     pub fn leave(&mut self, place: usize) {
         let (before, behind) = (self.previous[place], self.next[place]);
         self.onward[place] = place as u32 + 1;
@@ -56,7 +56,7 @@ impl Kept {
     }
 }
 
-/// A set of places of which the least is found at once: a bit for each, one for each word of these, and one for each word of those.
+/// A set of places whose least element is found at once: a bit for each, a bit for each word of these, and a bit for each word of those.
 pub struct Due {
     levels: [Vec<u64>; 3],
 }
@@ -97,8 +97,8 @@ impl Due {
         let word = word * 64 + middle[word].trailing_zeros() as usize;
         Some(word * 64 + low[word].trailing_zeros() as usize)
     }
-    /// The least place at or behind one.
-    // not each program needs this and what follows
+    /// The least place at or after one.
+    // not every program needs this and the rest
     #[allow(dead_code)]
     pub fn at_or_behind(&self, place: usize) -> Option<usize> {
         let mut at = place;
@@ -128,7 +128,7 @@ impl Due {
         Some(self.under(3, word, |word| word.ilog2()))
     }
 
-    /// The place that one bit of a level stands for, by which bit of each word below is taken.
+    /// The place of one bit of a level; `bit` chooses the bit of each word below.
     fn under(&self, depth: usize, at: usize, bit: impl Fn(u64) -> u32) -> usize {
         self.levels[..depth].iter().rev().fold(at, |at, level| at * 64 + bit(level[at]) as usize)
     }

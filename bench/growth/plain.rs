@@ -1,6 +1,6 @@
-//! Rewrites a listing by a table in plain Rust, in time that grows as little as is known with listings of hostile shapes: live items on a flow graph over the
-//! places of the given listing, the next place by what is due, entries in groups by their left sides, a layout by blocks, and refused windows by where the
-//! distance lies that was out of reach. Standard input and what is told are those of rewriting/plain.rs.
+//! Rewrites a listing by a table in plain Rust, with the least known growth of time for hostile listings: live items on a flow graph over the places of the
+//! given listing, the next place by a set of due places, entries grouped by their left sides, a layout by blocks, and refused windows by the position
+//! of the distance that was out of reach. Input and output are those of rewriting/plain.rs.
 
 #[path = "../listing_lines/plain/instruction.rs"]
 mod instruction;
@@ -46,7 +46,7 @@ use std::hint::black_box;
 use std::io::{self, Read, Write};
 use std::time::Instant;
 
-/// A window of instructions, by their places, and the registers that the names r0, r1 and so on stand for.
+/// A window of instructions, by their places, and the registers that the names r0, r1 and so on denote.
 struct Window {
     places: [usize; LONGEST],
     count: usize,
@@ -59,25 +59,25 @@ impl Window {
     }
 }
 
-/// A layout that is kept, and the windows that it refused.
+/// A kept layout, and the windows that it refused.
 struct Ground {
     blocks: Blocks,
     refusals: Refusals,
 }
 
-/// A listing that is being rewritten. A window's new instructions stand at its first places, and its others are gone.
+/// A listing that is being rewritten. A window's new instructions take its first places, and its others are removed.
 struct Rewriter<'a> {
     rules: &'a Rules,
     graph: Graph,
     ground: Option<Ground>,
     due: Due,
-    /// The instruction of each place, and whether nothing stands before it that ends a window.
+    /// The instruction of each place, and whether nothing before it ends a window.
     rows: Vec<(Option<WindowInstr>, bool)>,
     is_labelled: Vec<bool>,
-    /// The line in which each instruction stands, and whether a line's own instruction is gone.
+    /// The line of each instruction, and whether a line's own instruction is removed.
     home: Vec<u32>,
     is_changed: Vec<bool>,
-    /// Whether each line has a label, how many lines the listing has, and the places where an entry would apply if it had a line less.
+    /// Whether each line has a label, how many lines the listing has, and the places where an entry would apply if there were a line less.
     is_headed: Vec<bool>,
     lines: usize,
     waiting: Due,
@@ -85,7 +85,7 @@ struct Rewriter<'a> {
     replaced: u64,
 }
 
-/// Marks the places before one at which a window may begin that comes to it.
+/// Marks the places before one at which a window that reaches it may begin.
 fn put_due(due: &mut Due, kept: &Kept, rows: &[(Option<WindowInstr>, bool)], longest: usize, place: usize) {
     let mut at = kept.previous[place];
     for _ in 0..longest {
@@ -128,13 +128,13 @@ impl<'a> Rewriter<'a> {
         }
     }
 
-    /// Whether code labels stay code where a window gives way to so many instructions.
+    /// Whether code labels stay code when `count` instructions replace a window.
     fn are_labels_kept(&self, window: &Window, count: usize) -> bool {
         let [first, .., last] = [window.places[0], window.places[window.count - 1]];
         count > 0 || !self.is_labelled[first] || self.graph.is_op(self.graph.kept.next[last])
     }
 
-    /// How many lines the listing has once a window has given way to so many instructions: a label in the line of the first one gets a line of its own.
+    /// How many lines the listing has once `new` instructions have replaced a window: a label in the line of the first one gets a line of its own.
     fn lines_with(&self, window: &Window, new: usize) -> usize {
         let line = self.home[window.places[0]] as usize;
         let is_parted = !self.is_changed[line] && self.is_headed[line];
@@ -150,7 +150,7 @@ impl<'a> Rewriter<'a> {
         has_room
     }
 
-    /// Whether no mention is out of reach once a window has given way to so many instructions. Then the layout is that of after.
+    /// Whether no mention is out of reach once `new` instructions have replaced a window. If so the layout is changed accordingly.
     fn is_reached(&mut self, window: &Window, new: usize) -> bool {
         let Some(ground) = self.ground.as_mut().filter(|_| new < window.count) else { return true };
         let block = ground.blocks.of_line(self.home[window.places[0]] as usize);
@@ -198,7 +198,7 @@ impl<'a> Rewriter<'a> {
             if let Some(found) = rules.by_left.get(&keys[window.count - 1]) {
                 let mut refused = [false; LONGEST];
                 for rule in found {
-                    // the layout sees lengths alone
+                    // the layout depends on lengths only
                     if !refused[rule.right.len()] {
                         let before = self.refused.len();
                         if self.applies(rule, &window) {
@@ -250,7 +250,7 @@ impl<'a> Rewriter<'a> {
         self.replaced += 1;
     }
 
-    /// Marks the places where a change was refused by distances in which something moved.
+    /// Marks the places where a change was refused because of distances in which something moved.
     fn put_refused(&mut self) {
         let Rewriter { ground: Some(Ground { blocks, refusals }), graph, due, .. } = self else { return };
         for block in &blocks.changed {
@@ -262,7 +262,7 @@ impl<'a> Rewriter<'a> {
         }
     }
 
-    /// The least place that is due, or that waits for a line where there is room.
+    /// The least place that is due, or that waits for a line if there is room.
     fn least(&self) -> Option<usize> {
         let waiting = if self.lines < MOST_LINES { self.waiting.least() } else { None };
         self.due.least().into_iter().chain(waiting).min()
@@ -284,14 +284,14 @@ impl<'a> Rewriter<'a> {
         }
     }
 
-    /// The listing of the lines that are left, of the given one.
+    /// The listing of the remaining lines of the given one.
     fn left(self, given: Listing) -> Listing {
         let kept = (0..self.graph.kept.end()).filter(|place| self.graph.kept.is_kept(*place));
         left_of(given, kept.map(|place| (self.home[place], self.rows[place].0)), &self.is_changed)
     }
 }
 
-/// What a refusal of a listing says that can't be laid out from 0.
+/// The refusal of a listing that can't be laid out from 0.
 fn refusal(listing: &Listing) -> Option<String> {
     match layout(listing, 0) {
         Ok(_) => None,

@@ -89,7 +89,7 @@ class Writer:
             self.code()
         self.put("bx lr")
         self.pool()
-        # a label at the end may stand before words
+        # a label at the end may come before words
         lines = []
         for n, line in enumerate(self.lines):
             if line.endswith(" ?"):
@@ -116,7 +116,7 @@ def main():
         lines = Writer(rng).listing(rng.choice([10, 30, 100, 300, 1000]))
         code = []
         for at, line in enumerate(lines):
-            # a label of code alone: words behind it make it one of data, that no branch names
+            # only a label of code: words after it make it one of data, which no branch names
             if line.endswith(":") and stands_before_words(lines[at + 1 :]):
                 code += [line, "\tmov\tr1, r1"]
             else:

@@ -1,4 +1,4 @@
-//! Changes that a layout refused, found again by any of the blocks that were to blame.
+//! Changes that a layout refused, found again by any of the blocks that caused it.
 
 /// Blocks between whose ends a distance would be out of reach.
 pub struct Refused {
@@ -6,11 +6,11 @@ pub struct Refused {
     pub last: usize,
 }
 
-/// Places where a change was refused, by the blocks between which the distance lies: of each range of first blocks the greatest last one.
+/// Places where a change was refused, by the blocks between which the distance lies: for each range of first blocks the greatest last one.
 pub struct Refusals {
     width: usize,
     last: Vec<u32>,
-    /// None as long as nothing was refused.
+    /// Empty as long as nothing was refused.
     by_first: Vec<Vec<(u32, u32)>>,
 }
 
@@ -38,7 +38,7 @@ impl Refusals {
         }
     }
 
-    /// Takes out the places whose distances have a block among theirs.
+    /// Removes the places whose distances include a block, and passes them to `put`.
     pub fn take(&mut self, block: usize, mut put: impl FnMut(usize)) {
         while let Some(first) = self.first_around(1, (0, self.width), block) {
             self.by_first[first].retain(|(last, place)| {

@@ -1,6 +1,6 @@
-//! Reads a listing from standard input in plain Rust, assembles it from 0, or from 0x8000000 where it is given a word, and writes its image to standard
+//! Reads a listing from standard input in plain Rust, assembles it from 0, or from 0x8000000 with an argument, and writes its image to standard
 //! output.
-//! Tells on standard error what the proved program tells.
+//! Prints on standard error what the proved program prints.
 
 #[path = "../listing_lines/plain/instruction.rs"]
 mod instruction;
@@ -27,7 +27,7 @@ fn fields(parts: &[(u32, u32)]) -> u32 {
     parts.iter().fold(0, |code, (width, value)| code << width | value)
 }
 
-/// A head and low registers behind it.
+/// A head followed by low registers.
 fn low(head: u32, operands: &[u8]) -> u32 {
     operands.iter().fold(head, |code, operand| code << 3 | *operand as u32)
 }
@@ -36,7 +36,7 @@ fn split(head: u32, target: u8, source: u8) -> u32 {
     fields(&[(8, head), (1, target as u32 / 8), (4, source as u32), (3, target as u32 % 8)])
 }
 
-/// Half of a distance in so many bits.
+/// Half of a distance in `width` bits.
 fn halved(width: u32, distance: i64) -> u32 {
     (distance >> 1) as u32 & ((1 << width) - 1)
 }
@@ -49,7 +49,7 @@ fn call(distance: i64) -> u32 {
     fields(&[(5, 30), (1, sign), (10, half >> 11 & 1023), (2, 3), (1, one), (1, 1), (1, two), (11, half & 2047)])
 }
 
-/// The code of an instruction at an address, where what it mentions lies at another.
+/// The code of an instruction at an address, when what it mentions is at another.
 fn encode(instr: Instr, at: u32, to: u32) -> u32 {
     let distance = to as i64 - (at as i64 + 4);
     let words = (to.wrapping_sub((at + 4) & !3) / 4) & 255;
@@ -119,7 +119,7 @@ fn offset_head(access: Access) -> u32 {
     }
 }
 
-/// The word of a name: of code with bit 0 set.
+/// The word of a name: for code with bit 0 set.
 fn word(listing: &Listing, laid: &Layout, name: &[u8]) -> Option<u32> {
     match listing.names.get(name)? {
         Meaning::Address(address) => Some(*address),
@@ -142,7 +142,7 @@ fn put(bytes: &mut Vec<u8>, base: u32, instr: Instr, to: u32) {
     }
 }
 
-/// The image, or the number of the first line without a place in one.
+/// The image, or the number of the first line that can't be placed in one.
 fn assemble(listing: &Listing, laid: &Layout, base: u32) -> Result<Vec<u8>, usize> {
     let mut bytes = Vec::with_capacity((laid.end - base) as usize);
     for (n, line) in listing.lines.iter().enumerate() {

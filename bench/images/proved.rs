@@ -1,6 +1,6 @@
-//! Reads a listing from standard input with the proved crates, assembles it from 0, or from 0x8000000 where it is given a word, and writes its image to
+//! Reads a listing from standard input with the proved crates, assembles it from 0, or from 0x8000000 with an argument, and writes its image to
 //! standard output.
-//! Tells on standard error: the microseconds of assembling, those of reading, laying out and assembling, and the number of lines; or what is refused.
+//! Prints on standard error: the microseconds of assembling, those of reading, laying out and assembling, and the number of lines; or what is refused.
 #![tactic(auto, using(thumb_assembler::proofs::Fairness::of_its_text))]
 
 ghost use Rattle.std.specs.Prelude.{◌≡◌, ◌%◌};

@@ -1,7 +1,7 @@
-//! Learns a table anew in plain Rust, by the same rules: reads a table's text from standard input, takes its header and the left sides and masks of its
-//! entries for windows, and writes the table that is learnt from them, by costs where the header has them. Tells on standard error the milliseconds of learning, the windows, and the
-//! milliseconds of outcomes, of running states, of formulas and of the solver. With the name of a folder, each formula that the solver is asked is written
-//! there in DIMACS, under a name that begins with the conflicts that it took.
+//! Learns a table in plain Rust, by the same rules: reads a table from standard input, uses its header, and the left sides and masks of its entries as windows,
+//! and writes the table that is learnt from them, with costs if the header has them. Prints on standard error the milliseconds of learning, the number of
+//! windows, and the milliseconds of outcomes, of running states, of formulas and of the solver. With the name of a folder, each formula given to the solver is
+//! written there in DIMACS, under a name that begins with the number of conflicts that it took.
 
 #[path = "../plain_costs.rs"]
 mod plain_costs;
@@ -125,7 +125,7 @@ fn state_of(values: &[bool], k: usize) -> WState {
     state
 }
 
-/// Writes a formula of the solver's in DIMACS.
+/// Writes a formula of the solver in DIMACS.
 fn write_formula(folder: &str, place: u32, formula: &Builder, verdict: &Verdict) {
     let conflicts = match verdict {
         Verdict::Sat(_) => 0,
@@ -158,7 +158,7 @@ impl Learner {
         Learner { settings, states, entries: Vec::new(), bytes, outcomes, shares: Shares::default(), folder: std::env::args().nth(1), asked: 0 }
     }
 
-    /// The sequences below the window that the first state doesn't tell from it, lightest first.
+    /// The sequences below the window that the first state doesn't distinguish from it, lightest first.
     fn candidates(&mut self, window: &Window) -> Vec<u32> {
         let end = run(&window.left, self.states[0]);
         let weight = weight(self.settings.costs.as_ref(), &window.left);
@@ -210,7 +210,7 @@ impl Learner {
         Entry { left, right, mask, k, proof, opens }
     }
 
-    /// Drops the open numbers that a state from a place on tells.
+    /// Drops the open numbers that a state from an index on distinguishes.
     fn drop_told(&mut self, from: usize) {
         let start = Instant::now();
         let Learner { states, entries, outcomes, bytes, .. } = self;
@@ -276,7 +276,7 @@ fn mask_of(tail: &str) -> Mask {
     mask
 }
 
-/// The settings and the windows of a table's text.
+/// The settings and the windows of a table.
 fn read(text: &str) -> (Settings, Vec<Window>) {
     let mut settings = Settings { regs: 0, left: 0, seed: 0, budget: 0, pool: Vec::new(), scratch: 0, costs: None };
     let mut instrs = HashMap::new();

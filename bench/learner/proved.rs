@@ -1,6 +1,6 @@
-//! Learns a table from the windows of the listing on standard input by three registers, three instructions, the default pool and a budget of 20,000, and
-//! writes its text to standard output. Where a cost file and an empty line stand before the listing, it is learnt by these costs, from windows of at most two
-//! instructions. Tells on standard error the milliseconds of learning and the number of windows. In Rattle; learner.sh builds it.
+//! Learns a table from the windows of the listing on standard input with three registers, three instructions, the default pool and a budget of 20,000, and
+//! writes it to standard output. If a cost file and an empty line precede the listing, the table is learnt with these costs, from windows of at most two
+//! instructions. Prints on standard error the milliseconds of learning and the number of windows. In Rattle; learner.sh builds it.
 #![tactic(auto)]
 
 ghost use Rattle.std.specs.Prelude.{IfOk, map, ◌≤◌, length};
@@ -33,7 +33,7 @@ fn harvest<L: Ledger>(
     windows(alloc, listing, &live, settings.regs, settings.left, &settings.pool)
 }
 
-/// Learns and tells the time.
+/// Learns and prints the time.
 fn timed<L: Ledger>(
     rt: &HostRuntime,
     listing: &Listing,
@@ -60,7 +60,7 @@ fn timed<L: Ledger>(
     Ok(())
 }
 
-/// How many bytes the cost file has that stands before an empty line and a listing; 0 where the listing stands alone.
+/// The length in bytes of the cost file before an empty line and a listing; 0 if there is only the listing.
 fn end_of_costs(text: &[u8]) -> usize
     ensures { result ≤ length text.now }
 {
@@ -74,7 +74,7 @@ fn end_of_costs(text: &[u8]) -> usize
     0
 }
 
-/// The settings by costs, or without them.
+/// The settings with costs, or without them.
 fn settings(pool: Pool, costs: Option<Costs>) -> Settings
     ensures { AreInLimits (settings_of result) }
 {

@@ -1,5 +1,5 @@
 //! Reads a listing from standard input with the proved crates, prints it to standard output and lays it out from 0.
-//! Tells on standard error: the microseconds of reading and printing, those of reading, the number of lines, the microseconds of laying out, and
+//! Prints on standard error: the microseconds of reading and printing, those of reading, the number of lines, the microseconds of laying out, and
 //! where the listing ends or why it can't be laid out; or the line and the kind of the refusal.
 #![tactic(auto)]
 

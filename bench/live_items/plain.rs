@@ -1,6 +1,6 @@
 //! Reads a listing from standard input in plain Rust, and finds its live items and its windows by the rules of the proved crates.
-//! Tells on standard error what the proved program tells. With a word it prints the windows as a table of entries without right sides; by the default
-//! settings, or by those behind the word: registers, instructions, budget, and the pool's numbers joined by commas.
+//! Prints on standard error what the proved program prints. With an argument it prints the windows as a table of entries without right sides. The settings may
+//! follow the argument: registers, instructions, budget, and the pool's numbers joined by commas.
 
 #[path = "../listing_lines/plain/instruction.rs"]
 mod instruction;
@@ -25,7 +25,7 @@ use std::hint::black_box;
 use std::io::{self, Read};
 use std::time::Instant;
 
-/// The numbers of the pool that an instruction may have.
+/// Whether an instruction's numbers are in the pool.
 fn is_over(instr: &WindowInstr, pool: &[u8]) -> bool {
     match instr.form {
         2..=7 | 9 | 10 => pool.contains(&instr.number),
@@ -79,7 +79,7 @@ struct Settings {
     pool: Vec<u8>,
 }
 
-/// The settings of words, each that isn't there as it is without options.
+/// The settings of the arguments, with defaults for the others.
 fn settings(words: &[String]) -> Settings {
     let number = |at: usize, usual| words.get(at).map_or(usual, |word| word.parse().unwrap());
     let pool = words.get(3).map_or("0,1,2,4,8,16,24,31,255", |word| word);

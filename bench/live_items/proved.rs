@@ -1,5 +1,5 @@
 //! Reads a listing from standard input with the proved crates, and finds its live items and its windows.
-//! Tells on standard error: the microseconds of the live items, those of the windows, the number of places, the number of pairs, and a digest of each.
+//! Prints on standard error: the microseconds of the live items, those of the windows, the number of places, of visits and of pairs, and digests.
 #![tactic(auto)]
 
 ghost use Rattle.std.specs.Prelude.{◌≡◌, ◌<◌, IfOk, IfSome};
@@ -16,7 +16,7 @@ use std::time::Instant;
 use step_ledger::{Counted, Free, Steps};
 use window_harvest::windows;
 
-/// The live items, and the microseconds that they take where visits are counted in contracts alone, as the program does.
+/// Computes the live items and measures the microseconds, with visits counted in contracts only, as in the program.
 fn timed<N: Name>(
     rt: &HostRuntime,
     listing: &Listing,

@@ -1,6 +1,6 @@
-//! The checker as plain Rust, for a comparison of speed. It does what the program of
-//! `lrat_files.py` does: checks the lines of `lines.txt` over `formula.cnf`, prints a word for each
-//! and tells on standard error how many milliseconds reading and checking took.
+//! The checker in plain Rust, for a comparison of speed. It does the same as the program of
+//! `lrat_files.py`: checks the lines of `lines.txt` over `formula.cnf`, prints a word for each line
+//! and prints on standard error the milliseconds of reading and of checking.
 
 #[path = "../plain_checker.rs"]
 mod plain_checker;

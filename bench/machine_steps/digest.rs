@@ -1,5 +1,5 @@
 
-/// A digest of words, with one more.
+/// A digest with one more word.
 fn mixed(digest: u32, word: u32) -> u32 {
     (digest ^ word).wrapping_mul(16_777_619)
 }

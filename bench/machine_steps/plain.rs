@@ -40,7 +40,7 @@ enum Index {
     Register(usize),
 }
 
-/// What stands at a place.
+/// The content of a place.
 #[derive(Clone, Copy)]
 enum Row {
     Literal { target: usize, word: u32 },
@@ -55,7 +55,7 @@ enum Row {
     Data,
 }
 
-/// What can be seen of a run, as the proved machine tells it.
+/// The observable events of a run, as in the proved machine.
 #[allow(dead_code)]
 enum Event {
     Load { address: u32, size: u32 },
@@ -179,7 +179,7 @@ impl Machine {
         self.place += 1;
     }
 
-    /// Takes a step, and tells whether the run goes on.
+    /// Takes a step, and returns whether the run continues.
     fn step(&mut self) -> bool {
         if self.ended {
             return false;

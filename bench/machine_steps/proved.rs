@@ -1,4 +1,4 @@
-//! Times a million steps of the proved machine on the listing that standard input gives. In Rattle; machine_steps.sh puts digest.rs behind it and builds it.
+//! Times a million steps of the proved machine on the listing on standard input. In Rattle; machine_steps.sh appends digest.rs and builds it.
 #![tactic(auto)]
 
 use label_layout::layout;
@@ -10,7 +10,7 @@ use thumb_machine::{Answers, Bytes, Event, Machine, Naming, Stage, State};
 
 const STEPS: u32 = 1_000_000;
 
-/// Zeros, sp 0x20001000 and lr 0xffffffff, at the place 0.
+/// Registers are zero except sp 0x20001000 and lr 0xffffffff; the place is 0.
 fn start(alloc: Global) -> State {
     State {
         r: [0; 13],
@@ -22,7 +22,7 @@ fn start(alloc: Global) -> State {
     }
 }
 
-/// The machine of a listing that lies at 0.
+/// The machine of a listing laid out from 0.
 fn machine_of(alloc: Global, text: &[u8]) -> anyhow::Result<Machine> {
     let listing = parse(alloc, text)?;
     let laid = layout(alloc, &listing, 0)?;
@@ -31,7 +31,7 @@ fn machine_of(alloc: Global, text: &[u8]) -> anyhow::Result<Machine> {
     Ok(machine)
 }
 
-/// Takes the steps, and counts those after which the run goes on.
+/// Takes the steps, and counts those after which the run continues.
 fn count_going(machine: &mut Machine, answers: &mut Answers) -> anyhow::Result<u32> {
     let mut going = 0u32;
     for _ in 0..STEPS {

@@ -1,8 +1,8 @@
 #!/usr/bin/env python3
-"""Writes to standard output what the measure of newness needs. Use: logs.py LINES WIDTH | logs.py pigeons HOLES
+"""Writes to standard output the input of the measure of newness. Use: logs.py LINES WIDTH | logs.py pigeons HOLES
 
-The first writes a formula without a model and, after the line `spent`, a log of LINES clauses over it: clauses of WIDTH literals by chance over as many
-variables as there are lines, each accepted by the formula's two clauses. The second writes the formula of one pigeon more than there are holes."""
+The first writes an unsatisfiable formula and, after the line `spent`, a log of LINES clauses over it: random clauses of WIDTH literals over as many variables
+as there are lines, each accepted by the formula's two clauses. The second writes the pigeonhole formula: one more pigeon than holes."""
 import pathlib
 import random
 import sys

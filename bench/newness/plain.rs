@@ -1,7 +1,7 @@
-//! The judgement of a log as plain Rust, for a comparison of speed: it reads and prints what the program of `proved.rs` does, judges by the same lists of clauses
-//! by literals, and tells on standard error the microseconds of it.
+//! Judging a log in plain Rust, for a comparison of speed: it reads and prints what the program of `proved.rs` does, uses the same lists of clauses by
+//! literals, and prints its microseconds on standard error.
 
-// Logs have no deletions here.
+// Here logs have no deletions.
 #[allow(dead_code)]
 #[path = "../plain_checker.rs"]
 mod plain_checker;

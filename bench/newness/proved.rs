@@ -1,5 +1,5 @@
-//! Reads a formula in DIMACS and, after the line `spent`, a log over it on standard input, prints whether the log is spent, with as many additions as the budget,
-//! and tells on standard error the microseconds of the judgement. In Rattle; newness.sh builds it.
+//! Reads from standard input a formula in DIMACS and, after the line `spent`, a log over it. Prints whether the log spends a budget of as many clauses as it
+//! adds, and on standard error the microseconds of judging it. In Rattle; newness.sh builds it.
 #![tactic(auto)]
 
 ghost use Rattle.std.specs.Prelude.{IfOk, IfSome, FitsSigned, ◌≤◌};

@@ -1,4 +1,4 @@
-//! Times the same index in plain Rust: eight states side by side, along the tree of beginnings. With the word `single`, one state after the other.
+//! Times the same index in plain Rust: eight states side by side, along the tree of prefixes; or with the word `single`, one state after the other.
 
 #[path = "../plain_lanes.rs"]
 mod plain_lanes;

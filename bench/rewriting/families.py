@@ -1,5 +1,5 @@
 #!/usr/bin/env python3
-"""Raises entries of a table to so many families, by `peep generalise`: to all bytes, and then to ranges about their numbers. PEEP names the program.
+"""Generalises entries of a table to COUNT families with `peep generalise`: first to all bytes, then to ranges around their numbers. PEEP names the program.
 Use: families.py COUNT TABLE OUT"""
 import os
 import pathlib

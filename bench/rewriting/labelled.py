@@ -1,7 +1,7 @@
 #!/usr/bin/env python3
-"""Writes a table with costs, FOLDER/table, and listings of N windows that give way to as many instructions by it, FOLDER/whole.s, and of half as many,
-FOLDER/half.s. Each window has a label on its line, which gets a line of its own: the rewritten listing has 2 N + 1 lines, so that with N above 131,071 some windows
-stay. Use: labelled.py N FOLDER"""
+"""Writes a table with costs, FOLDER/table, and listings of N windows that it replaces by as many instructions, FOLDER/whole.s, and of half as many,
+FOLDER/half.s. Each window has a label on its line, which gets a line of its own: the rewritten listing has 2 N + 1 lines, so with N above 131,071 some
+windows stay. Use: labelled.py N FOLDER"""
 import pathlib
 import sys
 

@@ -1,4 +1,4 @@
-//! Live items that are kept while windows give way to other instructions: only what may have shrunk is worked out again.
+//! Live items that are updated while windows are replaced: only what may have shrunk is recomputed.
 
 use crate::listing::Listing;
 use crate::plain_flows::{Flows, Next, Way, Ways};
@@ -8,22 +8,22 @@ const AHEAD: usize = 64;
 
 pub struct Live {
     flows: Flows,
-    /// The places that go to each place by a branch or a call: those of a place stand between its end and that of the place before.
+    /// The places that reach each place by a branch or a call: those of a place lie between its end and that of the place before.
     jumpers: Vec<u32>,
     ends: Vec<u32>,
-    /// The places that go on at a code point, and the code points.
+    /// The places that continue at a code point, and the code points.
     by_points: Vec<usize>,
     points: Vec<usize>,
-    /// For each item a code point from which straight code reads it, where one is known.
+    /// For each item a code point from which straight code reads it, if one is known.
     readers: [Option<usize>; 19],
-    /// The places that were looked at since a replacement, with what was live after them.
+    /// The places that were visited since a replacement, with what was live after them.
     touched: Vec<(usize, u32)>,
     is_touched: Vec<bool>,
     /// The places outside the window after which fewer items are live than before the last replacement.
     pub shrunk: Vec<usize>,
 }
 
-/// The items that are live before straight code, where these are live after it.
+/// The items that are live before straight code if these are live after it.
 fn before(ways: &[Way], after: u32) -> u32 {
     ways.iter().rev().fold(after, |live, way| way.uses | (live & !way.writes))
 }
@@ -64,7 +64,7 @@ impl Live {
         self.flows.ways[place].is_some()
     }
 
-    /// The items among these that are read from a place on, before they are written, by code that is followed a while.
+    /// The items among these that are read from a place on before they are written, in code that is followed for a limited distance.
     fn read_ahead(&self, place: usize, items: u32) -> u32 {
         let (mut place, mut left, mut read) = (place, items, 0);
         for _ in 0..AHEAD {
@@ -80,7 +80,7 @@ impl Live {
         read
     }
 
-    /// The items among these that some code point's straight code reads.
+    /// The items among these that straight code at some code point reads.
     fn read_at_points(&mut self, items: u32) -> u32 {
         let mut read = 0;
         for item in (0..19).filter(|item| items >> item & 1 == 1) {
@@ -99,7 +99,7 @@ impl Live {
         }
     }
 
-    /// Puts the places that go on at a place behind others.
+    /// Appends the places that continue at a place to others.
     fn put_sources(&self, place: usize, sources: &mut Vec<usize>) {
         if place > 0 && self.flows.ways[place - 1].is_some() {
             sources.push(place - 1);
@@ -108,7 +108,7 @@ impl Live {
         sources.extend(self.jumpers[from as usize..self.ends[place] as usize].iter().map(|source| *source as usize));
     }
 
-    /// Takes items away from before a place that goes on so, where it reads none of them.
+    /// Removes items from before a place with this successor, if it reads none of them.
     fn lose(&mut self, place: usize, onward: Next, items: u32, taken: &mut Vec<(usize, u32)>) {
         self.touch(place);
         let Some(Ways { first, second }) = self.flows.ways[place] else { return };
@@ -121,7 +121,7 @@ impl Live {
         }
     }
 
-    /// Takes items that were taken from before a place away from wherever they are live by it, up to where they are read.
+    /// Removes items that were removed before a place wherever they are live because of it, up to where they are read.
     fn take(&mut self, place: usize, items: u32) {
         let mut taken = vec![(place, items)];
         let mut sources = Vec::new();
@@ -141,7 +141,7 @@ impl Live {
         }
     }
 
-    /// Works out the sets of places, and of those before them that they let grow.
+    /// Recomputes the sets of places, and of those before them that grow because of them.
     fn grow(&mut self, mut places: Vec<usize>) {
         while let Some(place) = places.pop() {
             self.touch(place);
@@ -159,7 +159,7 @@ impl Live {
         }
     }
 
-    /// Instructions with these ways stand in place of a window's first ones, and none in place of the others.
+    /// Puts instructions with these reads and writes in place of a window's first ones, and removes the others.
     pub fn replace(&mut self, window: &[usize], new: &[(u32, u32)]) {
         self.shrunk.clear();
         let (first, last) = (window[0], window[window.len() - 1]);

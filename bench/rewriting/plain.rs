@@ -1,6 +1,6 @@
-//! Rewrites a listing by a table in plain Rust, by the rules of the proved crates. Standard input has the table's text, which isn't audited, and behind its
-//! last line that of the listing; the new listing goes to standard output. Tells on standard error the microseconds of rewriting, those of reading both,
-//! rewriting and printing, how many windows were replaced, and how many instructions there were before and after.
+//! Rewrites a listing by a table in plain Rust, by the rules of the proved crates. Standard input has the table, which isn't audited, followed by the listing;
+//! the new listing goes to standard output. Prints on standard error the microseconds of rewriting, those of reading both, rewriting and printing, how many
+//! windows were replaced, and how many instructions there were before and after.
 
 #[path = "../listing_lines/plain/instruction.rs"]
 mod instruction;
@@ -43,10 +43,10 @@ use std::hint::black_box;
 use std::io::{self, Read, Write};
 use std::time::Instant;
 
-/// The place behind the last one.
+/// The place after the last one.
 const END: u32 = u32::MAX;
 
-/// A window of instructions, by their places, and the registers that the names r0, r1 and so on stand for, so many of them.
+/// A window of instructions, by their places, and the registers that the names r0, r1 and so on denote, with their count.
 #[derive(Clone, Copy)]
 struct Window {
     places: [u32; LONGEST],
@@ -67,31 +67,31 @@ impl Window {
     }
 }
 
-/// A listing that is being rewritten. Places are those of the given listing: a window's new instructions stand at its first ones, and its others are gone.
+/// A listing that is being rewritten. Places are those of the given listing: a window's new instructions take its first ones, and its others are removed.
 struct Rewriter<'a> {
     rules: &'a Rules,
     listing: &'a Listing,
     live: Live,
     reach: Reach,
-    /// The instruction of each place, and whether nothing stands before it that ends a window.
+    /// The instruction of each place, and whether nothing before it ends a window.
     rows: Vec<(Option<WindowInstr>, bool)>,
     is_labelled: Vec<bool>,
     next: Vec<u32>,
     previous: Vec<u32>,
     first: u32,
     is_gone: Vec<bool>,
-    /// The line in which each instruction stands, and whether a line's own instruction is gone.
+    /// The line of each instruction, and whether a line's own instruction is removed.
     home: Vec<u32>,
     is_changed: Vec<bool>,
     /// How many lines the listing has.
     lines: usize,
-    /// From this place on all are to be looked at.
+    /// All places from this one on are yet to be visited.
     at: u32,
-    /// The places before it that are to be looked at again.
+    /// The earlier places that are to be visited again.
     again: Due,
-    /// The places where an entry would apply if the listing had a line less.
+    /// The places where an entry would apply if there were a line less.
     waiting: Due,
-    /// The least place where an entry would apply but for its layout.
+    /// The least place where only the layout prevents an entry.
     held: u32,
     replaced: u64,
 }
@@ -129,13 +129,13 @@ impl<'a> Rewriter<'a> {
         }
     }
 
-    /// Whether code labels stay code where a window gives way to so many instructions.
+    /// Whether code labels stay code when `count` instructions replace a window.
     fn are_labels_kept(&self, window: &Window, count: usize) -> bool {
         let behind = self.next[window.places[window.count - 1] as usize];
         count > 0 || !self.is_labelled[window.places[0] as usize] || behind != END && self.live.is_op(behind as usize)
     }
 
-    /// How many lines the listing has once a window has given way to so many instructions: a label in the line of the first one gets a line of its own.
+    /// How many lines the listing has once `new` instructions have replaced a window: a label in the line of the first one gets a line of its own.
     fn lines_with(&self, window: &Window, new: usize) -> usize {
         let line = self.home[window.places[0] as usize] as usize;
         let is_parted = !self.is_changed[line] && !self.listing.lines[line].names.is_empty();
@@ -151,7 +151,7 @@ impl<'a> Rewriter<'a> {
         has_room
     }
 
-    /// Whether no mention is out of reach once a window has given way to so many instructions. Then the layout is that of after.
+    /// Whether no mention is out of reach once `new` instructions have replaced a window. If so the layout is changed accordingly.
     fn is_reached(&mut self, window: &Window, new: usize) -> bool {
         if new == window.count || self.reach.is_steady() {
             return true;
@@ -182,7 +182,7 @@ impl<'a> Rewriter<'a> {
         rules.by_left.get(&key)?.iter().find_map(|rule| Some((self.applied(rule, window)?, Cow::Borrowed(rule))))
     }
 
-    /// The first family that applies to a window of this key, which is blind to numbers of 8 bits.
+    /// The first family that applies to a window of this key, which ignores 8-bit numbers.
     fn first_family(&mut self, key: u128, instrs: &[WindowInstr], window: &Window) -> Option<(Window, Cow<'a, Rule>)> {
         let rules = self.rules;
         rules.by_blinded.get(&key)?.iter().find_map(|family| {
@@ -191,7 +191,7 @@ impl<'a> Rewriter<'a> {
         })
     }
 
-    /// The best rule at a place: of those that apply there one with the longest left side, an entry before a family, and of each kind the lowest.
+    /// The best rule at a place: of those that apply there the one with the longest left side, an entry before a family, then the lowest number.
     fn best(&mut self, place: u32) -> Option<(Window, Cow<'a, Rule>)> {
         let rules = self.rules;
         let mut window = Window { places: [0; LONGEST], count: 0, order: [0; 8], named: 0 };
@@ -236,7 +236,7 @@ impl<'a> Rewriter<'a> {
         None
     }
 
-    /// Takes a place away.
+    /// Removes a place.
     fn leave(&mut self, place: u32) {
         let (before, behind) = (self.previous[place as usize], self.next[place as usize]);
         self.is_gone[place as usize] = true;
@@ -278,7 +278,7 @@ impl<'a> Rewriter<'a> {
         self.at = self.kept(self.at);
     }
 
-    /// A place, or where it is gone the next one.
+    /// A place, or the next kept one if it is removed.
     fn kept(&self, mut place: u32) -> u32 {
         while place != END && self.is_gone[place as usize] {
             place = self.next[place as usize];
@@ -286,8 +286,8 @@ impl<'a> Rewriter<'a> {
         place
     }
 
-    /// Puts the places among those that are to be looked at again from which a window comes to new instructions, the first of which stands at a place, or ends where
-    /// fewer items are live than before.
+    /// Marks for another visit the places from which a window reaches the new instructions, the first of which is at `first`, or ends where fewer items are
+    /// live than before.
     fn look_around(&mut self, new: &[usize], first: usize) {
         self.look_again(first);
         for place in new {
@@ -300,7 +300,7 @@ impl<'a> Rewriter<'a> {
         self.live.shrunk = shrunk;
     }
 
-    /// Puts the places among those that are to be looked at again from which a window comes to a place, which may be gone.
+    /// Marks for another visit the places from which a window reaches a place, which may be removed.
     fn look_again(&mut self, place: usize) {
         let mut at = place as u32;
         for _ in 0..self.rules.longest {
@@ -320,7 +320,7 @@ impl<'a> Rewriter<'a> {
         }
     }
 
-    /// The least place that is to be looked at.
+    /// The least place that is to be visited.
     fn least(&self) -> Option<u32> {
         let waiting = if self.lines < MOST_LINES { self.waiting.least() } else { None };
         let before = self.again.least().into_iter().chain(waiting).min();
@@ -347,7 +347,7 @@ impl<'a> Rewriter<'a> {
     }
 }
 
-/// What is left of a listing that was rewritten.
+/// The remains of a listing that was rewritten.
 struct Left {
     rows: Vec<(Option<WindowInstr>, bool)>,
     next: Vec<u32>,
@@ -357,7 +357,7 @@ struct Left {
 }
 
 impl Left {
-    /// The listing of the lines that are left, of the given one.
+    /// The listing of the remaining lines of the given one.
     fn listing(&self, given: Listing) -> Listing {
         let place = |at: u32| (at != END).then_some(at);
         let kept = std::iter::successors(place(self.first), |at| place(self.next[*at as usize]));
@@ -365,7 +365,7 @@ impl Left {
     }
 }
 
-/// Whether the listing can be laid out from 0; or what a refusal says.
+/// Whether the listing can be laid out from 0; or the refusal.
 fn refusal(listing: &Listing, reach: &Reach) -> Option<String> {
     if reach.is_steady() {
         return None;

@@ -1,5 +1,5 @@
-//! Rewrites a listing by a table. Standard input has the table's text, which is audited, and behind its last line that of the listing; the new listing goes to
-//! standard output. Tells on standard error: the microseconds of rewriting, those of reading both, rewriting and printing, how many windows were replaced,
+//! Rewrites a listing by a table. Standard input has the table, which is audited, followed by the listing; the new listing goes to standard output. Prints on
+//! standard error: the microseconds of rewriting, those of reading both, rewriting and printing, how many windows were replaced,
 //! and how many instructions there were before and after. In Rattle; rewriting.sh builds it.
 #![tactic(auto)]
 
@@ -13,7 +13,7 @@ use step_ledger::{Counted, Ledger, Steps};
 use table_audit::{Audited, audit};
 use window_rewrite::{Rewritten, rewrite};
 
-/// How many bytes the table's text has.
+/// The length of the table in bytes.
 fn end_of_table(text: &[u8]) -> usize
     ensures { result ≤ length text.now }
 {
@@ -36,7 +36,7 @@ fn instruction_count(lines: &[ListingLine]) -> u64 {
     count
 }
 
-/// Rewrites the listing of a text by an audited table, whose text was read in so many microseconds.
+/// Rewrites the listing of a text by an audited table, which was read in the given microseconds.
 fn rewriting<L: Ledger>(
     rt: &HostRuntime,
     table: &Audited,

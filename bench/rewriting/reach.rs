@@ -1,12 +1,12 @@
-//! Whether a listing that is being rewritten can be laid out. Where each mention stays in reach whichever instructions give way to fewer, it is looked at once; otherwise
-//! a layout is kept, and what moves is looked at for each replacement, up to where an alignment takes up what went.
+//! Whether a listing that is being rewritten can be laid out. If each mention stays in reach whichever instructions are replaced by fewer, it is checked once;
+//! otherwise a layout is kept, and for each replacement what moves is checked, up to where an alignment absorbs the change.
 
 use crate::instruction::Instr;
 use crate::layout::{aim_fault, size};
 use crate::line::{Mention, Statement};
 use crate::listing::{Listing, Meaning};
 
-/// Where a line begins in the widest layout, and whether that is a multiple of 4 in each.
+/// Where a line begins in the longest layout, and whether that is a multiple of 4 in every layout.
 #[derive(Clone, Copy)]
 struct Start {
     at: u32,
@@ -28,15 +28,15 @@ enum Target {
     Address(u32),
 }
 
-/// Lines of which the first alone may have labels, mention a name or align.
+/// Lines of which only the first may have labels, mention a name or align.
 struct Block {
     at: u32,
     head: Head,
-    /// How many bytes it takes, its padding aside.
+    /// How many bytes it takes, without its padding.
     bytes: u32,
     /// The blocks that begin with an instruction that mentions its label.
     callers: Vec<usize>,
-    /// What 4 and the sizes of all alignments from here on divide.
+    /// The greatest of 4 and the sizes of all alignments from here on.
     alignment: u32,
 }
 
@@ -57,14 +57,14 @@ impl Block {
 pub struct Reach {
     is_steady: bool,
     blocks: Vec<Block>,
-    /// The number of the block in which each line stands.
+    /// The number of each line's block.
     numbers: Vec<usize>,
-    /// The blocks from this one on lie so many bytes before where they were noted.
+    /// The blocks from this one on are at addresses lower than noted by a number of bytes.
     border: usize,
     shift: u32,
-    /// The blocks whose mention may come out of reach by coming nearer.
+    /// The blocks whose mention may get out of reach by coming nearer.
     loose: Vec<usize>,
-    /// The new addresses of the blocks that move by themselves, and by how many bytes those behind move.
+    /// The new addresses of the blocks that move separately, and by how many bytes those after them move.
     moved: Vec<u32>,
     by: u32,
 }
@@ -73,7 +73,7 @@ fn is_literal(instr: Instr) -> bool {
     matches!(instr, Instr::Literal { .. } | Instr::Address { .. })
 }
 
-/// Where the line behind a statement begins.
+/// Where the line after a statement begins.
 fn behind(here: Start, statement: &Statement) -> Start {
     match statement {
         Statement::Aligns { size, most } => Start { at: here.at + (size - 1).min(*most), aligned: size % 4 == 0 && size - 1 <= *most },
@@ -85,7 +85,7 @@ fn behind(here: Start, statement: &Statement) -> Start {
     }
 }
 
-/// The number of the block in which each line stands.
+/// The number of each line's block.
 fn numbers(listing: &Listing) -> Vec<usize> {
     let mut number = 0;
     let begins = |statement: &Statement| matches!(statement, Statement::Aligns { .. } | Statement::Runs { mention: Some(_), .. });
@@ -134,7 +134,7 @@ fn blocks(listing: &Listing, base: u32, numbers: &[usize]) -> Vec<Block> {
     all
 }
 
-/// The blocks whose mention may come out of reach by coming nearer: of an address, or by a literal of a label that isn't behind it.
+/// The blocks whose mention may get out of reach by coming nearer: of an address, or by a literal of a label that isn't after it.
 fn loose(blocks: &[Block]) -> Vec<usize> {
     let is_loose = |(number, block): (usize, &Block)| match block.head {
         Head::Aims { to: Some(Target::Address(_)), .. } => Some(number),
@@ -144,7 +144,7 @@ fn loose(blocks: &[Block]) -> Vec<usize> {
     blocks.iter().enumerate().filter_map(is_loose).collect()
 }
 
-/// Whether each mention stays in reach whichever instructions give way to fewer.
+/// Whether each mention stays in reach whichever instructions are replaced by fewer.
 pub fn is_steady(listing: &Listing, base: u32) -> bool {
     let mut starts = Vec::with_capacity(listing.lines.len());
     let mut here = Start { at: base, aligned: true };
@@ -184,7 +184,7 @@ impl Reach {
         self.blocks[number].at - if number < self.border { 0 } else { self.shift }
     }
 
-    /// Where a block begins once one has moved what is behind it.
+    /// Where a block begins once another one has moved what follows it.
     fn moved(&self, here: usize, number: usize) -> u32 {
         match number.checked_sub(here + 1) {
             None => self.start(number),
@@ -192,7 +192,7 @@ impl Reach {
         }
     }
 
-    /// Whether what a block begins with is in reach then.
+    /// Whether what a block's first line mentions is in reach then.
     fn reaches(&self, here: usize, number: usize) -> bool {
         let Head::Aims { instr, plus, to: Some(to) } = self.blocks[number].head else { return true };
         let to = match to {
@@ -202,7 +202,7 @@ impl Reach {
         aim_fault(self.moved(here, number), instr, to, plus).is_none()
     }
 
-    /// Moves what is behind a block that takes so many bytes fewer, up to where all that is behind moves alike.
+    /// Moves what follows a block that shrinks by a number of bytes, up to where everything after moves alike.
     fn walk(&mut self, here: usize, bytes: u32) {
         self.moved.clear();
         self.by = 0;
@@ -218,7 +218,7 @@ impl Reach {
         }
     }
 
-    /// Takes so many bytes from a line's block where no mention comes out of reach, and tells whether none does.
+    /// Shrinks a line's block by a number of bytes if no mention gets out of reach, and returns whether none does.
     pub fn gives_way(&mut self, line: usize, bytes: u32) -> bool {
         let here = self.numbers[line];
         self.walk(here, bytes);

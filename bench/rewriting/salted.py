@@ -1,7 +1,7 @@
 #!/usr/bin/env python3
-"""Puts so many windows into a listing that may be replaced: as many behind each function's label, where no branch or literal comes nearer to its reach and no
-flag is live. With a table they are the left sides of those of its entries whose right side names a register more, or, where it has families, of these with values
-of their ranges. Use: salted.py WINDOWS [TABLE] < listing > salted"""
+"""Adds WINDOWS windows that may be replaced to a listing: equally many after each function's label, where no branch or literal comes nearer to its limit and no
+flag is live. With a table they are the left sides of its entries whose right side names one more register or, if it has families, those of the families
+with values of their ranges. Use: salted.py WINDOWS [TABLE] < listing > salted"""
 import re
 import sys
 
@@ -9,7 +9,7 @@ TYPE = re.compile(r"\s*\.type\s+([^\s,]+)\s*,\s*%function")
 
 
 def window(number):
-    """A window in the register r0 to r7, of one of three kinds."""
+    """A window in one of r0 to r7, of one of three kinds."""
     d = f"r{number % 8}"
     return [
         [f"lsls {d}, {d}, #24", f"lsrs {d}, {d}, #24"],
@@ -27,7 +27,7 @@ def last_register(texts):
 
 
 def raised(entries, family):
-    """The left side of a family, as a function from a number to the texts with a value of the range."""
+    """The left side of a family, as a function from a number to its texts with a value of the range."""
     entry, held, low, high = map(int, family.split())
     left = sides(entries[entry - 1], "left ")
     hole = re.compile(rf"^((?:movs|cmp|adds|subs) r\d, #){held}$")
@@ -35,7 +35,7 @@ def raised(entries, family):
 
 
 def windows_of(table):
-    """The left sides of a table's families, or else those whose right sides name a register more, as a function from a number to one of them in some of r0 to r7."""
+    """The left sides of a table's families, or else those whose right sides name one more register: a function from a number to one of them over r0 to r7."""
     with open(table, encoding="ascii") as file:
         text = file.read()
     entries, families = text.split("entry\n")[1:], [line.removeprefix("family ") for line in text.split("\n") if line.startswith("family ")]

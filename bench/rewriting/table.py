@@ -1,5 +1,5 @@
 #!/usr/bin/env python3
-"""Cuts a table to so many entries: those that are shortened, and the first ones of the others. Use: table.py ENTRIES < table > cut"""
+"""Cuts a table to ENTRIES entries: those that shorten their left side, and the first of the others. Use: table.py ENTRIES < table > cut"""
 import sys
 
 

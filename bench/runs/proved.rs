@@ -1,9 +1,9 @@
-//! Runs the top call once for each line of standard input, over a store and a sink in memory, and tells on standard output what comes of each. In Rattle;
+//! Runs the top call once for each line of standard input, over a store and a sink in memory, and prints the results on standard output. In Rattle;
 //! faults.sh and fuzz.sh build it.
 //!
-//! A line is TABLE LISTING CALL PUT WORD .., parted by blanks: the texts held as `t` and `l`, each an `x` and hexadecimal digits; the numbers of the store's
-//! call and of the sink's put that fail, 0 for none; and the words. What is told is STATUS MICROSECONDS STEPS PRINTED, then what is held as `t`, `l`, `o` and
-//! `i`: `-` for nothing, `=` for a text as it was, else an `x` and hexadecimal digits.
+//! A line is TABLE LISTING CALL PUT WORD .., separated by blanks: the contents of `t` and `l`, each an `x` and hexadecimal digits; the numbers of the store's
+//! call and of the sink's put that fail, 0 for none; and the words. The answer is STATUS MICROSECONDS STEPS PRINTED, then the contents of `t`, `l`, `o` and
+//! `i`: `-` for nothing, `=` for an unchanged text, else an `x` and hexadecimal digits.
 #![tactic(auto)]
 
 use audit_cli::peep;
@@ -54,7 +54,7 @@ fn run_of(alloc: Global, line: &str) -> anyhow::Result<Run> {
     })
 }
 
-/// What is told of a text that was so before.
+/// The answer for a text, compared with what it was before.
 fn told(alloc: Global, held: Option<&[u8]>, before: &[u8]) -> anyhow::Result<String> {
     match held {
         None => Ok(String::from_str(alloc, "-")?),
@@ -66,7 +66,7 @@ fn told(alloc: Global, held: Option<&[u8]>, before: &[u8]) -> anyhow::Result<Str
     }
 }
 
-/// Runs what a line asks for, and tells what comes of it.
+/// Runs what a line asks for, and returns the answer.
 fn report(rt: &HostRuntime, run: &Run) -> anyhow::Result<String> {
     let alloc = rt.alloc();
     let mut held = Vec::new(alloc);

@@ -1,4 +1,4 @@
-//! Walks through the sequences of an alphabet, as the proved crate numbers them.
+//! Walks through the sequences of an alphabet in the proved crate's order.
 use std::time::Instant;
 
 #[derive(Clone, Copy)]
@@ -31,7 +31,7 @@ fn encode(instr: &Instr) -> u16 {
     }
 }
 
-/// The registers and numbers of an instruction.
+/// The registers and numbers of an instruction, packed into one number.
 fn numbers(instr: &Instr) -> u64 {
     let of = |first: u8, second: u8, third: u8| u64::from(first) << 16 | u64::from(second) << 8 | u64::from(third);
     match *instr {
@@ -103,7 +103,7 @@ fn alphabet(k: u8, pool: &[u8]) -> Vec<Instr> {
     all
 }
 
-/// Goes on to the next sequence: the digits of its instructions, the last counting fastest.
+/// Advances to the next sequence: the digits are its instructions, and the last one counts fastest.
 fn next(places: &mut Vec<usize>, word: &mut Vec<Instr>, instrs: &[Instr]) {
     for at in (0..places.len()).rev() {
         places[at] += 1;

@@ -1,6 +1,6 @@
 #!/usr/bin/env python3
-"""Checks what a solver printed of a formula: each clause has a literal of the model; or each line of the log is accepted by `lrat_check` and by a second
-checker, adds a clause that contains none before, and is the empty clause in the last line of a refutation alone.
+"""Checks a solver's output for a formula: each clause has a literal of the model; or each line of the log is accepted by `lrat_check` and by a second
+checker, no added clause contains an earlier one, and only the last line of a refutation adds the empty clause.
 
 Use: checked.py FOLDER FORMULA PRINTED, where the program that runs `lrat_check` is built in FOLDER, outside the repository."""
 import pathlib

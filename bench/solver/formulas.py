@@ -1,7 +1,7 @@
 #!/usr/bin/env python3
-"""Writes formulas in DIMACS for the measure of the solver: FOLDER/NAME.cnf each. Use: formulas.py FOLDER
+"""Writes formulas in DIMACS for the measure of the solver, each as FOLDER/NAME.cnf. Use: formulas.py FOLDER
 
-Those of two sequences of instructions are read by the description in `formulas.py` of the folder above: no model where the sequences leave the same in
+Those of two sequences of instructions are made with `formulas.py` of the folder above: they have no model if the sequences leave the same in
 the named registers and flags."""
 import pathlib
 import sys
@@ -42,22 +42,22 @@ def two(name, d, m):
 
 # name, left side, right side, registers, flags
 SIDES = [
-    # seven times a number, by a product and by a shift and a difference
+    # seven times a number, by a product, and by a shift and a difference
     ("product", [movs(1, 7), two("muls", 0, 1)], [lsls(1, 0, 3), subs(0, 1, 0)], [0], ""),
     # three numbers summed in another order, and with the flags of the last sum
     ("sums", [adds(0, 0, 1), adds(0, 0, 2)], [adds(1, 1, 2), adds(0, 0, 1)], [0], "nz"),
     ("sums_with_carry", [adds(0, 0, 1), adds(0, 0, 2)], [adds(1, 1, 2), adds(0, 0, 1)], [0], "nzcv"),
-    # windows that gcc wrote, beside others: a product by 2^25 - 3, halves of a number with its sign, one that rounds otherwise, and a union of bits
+    # windows that gcc wrote, and alternatives: a product by 2^25 - 3, halves of a signed number, one that rounds differently, and a union of bits
     ("factor", [lsls(0, 1, 23), subs(0, 0, 1), lsls(0, 0, 2), adds(0, 0, 1)], [lsls(0, 1, 25), subs(0, 0, 1), subs(0, 0, 1), subs(0, 0, 1)], [0], ""),
     ("halves", [lsrs(2, 1, 31), adds(2, 2, 1), asrs(2, 2, 1)], [asrs(2, 1, 31), subs(2, 1, 2), asrs(2, 2, 1)], [2], "nz"),
     ("halves_rounded", [lsrs(2, 1, 31), adds(2, 2, 1), asrs(2, 2, 1)], [asrs(2, 1, 1)], [2], ""),
     ("union", [two("bics", 3, 1), adds(3, 3, 1), lsrs(2, 3, 2)], [two("orrs", 3, 1), lsrs(2, 3, 2)], [2, 3], "nzc"),
     # the absolute value in two ways
     ("absolute", [asrs(1, 0, 31), adds(0, 0, 1), two("eors", 0, 1)], [asrs(1, 0, 31), two("eors", 0, 1), subs(0, 0, 1)], [0], ""),
-    # a mean without overflow, and one with it
+    # a mean without overflow, and one with overflow
     ("mean", [two("eors", 2, 2), two("orrs", 2, 0), two("ands", 2, 1), two("eors", 0, 1), lsrs(0, 0, 1), adds(0, 0, 2)],
      [adds(0, 0, 1), lsrs(0, 0, 1)], [0], ""),
-    # a product of any two numbers, and one of two numbers that are given
+    # a product of any two numbers, and one of two given numbers
     ("factors", [two("muls", 0, 1)], [movs(2, 97), movs(3, 89), two("muls", 2, 3), adds(0, 2, 0), subs(0, 0, 1)], [0], ""),
 ]
 

@@ -1,5 +1,5 @@
-//! The solver as plain Rust, for a comparison of speed: it reads a formula in DIMACS on standard input, prints what the program of `proved.rs` prints, and
-//! tells on standard error the microseconds of the search and the conflicts.
+//! The solver in plain Rust, for a comparison of speed: it reads a formula in DIMACS on standard input, prints what the program of `proved.rs` prints, and
+//! on standard error the microseconds of the search and the conflicts.
 
 #[path = "../plain_solver.rs"]
 mod plain_solver;

@@ -1,4 +1,4 @@
-//! Solves the formula in DIMACS on standard input with the proved solver, prints the model or the log, and tells on standard error the microseconds of the
+//! Solves the formula in DIMACS on standard input with the proved solver, prints the model or the log, and on standard error the microseconds of the
 //! search and the conflicts. In Rattle; solver.sh builds it.
 #![tactic(auto)]
 

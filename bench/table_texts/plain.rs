@@ -1,5 +1,5 @@
-//! Tables as plain Rust, for a comparison of speed: reads a table's text from standard input and writes it back to standard output.
-//! Tells on standard error what the proved program tells.
+//! Tables in plain Rust, for a comparison of speed: reads a table from standard input and writes it back to standard output.
+//! Prints on standard error what the proved program prints.
 
 #[path = "../plain_costs.rs"]
 mod plain_costs;

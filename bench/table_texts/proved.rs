@@ -1,5 +1,5 @@
-//! Reads a table's text from standard input with the proved crates and writes it back to standard output.
-//! Tells on standard error: the microseconds of reading, those of writing, and the number of entries; or the line that is refused.
+//! Reads a table from standard input with the proved crates and writes it back to standard output.
+//! Prints on standard error: the microseconds of reading, those of writing, and the number of entries; or the refused line.
 #![tactic(auto)]
 
 use rule_table::{TableError, read_table, write_table};

@@ -1,5 +1,5 @@
-//! Where branches go, and the ends of chains. A label is known by its line, since those of one line stand at one place and lie at one address. Each branch is in
-//! the list of the place that it goes to; when a place goes, its list joins that of the next one. The end of a chain is noted for each branch on the way to it.
+//! Where branches go, and the ends of chains. A label is identified by its line, as those of one line are at one place and address. Each branch is in
+//! the list of its target place; when a place is removed, its list joins that of the next one. The end of a chain is cached for each branch on the way to it.
 
 use crate::instruction::Instr;
 use crate::kept::Kept;
@@ -14,7 +14,7 @@ pub struct Aim {
     pub named: u32,
 }
 
-/// The end of the chain that goes on with a branch: not known, none as it goes round, or a label.
+/// The end of the chain that continues with a branch: not known, none as it is a cycle, or a label.
 #[derive(Clone, Copy)]
 enum End {
     Unknown,
@@ -22,7 +22,7 @@ enum End {
     At(Aim),
 }
 
-/// The branches to one place, in a list.
+/// The list of the branches to one place.
 #[derive(Clone, Copy)]
 struct Links {
     next: u32,
@@ -31,16 +31,16 @@ struct Links {
 
 const NO_LINK: u32 = u32::MAX;
 
-/// The most branches that are gone through one by one whose chains' ends change. Where there are more, those are looked at that lie near.
+/// The most branches with changed chain ends that are handled one by one. If there are more, those near the old and new ends are checked.
 const FEW: usize = 256;
 
 pub struct Chains<'a> {
     listing: &'a Listing,
-    /// Of each place the label of its branch, and whether that has no condition.
+    /// For each place the label of its branch, and whether that is unconditional.
     aims: Vec<Option<Aim>>,
     is_always: Vec<bool>,
     ends: Vec<End>,
-    /// The first and the last branch to each place, and what is before and behind each branch.
+    /// The first and the last branch to each place, and each branch's predecessor and successor in the list.
     callers: Vec<(u32, u32)>,
     links: Vec<Links>,
 }
@@ -73,7 +73,7 @@ impl<'a> Chains<'a> {
         chains
     }
 
-    /// The label that the branch at a place goes to.
+    /// The label to which the branch at a place goes.
     pub fn aim(&self, place: usize) -> Option<Aim> {
         self.aims[place]
     }
@@ -82,7 +82,7 @@ impl<'a> Chains<'a> {
         kept.node(self.listing.passed[aim.line as usize] as usize)
     }
 
-    /// Whether a chain goes on at a place.
+    /// Whether a chain continues at a place.
     pub fn is_hop(&self, place: usize) -> bool {
         self.is_always[place] && self.aims[place].is_some()
     }
@@ -123,7 +123,7 @@ impl<'a> Chains<'a> {
         let end = loop {
             match (self.aims[at], self.is_always[at], self.ends[at]) {
                 (Some(aim), true, End::Unknown) => {
-                    // a chain that comes here again goes round
+                    // a chain that comes here again is a cycle
                     self.ends[at] = End::Round;
                     way.push(at);
                     at = self.place(kept, aim);
@@ -139,7 +139,7 @@ impl<'a> Chains<'a> {
         }
     }
 
-    /// Forgets the ends of all chains that come to a place. Where the end of a branch is known, so are those of what is on its way: no others have to be looked at.
+    /// Forgets the ends of all chains through a place. If a branch's end is known, so are those of the branches after it, so no others need a check.
     pub fn forget(&mut self, place: usize) {
         let mut stack = vec![place];
         while let Some(place) = stack.pop() {
@@ -155,7 +155,7 @@ impl<'a> Chains<'a> {
         }
     }
 
-    /// The branches whose chains come to a place, where they are few.
+    /// The branches whose chains pass through a place, if they are few.
     pub fn few_before(&self, place: usize) -> Option<Vec<usize>> {
         let mut found = Vec::new();
         let mut places = vec![place];
@@ -175,7 +175,7 @@ impl<'a> Chains<'a> {
         Some(found)
     }
 
-    /// Gives a branch the label that is the end of its chain.
+    /// Changes the label of a branch to the end of its chain.
     pub fn retarget(&mut self, kept: &mut Kept, place: usize, aim: Aim) {
         if let Some(old) = self.aims[place] {
             self.unlink(kept, place, old);
@@ -184,7 +184,7 @@ impl<'a> Chains<'a> {
         self.link(kept, place, aim);
     }
 
-    /// Takes a place away, before it goes from those that are kept.
+    /// Removes a place, before it is removed from the kept ones.
     pub fn leave(&mut self, kept: &mut Kept, place: usize) {
         if let Some(aim) = self.aims[place] {
             self.unlink(kept, place, aim);

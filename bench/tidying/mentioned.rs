@@ -1,10 +1,10 @@
-//! What the instruction of each line mentions, each name looked up once, and what nothing reaches.
+//! What the instruction of each line mentions, with each name looked up once, and which code is unreachable.
 
 use crate::instruction::Instr;
 use crate::line::Statement;
 use crate::listing::{Listing, Meaning};
 
-/// What a line's instruction mentions: nothing that has an address, a line's label, or an address that is set.
+/// What a line's instruction mentions: nothing with an address, a line's label, or an address that is set.
 #[derive(Clone, Copy)]
 pub enum Mentioned {
     Nowhere,
@@ -36,7 +36,7 @@ pub fn code_label(listing: &Listing, mentioned: &[Mentioned], line: u32) -> Opti
     }
 }
 
-/// Whether what stands behind an instruction is reached where the instruction is. Behind a call it is anyhow.
+/// Whether what follows an instruction is reached if the instruction is. After a call it is reached anyway.
 fn goes_on(instr: Instr) -> bool {
     match instr {
         Instr::Bx { .. } | Instr::Branch => false,
@@ -45,8 +45,8 @@ fn goes_on(instr: Instr) -> bool {
     }
 }
 
-/// Of each place whether an instruction stands there that nothing reaches, and no call. Branches lead to code labels, which are reached anyhow, so what isn't
-/// stands behind no label and no call, and behind nothing reached that goes on: one look at each line in order tells it.
+/// For each place whether it has an unreachable instruction that isn't a call. Branches lead to code labels, which count as reached, so an instruction is
+/// unreachable if it follows no label, no call, and no reached instruction that goes on: one pass over the lines decides it.
 pub fn idle(listing: &Listing) -> Vec<bool> {
     let mut is_idle = vec![false; listing.spots.len()];
     let mut is_reached = false;

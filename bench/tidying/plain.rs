@@ -1,17 +1,18 @@
-//! Tidies a listing in plain Rust, in time that grows as little as is known. Standard input has the listing, and the tidied one goes to standard output. Tells on
-//! standard error the microseconds of tidying, those of reading, tidying and printing, how many changes there were, and how many instructions there were before and
-//! after; or why the listing is refused. Use: plain [BASE [LINES [BYTES]]], the address from which the listing is laid out (0), and the limits.
+//! Tidies a listing in plain Rust, with the least known growth of time. Standard input has the listing, and the tidied one goes to standard output. Prints on
+//! standard error the microseconds of tidying, those of reading, tidying and printing, how many changes there were, and how many instructions there were before
+//! and after; or why the listing is refused. Use: plain [BASE [LINES [BYTES]]], the address from which the listing is laid out (0), and the limits.
 //!
-//! Each place at which a change is possible is due, or it waits for lines while there are as many as there may be; so the least of these places is the one to look
-//! at, and where nothing is possible it is due no more. What makes it due again is what it was refused for, and nothing else can make a change possible:
+//! Each place at which a change is possible is due, or waits for lines while the listing has as many as it may have. So the least of these places is the next
+//! to check, and if nothing is possible it is no longer due. It becomes due again only by a change of what it was refused for; nothing else can make a change
+//! possible:
 //!
-//! - A cause comes only by what goes. The place before it has another next place then. The chains that come to the labels of a branch that goes have other ends
-//!   where it was the last one and the next place's branch doesn't lead on, or the other way round. What is reached never changes, and a branch that gets the end of
-//!   its chain changes no other end.
-//! - A branch out of reach of its end has to come nearer by so many bytes: that is noted, and lowered by all that goes near it.
-//! - What can't go since a mention would be out of reach then is due when bytes go between that mention and what it mentions, when the mention itself goes or
-//!   changes, or when an alignment from there on to what it mentions comes to lie elsewhere.
-//! - Labels stay code labels, and lines get neither more nor longer but by a branch that gets another label: so that alone is held up by the limits.
+//! - A reason for a change arises only by a removal. Then the place before has another next place. The chains that reach the labels of a removed branch have
+//!   other ends if it was the last one and the next place's branch doesn't continue, or the other way round. What is reached never changes, and a branch that
+//!   gets the end of its chain as its label changes no other end.
+//! - A branch out of reach of its chain's end has to come nearer by a number of bytes: this is noted, and lowered by all removals near it.
+//! - What can't be removed because a mention would get out of reach is due again when bytes between that mention and its target are removed, when it is
+//!   removed or changes, or when an alignment from there up to its target moves.
+//! - Labels stay code labels, and only a branch that gets another label adds lines or makes them longer: so the limits can only stop that.
 
 #[path = "../listing_lines/plain/instruction.rs"]
 mod instruction;
@@ -47,22 +48,22 @@ use crate::refusals::Refusals;
 use crate::rooms::Rooms;
 use crate::shared::{own_length, own_text, refusal, run, Setting};
 
-/// Branches are looked at again within so many bytes of where the end of a chain was or is. An alignment may lie between.
+/// Branches are checked again within this many bytes of the old and new ends of a chain. An alignment may lie between.
 const NEAR: u32 = WINDOW + 1024;
 
 struct Tidier<'a> {
     listing: &'a Listing,
     setting: &'a Setting,
     kept: Kept,
-    /// The places where a change may be possible, and those where one is but for the number of lines.
+    /// The places where a change may be possible, and those where only the number of lines prevents one.
     due: Due,
     wait_for_lines: Due,
     is_idle: Vec<bool>,
     chains: Chains<'a>,
     widest: Widest,
-    /// By how many bytes the branch of each block misses the end of its chain, at least, as far as that lies near.
+    /// By how many bytes at least the branch of each block misses the end of its chain, if that is near.
     misses: Rooms,
-    /// The instructions that can't go, by the blocks whose bytes and the alignments whose paddings are to blame.
+    /// The instructions that can't be removed, by the blocks and the alignments whose sizes prevent it.
     by_bytes: Refusals,
     by_paddings: Refusals,
     is_retargeted: Vec<bool>,
@@ -102,12 +103,12 @@ impl<'a> Tidier<'a> {
         self.listing.spots[place].0
     }
 
-    /// Whether a place's line has labels, which stay when what stands behind them changes.
+    /// Whether a place's line has labels, which stay when what follows them changes.
     fn has_labels(&self, place: usize) -> bool {
         !self.is_retargeted[place] && !self.listing.lines[self.line(place) as usize].names.is_empty()
     }
 
-    /// Makes all branches due within reach of a block's first and last byte, and some more.
+    /// Makes all branches due within reach of a block's first and last byte, with a margin.
     fn put_near(&mut self, block: usize) {
         let (from, to) = self.widest.around(block, NEAR);
         for place in (from..to).filter_map(|block| self.widest.place(block)) {
@@ -117,7 +118,7 @@ impl<'a> Tidier<'a> {
         }
     }
 
-    /// Makes the branches due that may come into reach of the ends of their chains by what is about to go.
+    /// Makes the branches due that may come into reach of the ends of their chains by the coming removal.
     fn put_missed(&mut self) {
         if self.misses.is_empty() {
             return;
@@ -132,7 +133,7 @@ impl<'a> Tidier<'a> {
         }
     }
 
-    /// Makes what was refused due again that a change of these may allow: of a block's bytes, or else of an alignment's padding.
+    /// Makes due again what was refused and may become possible by a change of a block's bytes, or else of an alignment's padding.
     fn put_refused(&mut self, block: usize, is_padding: bool) {
         let Tidier { kept, due, by_bytes, by_paddings, .. } = self;
         let refusals = if is_padding { by_paddings } else { by_bytes };
@@ -143,7 +144,7 @@ impl<'a> Tidier<'a> {
         });
     }
 
-    /// The ends of chains change where a branch goes at which one ended and from which one goes on now, or the other way round: those that came to its labels.
+    /// The ends of chains change if a branch is removed at which one ended and the next one continues, or the other way round: those that reached its labels.
     fn leave(&mut self, place: usize, block: usize) {
         let next = self.kept.next[place];
         let change_ends = self.chains.has_callers(place) && self.chains.is_hop(place) != self.chains.is_hop(next);
@@ -154,7 +155,7 @@ impl<'a> Tidier<'a> {
         self.chains.leave(&mut self.kept, place);
         self.kept.leave(place);
         match few {
-            // the branch that went may have led to what came to it
+            // the removed branch may have led to what reached it
             Some(few) => few.into_iter().filter(|place| self.kept.is_kept(*place)).for_each(|place| self.due.put(place)),
             None => {
                 self.put_near(block);
@@ -165,7 +166,7 @@ impl<'a> Tidier<'a> {
         }
     }
 
-    /// Takes the instruction of a place away, where the layout allows it.
+    /// Removes the instruction of a place, if the layout allows it.
     fn remove(&mut self, place: usize) -> bool {
         let line = self.line(place);
         let block = self.widest.block(line);
@@ -192,7 +193,7 @@ impl<'a> Tidier<'a> {
         true
     }
 
-    /// Gives a branch the label of its chain's end, where that is in reach and within the limits.
+    /// Changes a branch's label to its chain's end, if that is in reach and within the limits.
     fn retarget(&mut self, place: usize, end: Aim) -> bool {
         let block = self.widest.block(self.line(place));
         if let Some(by) = self.widest.miss(block, end.line) {
@@ -217,7 +218,7 @@ impl<'a> Tidier<'a> {
         true
     }
 
-    /// Makes the change of a place that is tried soonest, where one is possible.
+    /// Makes the change that is tried first at a place, among the possible ones.
     fn change(&mut self, place: usize) -> bool {
         self.wait_for_lines.take(place);
         let mut is_tried = false;
@@ -253,7 +254,7 @@ impl<'a> Tidier<'a> {
         }
     }
 
-    /// The lines whose instructions changed, each with the branch that stands there now, if one does.
+    /// The lines whose instructions changed, each with its new branch, if it has one.
     fn changed(&self) -> Vec<(usize, Option<Vec<u8>>)> {
         let is_changed = |place: &usize| self.is_retargeted[*place] || !self.kept.is_kept(*place);
         let branch = |place: usize| self.chains.aim(place).filter(|_| self.kept.is_kept(place)).map(|aim| own_text(self.listing, self.line(place), aim.named));

@@ -1,4 +1,4 @@
-//! Tidies a listing. Standard input has it, and the tidied one goes to standard output. Tells on standard error the microseconds of tidying, those of reading,
+//! Tidies the listing on standard input and writes it to standard output. Prints on standard error the microseconds of tidying, those of reading,
 //! tidying and printing, how many changes there were, and how many instructions there were before and after; or why it is refused. In Rattle; tidying.sh builds it.
 #![tactic(auto)]
 

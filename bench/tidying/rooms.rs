@@ -1,12 +1,12 @@
-//! Numbers, of which those of a range are lowered at once, and the first that is low is found. A node of the tree has the least number below it, less what its
-//! own range was lowered by; what the ranges above it were lowered by isn't in it.
+//! A tree of numbers in which a range is lowered at once, and the first low number is found. A node has the least number below it, reduced by what its own
+//! range was lowered by, but not by what the ranges above it were lowered by.
 
-/// Stands where no number is.
+/// The value where there is no number.
 pub const NO_ROOM: i32 = i32::MAX;
 
 pub struct Rooms {
     width: usize,
-    /// None of both as long as no number was put in.
+    /// Both are empty as long as no number was entered.
     least: Vec<i32>,
     lowered: Vec<i32>,
 }
@@ -47,7 +47,7 @@ impl Rooms {
         }
     }
 
-    /// Lowers all from one up to before another.
+    /// Lowers all numbers from one index up to before another.
     pub fn lower(&mut self, from: usize, to: usize, by: i32) {
         if !self.is_empty() {
             self.lower_in(1, (0, self.width), (from, to), by);
@@ -74,7 +74,7 @@ impl Rooms {
         self.least.get(1).is_none_or(|room| *room == NO_ROOM)
     }
 
-    /// The first that is below a number.
+    /// The first index whose number is below a given one.
     pub fn first_below(&self, room: i32) -> Option<usize> {
         let mut below = i64::from(room);
         if self.is_empty() || i64::from(self.least[1]) >= below {

@@ -1,7 +1,7 @@
 #!/usr/bin/env python3
-"""Writes a listing of some shape that is tidied, of about N lines. Use: shapes.py SHAPE N > listing.s, or without words: the shapes, each with the N that it is
-measured at, which may be doubled; or shapes.py --random FOLDER COUNT [SEED]: random listings, a file for each, with chains, idle code, literals that nothing
-aligns, alignments that grow, addresses that are set, and branches that are chosen to go as far as they reach."""
+"""Writes a listing of some shape to be tidied, of about N lines. Use: shapes.py SHAPE N > listing.s, or without arguments: the shapes, each with the N at which
+it is measured, which may be doubled; or shapes.py --random FOLDER COUNT [SEED]: random listings, a file for each, with chains, idle code, unaligned
+literals, alignments that grow, addresses that are set, and branches that often go as far as they can."""
 import random
 import sys
 
@@ -9,7 +9,7 @@ CONDITIONS = ["eq", "ne", "cs", "cc", "mi", "pl", "vs", "vc", "hi", "ls", "ge", 
 
 
 def mixed(n):
-    """Functions of 21 lines with six changes of all three kinds: branches to the next place, branches to branches, and what stands behind returns."""
+    """Functions of 21 lines with six changes of all three kinds: branches to the next place, branches to branches, and code after returns."""
     for i in range(n // 21):
         yield from (f"f{i}:", "\tcmp\tr0, #0", f"\tbeq\ta{i}", "\tadds\tr0, #1", f"\tb\tc{i}", "\tmovs\tr1, #2", "\tmovs\tr2, #3")
         yield from (f"a{i}:", f"\tb\td{i}", f"c{i}:", "\tldr\tr1, w%d" % i, f"\tbne\te{i}", f"e{i}:", "\tadds\tr1, #1", f"d{i}:", "\tbx\tlr", "\tnop", "\tnop")
@@ -24,7 +24,7 @@ def each_next(n):
 
 
 def each_next_if(n):
-    """The same with conditions, and what is reached by each is at one place in the end."""
+    """The same with conditions; in the end all their targets are at one place."""
     for i in range(n):
         yield f"a{i}:\tb{CONDITIONS[i % 14]}\ta{i + 1}"
     yield from (f"a{n}:", "\tbx\tlr")
@@ -38,7 +38,7 @@ def chains(n):
 
 
 def far_chain(n):
-    """A chain of branches whose end only the last of them reach."""
+    """A chain of branches whose end only the last of them can reach."""
     yield "a0:\tbx\tlr"
     yield from ("\t.word\t0" for _ in range(510))
     yield from (f"a{k}:\tb\ta{k - 1}" for k in range(1, n))
@@ -53,7 +53,7 @@ def idle_in_chain(n):
 
 
 def far_chain_and_next(n):
-    """A chain that stays, and in it branches to the next place, with whose labels chains end."""
+    """A chain that stays, and in it branches to the next place at whose labels chains end."""
     yield "a0:\tbx\tlr"
     yield from ("\t.word\t0" for _ in range(510))
     for k in range(1, n // 5):
@@ -61,7 +61,7 @@ def far_chain_and_next(n):
 
 
 def turning_end(n):
-    """A label from which a chain goes on and doesn't, in turn, as the branches behind it go, with branches to it that stay."""
+    """A label at which a chain alternately ends and goes on as the branches after it are removed, with branches to it that stay."""
     for k in range(400):
         yield f"a{k}:\tb\tb{k}"
     for k in range(400):
@@ -78,14 +78,14 @@ def idle(n):
 
 
 def unaligned(n):
-    """Idle code before a literal that nothing aligns, of which only what is four bytes long may go."""
+    """Idle code before an unaligned literal, of which only what is four bytes long may be removed."""
     for _ in range(n // 2):
         yield from ("\tnop", "\tdsb")
     yield from ("a:\tldr\tr0, w", "\tbx\tlr", "w:\t.word\t1")
 
 
 def held(n):
-    """Idle code before alignments, across each of which a branch reaches no further."""
+    """Idle code before alignments, with a branch across each alignment that is at the end of its reach."""
     for i in range(n // 134):
         yield from (f"a{i}:\tb\td{i}", "\tnop", "\tnop", "\t.align\t2", f"d{i}:\tbeq\te{i}")
         yield from ["\tadds\tr0, #1"] * 64
@@ -110,7 +110,7 @@ SHAPES = [
 
 
 class Writer:
-    """A random listing: items are texts with sizes, labels, words and alignments. Branches and literal loads get their labels once all lies somewhere."""
+    """A random listing: items are texts with sizes, labels, words and alignments. Branches and literal loads get their labels once all addresses are known."""
 
     def __init__(self, rng):
         self.rng = rng
@@ -165,7 +165,7 @@ class Writer:
             self.put("align", rng.choice(self.sizes), rng.choice([None, None, 1, 2, 3, 6]))
 
     def laid(self, base):
-        """The address of each item, and of each name, the code labels apart."""
+        """The address of each item, of each code label, and of each name of words."""
         at, found, code, words, waits = base, [], {}, {}, []
         for kind, *item in self.items:
             found.append(at)
@@ -185,7 +185,7 @@ class Writer:
         return found, code, words
 
     def chosen(self, at, code, reach):
-        """A code label within reach of a branch, often the furthest."""
+        """A code label within reach of a branch, often the farthest."""
         found = [name for name, to in code.items() if -reach <= to - at - 4 < reach]
         if not found:
             return None
@@ -215,7 +215,7 @@ class Writer:
         lines = [f".set set, {max(0, self.rng.choice(far) // 2 * 2)}"] if far else []
         for (kind, *item), at in zip(self.items, found):
             if kind == "label":
-                # a label of its own line, or of the next one's
+                # a label on its own line, or on the next one's
                 lines.append(f"{item[0]}:")
                 if item[0] not in code:
                     lines[-1] = "\t@ no code"

@@ -1,4 +1,4 @@
-//! What both plain programs that tidy share: what is given to them, a branch's own line, and what is told.
+//! What the two plain tidying programs share: their input, the line of a branch, and their output.
 
 use crate::instruction::{Condition, Instr};
 use crate::layout::{layout, Fault, LayoutError};
@@ -8,7 +8,7 @@ use std::hint::black_box;
 use std::io::{self, Read, Write};
 use std::time::Instant;
 
-/// The address from which a listing is laid out, and how many lines it may have, and how many bytes a line without its newline.
+/// The address from which a listing is laid out, the most lines that it may have, and the most bytes of a line without its newline.
 pub struct Setting {
     pub base: u32,
     pub lines: usize,
@@ -35,7 +35,7 @@ fn mnemonic(instr: Instr) -> &'static str {
     }
 }
 
-/// A line's mnemonic, where it is a branch's, and the name that another one mentions.
+/// The mnemonic of a line's branch, and the name that another line mentions.
 fn words(listing: &Listing, line: u32, named: u32) -> (&'static str, &[u8]) {
     let of = |line: u32| match &listing.lines[line as usize].statement {
         Statement::Runs { instr, mention: Some(mention) } => (mnemonic(*instr), mention.name.as_slice()),
@@ -44,14 +44,14 @@ fn words(listing: &Listing, line: u32, named: u32) -> (&'static str, &[u8]) {
     (of(line).0, of(named).1)
 }
 
-/// The line of a line's branch that goes to what another one mentions.
+/// The line of a line's branch, redirected to what another line mentions.
 pub fn own_text(listing: &Listing, line: u32, named: u32) -> Vec<u8> {
     let (mnemonic, name) = words(listing, line, named);
     [b"\t", mnemonic.as_bytes(), b" ", name, b"\n"].concat()
 }
 
 /// How many bytes that line has, without its newline.
-// the slow program counts them
+// unused in the slow program, which counts the bytes of whole lines
 #[allow(dead_code)]
 pub fn own_length(listing: &Listing, line: u32, named: u32) -> usize {
     let (mnemonic, name) = words(listing, line, named);
@@ -62,7 +62,7 @@ fn instruction_count(listing: &Listing) -> usize {
     listing.lines.iter().filter(|line| matches!(line.statement, Statement::Runs { .. })).count()
 }
 
-/// What a refusal of a listing says that can't be laid out.
+/// The refusal of a listing that can't be laid out.
 pub fn refusal(listing: &Listing, base: u32) -> Option<String> {
     match layout(listing, base) {
         Ok(_) => None,
@@ -81,7 +81,7 @@ fn kind_number(kind: Kind) -> u32 {
     }
 }
 
-/// Tidies what standard input has, and tells what came of it.
+/// Tidies the listing on standard input, and reports the results.
 pub fn run(tidied: impl FnOnce(Listing, &Setting) -> Result<(Listing, u64), String>) -> io::Result<()> {
     let numbers: Vec<usize> = std::env::args().skip(1).filter_map(|word| word.parse().ok()).collect();
     let number = |n: usize, usual: usize| numbers.get(n).copied().unwrap_or(usual);

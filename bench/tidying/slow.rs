@@ -1,4 +1,4 @@
-//! Tidies a listing by the definition, in plain Rust: while a change is possible, the first is made, and all is worked out anew. Input, output and words are those
+//! Tidies a listing in plain Rust, following the definition: while a change is possible, the first is made, and all is recomputed. Input and output are those
 //! of plain.rs.
 
 #[path = "../listing_lines/plain/instruction.rs"]
@@ -30,7 +30,7 @@ fn statement(listing: &Listing, place: usize) -> &Statement {
     &listing.lines[listing.spots[place].0 as usize].statement
 }
 
-/// Of each place whether an instruction stands there that nothing reaches, and no call.
+/// For each place whether it has an unreachable instruction that isn't a call.
 fn idle(listing: &Listing) -> Vec<bool> {
     let flows = Flows::of(listing);
     let mut is_reached = flows.is_point;
@@ -56,7 +56,7 @@ fn is_op(listing: &Listing, place: usize) -> bool {
     place < listing.spots.len() && matches!(statement(listing, place), Statement::Runs { .. })
 }
 
-/// The code label that the branch at a place goes to.
+/// The code label to which the branch at a place goes.
 fn aim(listing: &Listing, place: usize, with_condition: bool) -> Option<Aim> {
     let Statement::Runs { instr, mention: Some(mention) } = statement(listing, place) else { return None };
     if !(matches!(instr, Instr::Branch) || with_condition && matches!(instr, Instr::BranchIf(_))) {
@@ -83,7 +83,7 @@ fn copied(given: &Line) -> Line {
     line(&given.text).expect("a line")
 }
 
-/// The listing with another line in place of the instruction at a place, or none.
+/// The listing with another line, or none, in place of the instruction at a place.
 fn with(listing: &Listing, place: usize, new: Option<Vec<u8>>) -> Listing {
     let changed = listing.spots[place].0 as usize;
     let mut lines = Vec::new();
@@ -118,7 +118,7 @@ fn is_fit(old: &Listing, new: &Listing, setting: &Setting) -> bool {
         && new.lines.iter().all(|line| length(line) <= setting.longest)
 }
 
-/// The listing after the change of a place that is tried soonest.
+/// The listing after the change that is tried first at a place.
 fn changed_at(listing: &Listing, is_idle: bool, place: usize, setting: &Setting) -> Option<Listing> {
     let fit = |new: Listing| is_fit(listing, &new, setting).then_some(new);
     let to = aim(listing, place, true);

@@ -1,6 +1,6 @@
-//! A layout that is kept while instructions go and branches get other labels. Lines are in blocks, of which the first alone may have labels, mention a name or
-//! align. What goes moves all that lies behind to the front, from one alignment that takes notice to the next; of what is mentioned only that is looked at which
-//! can come out of reach then: mentions across an alignment that grows, labels of literals, and addresses that are set.
+//! A layout that is kept while instructions are removed and branches get other labels. Lines are in blocks, of which only the first may have labels, mention a
+//! name or align. A removal moves all that follows to the front, from one affected alignment to the next. Only those mentions are checked that can get out of
+//! reach then: mentions across an alignment that grows, labels of literals, and addresses that are set.
 
 use crate::instruction::Instr;
 use crate::kept::Due as Marks;
@@ -11,13 +11,13 @@ use crate::mentioned::Mentioned;
 use crate::refusals::Refused;
 use crate::rooms::{Rooms, NO_ROOM};
 
-/// Blocks are in groups of so many, each with how far all of it has moved.
+/// The size of a group of blocks, each with how far all of it has moved.
 const GROUP: usize = 512;
 
-/// No mention of a label reaches further, in bytes, but that of a call.
+/// The longest reach of a mention of a label, in bytes, except for calls.
 const REACH: u32 = 2052;
 
-/// A branch out of reach is looked at again by what goes within so many bytes of it.
+/// A branch out of reach is checked again after removals within this many bytes of it.
 pub const WINDOW: u32 = 3072;
 
 const NO_PLACE: u32 = u32::MAX;
@@ -35,7 +35,7 @@ enum Head {
     Aims { instr: Instr, plus: u32, to: Target },
 }
 
-/// Where all blocks lie.
+/// The addresses of all blocks.
 struct Starts {
     at: Vec<u32>,
     moved: Vec<u32>,
@@ -46,7 +46,7 @@ impl Starts {
         self.at[block] - self.moved[block / GROUP]
     }
 
-    /// The first block at an address or behind it.
+    /// The first block at an address or after it.
     fn first_from(&self, address: u32) -> usize {
         let (mut least, mut most) = (0, self.at.len());
         while least < most {
@@ -60,7 +60,7 @@ impl Starts {
         least
     }
 
-    /// Moves the blocks from one up to before another by so many bytes to the front.
+    /// Moves the blocks from one up to before another to the front by a number of bytes.
     fn shift(&mut self, from: usize, to: usize, by: u32) {
         let (first, last) = (from.div_ceil(GROUP), to / GROUP);
         if first >= last {
@@ -73,14 +73,14 @@ impl Starts {
     }
 }
 
-/// Blocks from the first up to before the next such move by so many bytes to the front.
+/// A move: the blocks from the first up to before the next move move to the front by a number of bytes.
 #[derive(Clone, Copy)]
 struct Move {
     first: usize,
     by: u32,
 }
 
-/// Why a change was refused, as blocks from a first to a last one: what goes from those between a mention and what it mentions may allow it, and so may an alignment
+/// Why a change was refused, as blocks from a first to a last one: removals from those between a mention and its target may allow it, and so may an alignment
 /// that moves between these and the change.
 pub struct Refusal {
     pub bytes: Refused,
@@ -95,26 +95,26 @@ fn refusal(here: usize, from: usize, to: usize) -> Refusal {
 pub struct Widest {
     heads: Vec<Head>,
     starts: Starts,
-    /// The block of each line, and the place of the instruction that mentions what its block begins with.
+    /// The block of each line, and the place of the instruction with each block's mention.
     numbers: Vec<u32>,
     places: Vec<u32>,
-    /// The blocks that mention a label, and those that call one, which matter where calls may be out of reach.
+    /// The blocks that mention a label, and those that call one, which matter if calls can be out of reach.
     mentions: Marks,
     calls: Vec<usize>,
-    /// By how many literals the label of each block is mentioned, and the blocks whose label is.
+    /// How many literals mention the label of each block, and the blocks whose label is mentioned so.
     literal_counts: Vec<u32>,
     literals: Marks,
-    /// For each power of 2 and each block the least one at or behind it that aligns to a greater number.
+    /// For each power of 2 and each block the least one at or after it that aligns to a greater number.
     aligned: [Vec<u32>; 9],
     /// The blocks that mention an address that is set, in order, and by how many bytes each may still move to the front.
     set: Vec<usize>,
     rooms: Rooms,
     moves: Vec<Move>,
-    /// What the change that was asked for last does: the blocks that it makes shorter, each with by how many bytes,
+    /// What the last requested change does: the blocks that it makes shorter, each with the number of bytes,
     pub shorter: Vec<(usize, u32)>,
     /// the alignments whose paddings it may change,
     pub moved: Vec<usize>,
-    /// and the block whose label no literal mentions then.
+    /// and the block whose label is then no longer mentioned by a literal.
     pub unmentioned: Option<usize>,
 }
 
@@ -143,7 +143,7 @@ fn is_literal(instr: Instr) -> bool {
     matches!(instr, Instr::Literal { .. } | Instr::Address { .. })
 }
 
-/// What a block begins with whose first line says this. Alignments that never take a byte, as instructions have two or four, begin none.
+/// What a block begins with, given its first line. Alignments that never take a byte, as instructions have two or four, don't count.
 fn head_of(statement: &Statement, mentioned: Mentioned) -> Option<Head> {
     match statement {
         Statement::Aligns { size, most } if *size > 2 && *most >= 2 => Some(Head::Pads { size: *size, most: *most }),
@@ -160,7 +160,7 @@ fn head_of(statement: &Statement, mentioned: Mentioned) -> Option<Head> {
     }
 }
 
-/// For each block the least one at or behind it that is so.
+/// For each block the least one at or after it that satisfies a condition.
 fn behind(count: usize, is_one: impl Fn(usize) -> bool) -> Vec<u32> {
     let mut found = vec![count as u32; count + 1];
     for number in (0..count).rev() {
@@ -260,18 +260,18 @@ impl Widest {
         self.numbers[line as usize] as usize
     }
 
-    /// The place of the instruction that mentions what a block begins with.
+    /// The place of the instruction with a block's mention.
     pub fn place(&self, block: usize) -> Option<usize> {
         Some(self.places[block]).filter(|place| *place != NO_PLACE).map(|place| place as usize)
     }
 
-    /// The blocks from so many bytes before one up to so many behind it.
+    /// The range of blocks within a number of bytes before and after one.
     pub fn around(&self, block: usize, bytes: u32) -> (usize, usize) {
         let end = if block + 1 < self.count() { self.starts.of(block + 1) } else { self.starts.of(block) };
         (self.starts.first_from(self.starts.of(block).saturating_sub(bytes)), self.starts.first_from(end + bytes + 1))
     }
 
-    /// By how many bytes a branch would be out of reach of a label, if it is. More than what is noted of it doesn't count.
+    /// By how many bytes a branch would be out of reach of a label, if it is. The result is limited to what `WINDOW` covers.
     pub fn miss(&self, block: usize, label: u32) -> Option<i32> {
         let Head::Aims { instr, .. } = self.heads[block] else { return None };
         let reach = if matches!(instr, Instr::BranchIf(_)) { 256 } else { 2048 };
@@ -280,7 +280,7 @@ impl Widest {
         (by > 0).then(|| by.min(i64::from(WINDOW) - reach - 8) as i32)
     }
 
-    /// Gives a branch another label.
+    /// Changes the label of a branch.
     pub fn retarget(&mut self, block: usize, label: u32) {
         let label = self.block(label);
         if let Head::Aims { to, .. } = &mut self.heads[block] {
@@ -294,7 +294,7 @@ impl Widest {
         behind.checked_sub(1).map_or(0, |last| self.moves[last].by)
     }
 
-    /// Whether the mention of a block comes out of reach.
+    /// Whether the mention of a block stays in reach.
     fn check(&self, here: usize, number: usize) -> Result<(), Refusal> {
         let Head::Aims { instr, plus, to: Target::Block(to) } = self.heads[number] else { return Ok(()) };
         let start = |block| self.starts.of(block) - self.moved_by(block);
@@ -304,7 +304,7 @@ impl Widest {
         }
     }
 
-    /// What is behind a block that gets shorter moves: from one alignment that takes notice to the next.
+    /// Moves what follows a block that gets shorter: from one affected alignment to the next.
     fn walk(&mut self, here: usize, bytes: u32) -> Result<(), Refusal> {
         let count = self.count();
         self.moves.clear();
@@ -337,7 +337,7 @@ impl Widest {
         Ok(())
     }
 
-    /// Whether all that is mentioned across an alignment, where more lies between now, stays in reach.
+    /// Whether all that is mentioned across an alignment that grows stays in reach.
     fn check_across(&self, here: usize, at: usize) -> Result<(), Refusal> {
         let start = self.starts.of(at);
         let is_across = |number: usize| matches!(self.heads[number], Head::Aims { to: Target::Block(to), .. } if (to <= at) != (number <= at));
@@ -357,7 +357,7 @@ impl Widest {
         }
     }
 
-    /// Takes what moves from the room of addresses that are set, where each has enough.
+    /// Subtracts the moves from the slack of addresses that are set, if each has enough.
     fn take_room(&mut self, here: usize) -> Result<(), Refusal> {
         if self.rooms.is_empty() {
             return Ok(());
@@ -416,7 +416,7 @@ impl Widest {
         self.take_room(here)
     }
 
-    /// Whether no mention comes out of reach when the instruction at a place goes, which is no call. Then `settle` has to follow.
+    /// Whether no mention gets out of reach when the instruction at a place, which isn't a call, is removed. If so, `settle` has to follow.
     pub fn may_go(&mut self, place: usize, line: u32, bytes: u32) -> Result<(), Refusal> {
         let here = self.block(line);
         let head = self.heads[here];
@@ -434,7 +434,7 @@ impl Widest {
         checked
     }
 
-    /// Moves what moves.
+    /// Applies the requested moves.
     pub fn settle(&mut self) {
         let count = self.count();
         for n in 0..self.moves.len() {

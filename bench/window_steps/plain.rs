@@ -6,7 +6,7 @@ mod plain_steps;
 use plain_steps::{ByteOperation, Extension, Instr, Operation, Reversal, Shift, Sum, WState, step};
 use std::time::Instant;
 
-/// The instruction of a halfword, where it may stand in a window over r0 to r3.
+/// The instruction of a halfword, if a window over r0 to r3 may contain it.
 fn ready(halfword: u16) -> Option<Instr> {
     let field = |low: u32, bits: u32| u32::from(halfword) >> low & ((1 << bits) - 1);
     let (target, source, third) = (field(0, 3), field(3, 3), field(6, 3));

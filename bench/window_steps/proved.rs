@@ -12,7 +12,7 @@ use thumb_instr::{Instr, in_window};
 use thumb_table::decode;
 use window_exec::{WState, step};
 
-/// An instruction that may stand in a window over r0 to r3.
+/// An instruction that a window over r0 to r3 may contain.
 #[derive(Clone, Copy)]
 struct Ready {
     instr: Instr,

@@ -40,7 +40,7 @@ pub enum Barrier { Dsb, Dmb, Isb }
 #[derive(Clone, Copy)]
 pub enum Special { Primask, Ipsr }
 
-/// An instruction: registers by their numbers, offsets in units of what is loaded or stored, bit 8 of a pushed or popped list for lr or pc.
+/// An instruction: registers by number, offsets in units of what is loaded or stored, bit 8 of a pushed or popped list for lr or pc.
 #[allow(dead_code)]
 #[derive(Clone, Copy)]
 pub enum Instr {
@@ -215,7 +215,7 @@ fn access(access: Access, size: u32, operands: &[Operand]) -> Option<Instr> {
     }
 }
 
-/// The list with bit 8 in place of the bit of one more register, where it has no other but r0 to r7.
+/// The list with bit 8 in place of the bit of one more register, if its other registers are r0 to r7.
 fn stack_list(list: u16, extra: u8) -> Option<u16> {
     let more = list >> extra & 1;
     (list & !0xff == more << extra).then_some(list & 0xff | more << 8)
@@ -254,7 +254,7 @@ fn is_general(register: u8) -> bool {
     register < 15 && register != 13
 }
 
-/// The instruction of a mnemonic, in lower case, with these operands.
+/// The instruction of a lower-case mnemonic with these operands.
 fn instr(mnemonic: &[u8], operands: &[Operand]) -> Option<Instr> {
     match mnemonic {
         b"movs" => match *operands {
@@ -380,10 +380,10 @@ fn instr(mnemonic: &[u8], operands: &[Operand]) -> Option<Instr> {
     }
 }
 
-/// The most bytes of a mnemonic.
+/// The greatest length of a mnemonic in bytes.
 const LONGEST_MNEMONIC: usize = 5;
 
-/// An instruction, with the name that it mentions and the number that is added to it.
+/// An instruction, with the name that it mentions and the number added to it.
 pub fn instruction(bytes: &[u8]) -> Option<(Instr, Option<(&[u8], u32)>)> {
     let (Token::Word(word), after) = token(bytes)? else { return None };
     let mut mnemonic = [0; LONGEST_MNEMONIC];

@@ -1,4 +1,4 @@
-//! Where the lines of a listing lie.
+//! The addresses of the lines of a listing.
 
 use crate::instruction::Instr;
 use crate::line::{Mention, Statement};
@@ -42,7 +42,7 @@ pub fn size(statement: &Statement, at: u32) -> u64 {
     }
 }
 
-/// A branch from -2 `half` to below 2 `half` bytes.
+/// A branch that reaches from -2 `half` to below 2 `half` bytes.
 fn branch_fault(half: i64, at: u32, to: u32) -> Option<Fault> {
     let distance = to as i64 - (at as i64 + 4);
     (distance < -2 * half || 2 * half <= distance).then_some(Fault::Range(distance))
@@ -58,7 +58,7 @@ fn literal_fault(at: u32, to: u32, plus: u32) -> Option<Fault> {
     }
 }
 
-/// What is wrong with an instruction at an address, where what it mentions lies at another.
+/// What is wrong with an instruction at an address, when what it mentions is at another.
 pub fn aim_fault(at: u32, instr: Instr, to: u32, plus: u32) -> Option<Fault> {
     match instr {
         Instr::BranchIf(_) => branch_fault(128, at, to),

@@ -23,7 +23,7 @@ pub enum Statement {
     Sets { name: Vec<u8>, address: u32 },
 }
 
-/// What a line says of functions: that the next label is one, or that a name is.
+/// What a line says about functions: that the next label is one, or that a name is.
 pub enum Mark {
     Nothing,
     Next,
@@ -35,9 +35,9 @@ pub struct Line {
     pub names: Vec<Vec<u8>>,
     pub statement: Statement,
     pub mark: Mark,
-    /// Its bytes, with its newline where it has one.
+    /// Its bytes, with its newline if it has one.
     pub text: Vec<u8>,
-    /// How many bytes it has up to and with its last label's colon.
+    /// How many bytes it has up to its last label's colon, inclusive.
     pub front: usize,
 }
 
@@ -99,7 +99,7 @@ fn pair(bytes: &[u8]) -> Option<(&[u8], &[u8])> {
     Some((first, only_word(after_comma(after)?)?))
 }
 
-/// `n` or `n,,k`; where `zero` is what 0 stands for.
+/// `n` or `n,,k`; `zero` is what 0 means.
 fn alignment(zero: u32, bytes: &[u8]) -> Option<Statement> {
     let (Token::Word(exponent), after) = token(bytes)? else { return None };
     let size = match number(exponent)? {
@@ -184,7 +184,7 @@ fn labels(mut bytes: &[u8]) -> (Vec<Vec<u8>>, &[u8]) {
     }
 }
 
-/// The line of a text with its newline, where it has one.
+/// The line of a text with its newline, if it has one.
 pub fn line(text: &[u8]) -> Option<Line> {
     let body = match text {
         [body @ .., b'\r', b'\n'] | [body @ .., b'\n'] => body,

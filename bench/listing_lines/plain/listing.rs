@@ -1,11 +1,11 @@
-//! Listings: lines whose names are defined once and are what the statements need.
+//! Listings: lines whose names are each defined once, as the statements need them.
 
 use crate::instruction::Instr;
 use crate::line::{line, Line, Mark, Mention, Statement, Value};
 use std::collections::hash_map::Entry;
 use std::collections::{HashMap, HashSet};
 
-/// What a name stands for: the line of its label, by its index, or the address that is set.
+/// What a name denotes: the line of its label, by its index, or an address that is set.
 pub enum Meaning {
     Label(usize),
     Address(u32),
@@ -16,7 +16,7 @@ pub struct Listing {
     pub names: HashMap<Vec<u8>, Meaning>,
     /// The line of each place (an instruction or a word), and which of the line's places it is.
     pub spots: Vec<(u32, u32)>,
-    /// How many places stand before each line.
+    /// How many places there are before each line.
     pub passed: Vec<u32>,
 }
 
@@ -28,7 +28,7 @@ pub enum Kind {
     Limit,
 }
 
-/// The line that is refused, by its number from 1, and why.
+/// The number of the refused line, from 1, and the reason.
 pub struct Refusal {
     pub number: usize,
     pub kind: Kind,
@@ -51,7 +51,7 @@ fn lines(text: &[u8]) -> Result<Vec<Line>, Refusal> {
     Ok(lines)
 }
 
-/// What the names stand for that the lines define.
+/// What the names that the lines define denote.
 fn meanings(lines: &[Line]) -> Result<HashMap<Vec<u8>, Meaning>, Refusal> {
     let mut meanings = HashMap::new();
     for (n, line) in lines.iter().enumerate() {
@@ -91,7 +91,7 @@ fn functions(lines: &[Line]) -> HashSet<&[u8]> {
     functions
 }
 
-/// How many words stand from each line on, with neither an instruction nor an alignment before them.
+/// How many words follow from each line on, with neither an instruction nor an alignment before them.
 fn runs_of_words(lines: &[Line]) -> Vec<usize> {
     let mut runs = vec![0; lines.len()];
     let mut run = 0;
@@ -112,7 +112,7 @@ impl Listing {
         Ok(Listing::with(lines, names))
     }
 
-    /// The listing of lines, given what the names stand for that they define.
+    /// The listing of lines, given what the names that they define denote.
     pub fn with(lines: Vec<Line>, names: HashMap<Vec<u8>, Meaning>) -> Listing {
         let mut spots = Vec::new();
         let mut passed = Vec::with_capacity(lines.len());
@@ -134,7 +134,7 @@ impl Listing {
         }
     }
 
-    /// Whether an instruction stands behind the line's labels.
+    /// Whether an instruction follows the line's labels.
     fn is_code(&self, line: usize) -> bool {
         match self.spots.get(self.passed[line] as usize) {
             Some((line, _)) => matches!(self.lines[*line as usize].statement, Statement::Runs { .. }),
@@ -164,7 +164,7 @@ impl Listing {
         }
     }
 
-    /// The first line that mentions a name which isn't what it needs.
+    /// The first line that mentions a name of the wrong kind.
     fn first_target(&self) -> Option<usize> {
         let functions = functions(&self.lines);
         let runs = runs_of_words(&self.lines);

@@ -1,5 +1,5 @@
-//! Reads a listing from standard input in plain Rust, by the whole grammar that the proved crates read, prints it to standard output and lays it out from 0.
-//! Tells on standard error what the proved program tells: the microseconds of reading and printing, those of reading, the number of lines, the
+//! Reads a listing from standard input in plain Rust, by the whole grammar of the proved crates, prints it to standard output and lays it out from 0.
+//! Prints on standard error what the proved program prints: the microseconds of reading and printing, those of reading, the number of lines, the
 //! microseconds of laying out, and where the listing ends or why it can't be laid out; or the line and the kind of the refusal.
 
 mod instruction;

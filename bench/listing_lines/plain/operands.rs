@@ -2,7 +2,7 @@
 
 use crate::words::*;
 
-/// What stands between the commas of an instruction.
+/// An operand of an instruction.
 #[derive(Clone, Copy)]
 pub enum Operand<'a> {
     Register(u8),
@@ -35,7 +35,7 @@ fn operand_of(word: &[u8]) -> Option<Operand<'_>> {
     }
 }
 
-/// What stands in brackets, behind the opening one, and the bytes after it.
+/// An operand in brackets, after the opening one, and the bytes after it.
 fn place(bytes: &[u8]) -> Option<(Operand<'_>, &[u8])> {
     let (Token::Word(word), after) = token(bytes)? else { return None };
     let base = register(word)?;
@@ -57,7 +57,7 @@ fn place(bytes: &[u8]) -> Option<(Operand<'_>, &[u8])> {
     }
 }
 
-/// The bits of a register or a range of them.
+/// The bits of a register or a range of registers.
 fn bits(word: &[u8]) -> Option<u16> {
     let (front, after) = split(word, |b| b != b'-');
     let least = register(front)?;
@@ -70,7 +70,7 @@ fn bits(word: &[u8]) -> Option<u16> {
     }
 }
 
-/// A list, behind the opening brace, and the bytes after it.
+/// A list, after the opening brace, and the bytes after it.
 fn list(mut bytes: &[u8]) -> Option<(Operand<'_>, &[u8])> {
     let mut all = 0;
     loop {
@@ -88,10 +88,10 @@ fn list(mut bytes: &[u8]) -> Option<(Operand<'_>, &[u8])> {
     }
 }
 
-/// How many operands an instruction has at most.
+/// The most operands of an instruction.
 const MOST_OPERANDS: usize = 3;
 
-/// The operands by their commas, and how many they are.
+/// The operands between commas, and their count.
 pub fn operands(mut bytes: &[u8]) -> Option<([Operand<'_>; MOST_OPERANDS], usize)> {
     let mut all = [Number(0); MOST_OPERANDS];
     let mut count = 0;

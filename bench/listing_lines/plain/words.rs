@@ -8,7 +8,7 @@ pub fn without_blanks(bytes: &[u8]) -> &[u8] {
     &bytes[bytes.iter().take_while(|b| is_blank(**b)).count()..]
 }
 
-/// The bytes before the first that isn't so, and those from there on.
+/// The bytes before the first that doesn't satisfy the condition, and the rest.
 pub fn split(bytes: &[u8], holds: impl Fn(u8) -> bool) -> (&[u8], &[u8]) {
     bytes.split_at(bytes.iter().position(|b| !holds(*b)).unwrap_or(bytes.len()))
 }
@@ -35,7 +35,7 @@ pub fn register(word: &[u8]) -> Option<u8> {
     }
 }
 
-/// Whether the bytes are a name, all of them, or a register.
+/// Whether the bytes as a whole are a name or a register.
 pub fn is_spelled_as_name(word: &[u8]) -> bool {
     word.first().is_some_and(|b| !b.is_ascii_digit()) && word.iter().all(|b| is_name_byte(*b))
 }
