@@ -6,9 +6,9 @@ must-fail edits, user and system time together, as a table of docs/MEASURED.md.
     bench/gate.py --watch                measures a run of the gate that was started elsewhere on this machine
 
 It runs `rt ci` from a folder of links to the toolchain, in which this script replaces the prover, runs it and records the time that it and its child processes
-took. What the run caches goes into that folder and is removed with it, so it saves the gate nothing. The first edit of a crate is checked from nothing. Each
-further edit is checked incrementally after those before it, and so is the crate itself, once, after the last. The status is that of `rt ci`. With --watch
-it looks every two seconds what each prover of the run has taken, so up to two seconds of each are missed.
+took. What the run caches goes into that folder and is removed with it, so it saves the gate nothing. A crate's only edit is checked from nothing. Where there are
+more, the crate as it stands is checked from nothing first, and each edit over what that cached, as is the crate itself, once, after the last. The status is that
+of `rt ci`. With --watch it looks every two seconds what each prover of the run has taken, so up to two seconds of each are missed.
 """
 import contextlib
 import json
