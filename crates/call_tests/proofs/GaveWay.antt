@@ -1,6 +1,6 @@
 -- What the update of live sets requires, for a window of two instructions that was replaced by one.
-use Rattle.std.proofs.Common.{◌≡◌, ◌∙◌, ℕ, ◌+◌, ◌<◌, ◌≤◌, ◌⊎◌, inl, List, [], ◌∷◌, true, false, Option, Some, length, take, drop, refl, ap, arith, sym, subst}
-use Rattle.std.specs.Prelude.{slice_get, IfSome}
+use Rattle.std.proofs.Common.{◌≡◌, ◌∙◌, ℕ, ◌+◌, ◌<◌, ◌≤◌, ◌⊎◌, inl, List, [], ◌∷◌, true, false, Some, length, take, drop, refl, ap, arith, sym, subst}
+use Rattle.std.specs.Prelude.{slice_get}
 use Rattle.std.proofs.lemmas.Bool.{and_from}
 use Rattle.std.proofs.lemmas.List.{take_all}
 use Rattle.thumb_instr.specs.declared.instr.Instr.{Instr}
@@ -41,11 +41,6 @@ window_unlabelled lines place window n e w = subst (λ m. (k : ℕ) (l : Label) 
 
 pub window_joined : (lines : List ListingLine) (place : ℕ) (window : List Instr) (n : ℕ) → length window ≡ n → IsWindow lines place window → are_joined_from place n lines ≡ true
 window_joined lines place window n e w = subst (λ m. are_joined_from place m lines ≡ true) e w.joined
-
--- the changed listing is one in which the window was replaced
-pub found_gave_way : (before : List ListingLine) (place : ℕ) (instr : Instr) (found : Option (List ListingLine)) (lines : List ListingLine)
-    → found ≡ Some lines → IfSome found (λ (changed : List ListingLine). GaveWay before place instr changed) → GaveWay before place instr lines
-found_gave_way before place instr found lines e w = subst (λ (o : Option (List ListingLine)). IfSome o (λ (changed : List ListingLine). GaveWay before place instr changed)) e w
 
 -- ---- live sets ----
 
