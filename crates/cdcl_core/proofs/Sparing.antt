@@ -4,7 +4,7 @@ use Rattle.std.specs.Prelude.{AllPairs, Any, Contains, slice_get, replicate}
 use Rattle.std.proofs.Math.ListN.{set}
 use Rattle.std.proofs.lemmas.Bool.{cases_eq, cases_lt}
 use Rattle.std.proofs.lemmas.List.{get_or_default, get_or_push, get_or_append_left, length-replicate, length-set, get_or-set_same, get_or-set_other}
-use Rattle.std.proofs.lemmas.List.Elements.{All-nil, All-push, Contains-push, Contains-append_left, Contains-get_or}
+use Rattle.std.proofs.lemmas.List.Elements.{All-push, Contains-push, Contains-append_left, Contains-get_or}
 use Rattle.std.proofs.lemmas.List.Quantifiers.{all_pairs_push}
 use Rattle.std.proofs.lemmas.Option.{slice_get_within, slice_get-get_or, get_or_from_slice_get}
 use Rattle.clause_arena.specs.Contents.{Content, HasClause, is_dropped_of, with_dropped}
@@ -151,15 +151,6 @@ module _ (content : Content) (refs : List ℕ) (reasons : List (Option ℕ)) (tr
   }
 
 module _ (content : Content) (refs ids : List ℕ) where
-  pub remains_none : (kept names : List ℕ) → kept ≡ [] → names ≡ [] → Remains content refs ids 0 kept names
-  remains_none kept names e f = rw (e, f) record {
-    aligned = refl;
-    ascending = λ i k d l b. absurd (omega (arith, b));
-    from = λ k b. absurd (omega (arith, b));
-    live = All-nil (λ r. is_dropped_of content r ≡ false);
-    dropped = λ j b. absurd (omega (arith, b));
-  }
-
   module _ (n : ℕ) (kept names : List ℕ) (h : Remains content refs ids n kept names) (at : ℕ) (b : n < length refs) (e : at ≡ get_or refs n at) where
     here : get_or refs n 0 ≡ at
     here = get_or_default refs n 0 at b ∙ sym e

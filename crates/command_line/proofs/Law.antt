@@ -73,9 +73,6 @@ module _ (name : Text) (c : List Rule) where
   step_to : (w v : Walk) (x : Text) (xs : List Text) → turn_fault (leaf name c) [] w x ≡ [] → walked c [] w x ≡ v → outcome w (x ∷ xs) ≡ outcome v xs
   step_to w v x xs none to = step w x xs ∙ rw (none, to) refl
 
-  step_bad : (w : Walk) (x : Text) (xs : List Text) (k : _) (ks : Kinds) → turn_fault (leaf name c) [] w x ≡ k ∷ ks → clean (outcome w (x ∷ xs)) ≡ false
-  step_bad w x xs k ks bad = ap clean (step w x xs) ∙ rw bad refl
-
 -- what a word is, with the facts that say so
 pub data Is (is_option : Text → Bool) (x : Text) : Type 0 where
   is_dashes : bytes_eq x (45 ∷ 45 ∷ []) ≡ true → Is is_option x

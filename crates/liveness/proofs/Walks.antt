@@ -1,5 +1,5 @@
 -- Sets of live items while they shrink.
-use Rattle.std.proofs.Common.{◌≡◌, ◌≢◌, ℕ, ◌+◌, ◌<◌, ◌≤◌, ◌==◌, ◌&&◌, ◌||◌, not, Bool, true, false, List, length, Option, if◌then◌else◌, refl, sym, ap, ◌∙◌, subst, inl, inr, arith, eq-eqb, ne_eqb}
+use Rattle.std.proofs.Common.{◌≡◌, ◌≢◌, ℕ, ◌+◌, ◌<◌, ◌≤◌, ◌==◌, ◌&&◌, ◌||◌, not, Bool, true, false, List, length, Option, if◌then◌else◌, refl, sym, ap, ◌∙◌, subst, inl, inr, arith, eq-eqb}
 use Rattle.std.specs.Prelude.{slice_set}
 use Rattle.std.proofs.lemmas.Bool.{cases_eq, cases_Bool, or_right}
 use Rattle.thumb_instr.specs.declared.items.Items.{Items}
@@ -14,28 +14,7 @@ use Rattle.liveness.specs.declared.counted.PointSets.{PointSets}
 use Rattle.liveness.specs.declared.walk.Walk.{Walk}
 use Rattle.liveness.specs.Stack.{Stack}
 use Rattle.liveness.specs.Walk.{start_at, IsFitWalk, ClearsOn}
-use Rattle.common_lemmas.proofs.Booleans.{or_false, or_true}
 use Rattle.listing_parser.proofs.ReplaceLemmas.{and_first as and_left}
-
--- ---- a place that is touched ----
-
-module _ (k k' : Walk) (p : ℕ) (s : Items) (before : k'.before ≡ k.before) (was : k'.was.items ≡ slice_set k.was.items p s) (members : (q : ℕ) → one_of q k'.touched.places ≡ (one_of q k.touched.places || (q == p))) (new : one_of p k.touched.places ≡ false) (inside : p < length k.was.items) (at : set_at k.before.sets.items p ≡ s.bits) where
-  -- what the sets were at first stays
-  pub touch_start : (q : ℕ) → start_at k' q ≡ start_at k q
-  touch_start q = elim (cases_eq q p) [
-    | inl e ↦ subst (λ y. start_at k' y ≡ start_at k y) (sym e) here
-    | inr d ↦ ap (λ b. if b then set_at k'.was.items q else set_at k'.before.sets.items q) (members q ∙ ap (λ b. one_of q k.touched.places || b) (ne_eqb q p d) ∙ or_false (one_of q k.touched.places)) ∙ other q d (one_of q k.touched.places)
-  ]
-    where
-      here : start_at k' p ≡ start_at k p
-      here =
-          ap (λ b. if b then set_at k'.was.items p else set_at k'.before.sets.items p) (members p ∙ ap (λ b. one_of p k.touched.places || b) (eq-eqb p p refl) ∙ or_true (one_of p k.touched.places))
-          ∙ ap (λ (ss : List Items). set_at ss p) was ∙ get_here k.was.items p s inside ∙ sym at
-          ∙ sym (ap (λ b. if b then set_at k.was.items p else set_at k.before.sets.items p) new)
-
-      other : (q : ℕ) → q ≢ p → (b : Bool) → (if b then set_at k'.was.items q else set_at k'.before.sets.items q) ≡ (if b then set_at k.was.items q else set_at k.before.sets.items q)
-      other q d true = ap (λ (ss : List Items). set_at ss q) was ∙ ap word_of (get_else k.was.items p q s d)
-      other q d false = ap (λ (t : PointSets). set_at t.sets.items q) before
 
 -- ---- sets that are put in ----
 

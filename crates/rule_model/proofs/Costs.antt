@@ -23,13 +23,6 @@ weight_is_length cost one (i ∷ is) =
     let rest = weight_is_length cost one is in
     omega arith
 
--- and a shorter one costs less
-pub shorter_lowers : (cost : Instr → ℕ) → ((i : Instr) → cost i ≡ 1) → (left right : List Instr) → length right < length left → weight cost right < weight cost left
-shorter_lowers cost one left right h =
-    let before = weight_is_length cost one left in
-    let after = weight_is_length cost one right in
-    omega arith
-
 -- ---- places ----
 
 pub instructions_append : (xs ys : List Place) → instructions (xs ++ ys) ≡ instructions xs ++ instructions ys

@@ -9,16 +9,6 @@ use Rattle.std.specs.List.{flat_map}
 use Rattle.thumb_instr.specs.declared.instr.Instr.{Instr}
 use Rattle.thumb_instr.specs.Window.{Low, named}
 
-pub firsts-step : (seen rs : List ℕ) (i : ℕ) (d : ℕ) → i < length rs → firsts seen (drop i rs) ≡ firsts (with_first seen (get_or rs i d)) (drop (i + 1) rs)
-unfolding firsts
-firsts-step seen rs i d h =
-    let next : suc i ≡ i + 1 = omega arith in
-    ap (firsts seen) (drop-cons rs i d h) ∙ ap (λ j. firsts (with_first seen (get_or rs i d)) (drop j rs)) next
-
-pub firsts-end : (seen rs : List ℕ) (i : ℕ) → length rs ≤ i → firsts seen (drop i rs) ≡ seen
-unfolding firsts
-firsts-end seen rs i h = ap (firsts seen) (drop_all i rs h)
-
 -- the registers seen only grow
 pub firsts-grows : (seen rs : List ℕ) → length seen ≤ length (firsts seen rs)
 unfolding firsts

@@ -7,7 +7,7 @@ use Rattle.thumb_model.specs.Listing.{Name, Mention, Value, Number, Instruction,
 use Rattle.thumb_model.specs.Layout.{instr_size, padding, lies_in}
 use Rattle.thumb_model.specs.Steps.{word_of_value}
 use Rattle.thumb_model.specs.Naming.{laid}
-use Rattle.thumb_assembler.specs.Bytes.{nops, word_bytes, words_bytes, Aims, IsSetBy, may_leave, branch_lost, value_lost, values_lost, flaw_of}
+use Rattle.thumb_assembler.specs.Bytes.{nops, word_bytes, words_bytes, Aims, IsSetBy, may_leave, branch_lost, values_lost, flaw_of}
 use Rattle.thumb_assembler.specs.declared.errors.Flaw.{Flaw}
 use Rattle.thumb_assembler.specs.declared.errors.Flaw.TheVariants as flaw
 use Rattle.thumb_assembler.specs.Fair.{is_fair}
@@ -70,9 +70,6 @@ front_more base all vs old v left now new f p =
           ∙ f.pushed set h;
       long = omega arith;
     }
-
-pub front_lost : (base : ℕ) (all : List ListingLine) (vs : List Value) (old : List ℕ) (v : Value) (left : List Value) (now : List ℕ) → Front base all vs old (v ∷ left) now → value_lost base all v ≡ true → values_lost base all vs ≡ true
-front_lost base all vs old v left now f e = f.found ∙ ap (λ (b : Bool). b || values_lost base all left) e
 
 pub front_all : (base : ℕ) (all : List ListingLine) (vs : List Value) (old now : List ℕ) → Front base all vs old [] now → PushedValues base all vs old now
 front_all base all vs old now f =

@@ -23,18 +23,10 @@ other_watched content at slot l b h w = elim (cases_eq slot 0) [
   | inr n ↦ let e : slot ≡ 1 = omega arith in let d : IsWatched content at = h at slot l w in (d.first, subst (λ (k : ℕ). Watches content at (1 - k) d.first) (sym e) d.watches_first)
 ]
 
--- the two literals that a clause watches are different ones of its own
+-- the two literals that a clause watches are its own
 module _ (content : Content) (at slot l other : ℕ) (b : slot < 2) (whole : IsWhole content) (attached : IsAttached content) (w : Watches content at slot l) (v : Watches content at (1 - slot) other) where
   d : IsWatched content at
   d = attached at slot l w
-
-  pub others_differ : l ≢ other
-  others_differ e = elim (cases_eq slot 0) [
-    | inl z ↦ d.different (one_watched content at 0 d.first l whole d.watches_first (subst (λ (s : ℕ). Watches content at s l) z w) ∙ e ∙ one_watched content at 1 other d.second whole (subst (λ (s : ℕ). Watches content at (1 - s) other) z v) d.watches_second)
-    | inr n ↦
-        let z : slot ≡ 1 = omega arith in
-        d.different (one_watched content at 0 d.first other whole d.watches_first (subst (λ (s : ℕ). Watches content at (1 - s) other) z v) ∙ sym e ∙ one_watched content at 1 l d.second whole (subst (λ (s : ℕ). Watches content at s l) z w) d.watches_second)
-  ]
 
   pub other_in : Contains (literals_of content at) other
   other_in = elim (cases_eq slot 0) [

@@ -342,9 +342,6 @@ module _ (costs : Option (List ℕ)) (es : List tables.Rule) (fs : List tables.F
       let bad : true ≡ false = sym noted.whole ∙ ap (is_marked index.holes.wholes.items) (side_hash true (map blind rule.left) registers window (blind_stands costs rule registers window s) ∙ sym is) ∙ missing in
       absurd (cc)
 
-  pub none_raised_empty : (window : List Instr) → length fs ≡ 0 → NoneStands costs (families_in es fs) window
-  none_raised_empty window none k i rule registers at s = absurd (let w = behind k i rule at in omega (arith, w, none))
-
   -- nor any rule where no entry's left side is marked either
   pub none_standing : (window : List Instr) (hash : ℕ) → hash ≡ hash_of (map (seen false) window) → is_marked index.marks.wholes.items hash ≡ false → NoneStands costs (families_in es fs) window → NoneStands costs (numbers_in es fs) window
   none_standing window hash is missing families k i rule registers at s = split k i rule at
