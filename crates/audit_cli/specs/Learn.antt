@@ -7,7 +7,7 @@ use Rattle.window_harvest.specs.Harvest.{Pair, Limits, AreHarvest}
 use Rattle.rule_table.specs.Table.{Table, IsTable}
 use Rattle.rule_table.specs.Text.{text_of}
 use Rattle.table_learn.specs.Learnt.{Settings, Window, Learnt, IsFull, text_length, text_limit}
-use Rattle.table_audit.specs.Acceptance.{width_of}
+use Rattle.table_audit.specs.Acceptance.{widest, width_of}
 use Rattle.command_runs.specs.Plans.{Outcome, Refuses, Does}
 use Rattle.audit_cli.specs.declared.refusal.Refusal.{Refusal}
 use Rattle.audit_cli.specs.declared.refusal.Refusal.TheVariants as refusal
@@ -38,7 +38,7 @@ kept_table out t = Does ((out, text_of t) ∷ []) (learnt_line (length t.rules) 
 
 -- no table is learnt from lines: more than 5,000,000 sequences may be below the longest windows, or the table of the first windows has a text that is too long
 pub data IsUnlearnt (s : Settings) (lines : List ListingLine) : Refusal → Type 0 where
-  too_wide : 5000000 < width_of s → IsUnlearnt s lines (refusal.Wide (width_of s))
+  too_wide : widest < width_of s → IsUnlearnt s lines (refusal.Wide (width_of s))
   too_long : (windows : List Window) → AreWindowsOf s lines windows → (t : Table) (bytes : ℕ) → IsFull s windows t bytes → IsUnlearnt s lines (refusal.Full bytes)
 
 -- a table is learnt from all windows of lines, and its text is not too long

@@ -11,7 +11,7 @@ use Rattle.table_audit.specs.Acceptance.{IsAccepted}
 use Rattle.table_audit.specs.Shorter.{SidesFit}
 use Rattle.table_audit.specs.Soundness.{items_in}
 use Rattle.table_learn.specs.Learnt.{Settings, text_length, text_limit}
-use Rattle.table_audit.specs.Acceptance.{width_of}
+use Rattle.table_audit.specs.Acceptance.{widest, width_of}
 use Rattle.seq_enum.specs.Costs.{IsCostText}
 use Rattle.thumb_assembler.specs.Bytes.{first_flaw}
 use Rattle.command_line.specs.CommandLine.{Request, rewrite, audit, learn, export, trace, demo, upgrade, trim, tidy, generalise, AskFor}
@@ -104,7 +104,7 @@ pub record FitLearning (s : Settings) (texts : List (List ℕ)) : Type 0 where
   pub is_text : texts ≡ text ∷ []
   pub lines : List ListingLine
   pub is_listing : IsListing text lines
-  pub narrow : width_of s ≤ 5000000
+  pub narrow : width_of s ≤ widest
 
 -- a well-formed listing, and a text of costs with which the settings have no more such sequences than that
 pub record FitLearningByCosts (s : Settings) (texts : List (List ℕ)) : Type 0 where
@@ -115,7 +115,7 @@ pub record FitLearningByCosts (s : Settings) (texts : List (List ℕ)) : Type 0 
   pub is_listing : IsListing text lines
   pub costs : List ℕ
   pub are_costs : IsCostText cost_text costs
-  pub narrow : width_of (record s { version = 4; costs = Some costs }) ≤ 5000000
+  pub narrow : width_of (record s { version = 4; costs = Some costs }) ≤ widest
 
 -- an accepted table with an entry whose number can be raised in this way and whose sides with each value are equal under the mask, if no log spends the budget
 pub record FitGeneralising (f : Family) (texts : List (List ℕ)) : Type 0 where

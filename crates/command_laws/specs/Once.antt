@@ -4,7 +4,7 @@ use Rattle.thumb_model.specs.Listing.{ListingLine}
 use Rattle.listing_parser.specs.Parsing.{IsListing}
 use Rattle.rule_table.specs.Table.{Rule, Family, Table}
 use Rattle.seq_enum.specs.Costs.{IsCostText}
-use Rattle.table_audit.specs.Acceptance.{width_of}
+use Rattle.table_audit.specs.Acceptance.{widest, width_of}
 use Rattle.command_line.specs.CommandLine.{Request, rewrite, audit, learn, export, trace, demo, upgrade, trim, tidy, generalise}
 use Rattle.command_runs.specs.Plans.{Outcome}
 use Rattle.audit_cli.specs.Learn.{LearnArguments, LinesLearn, LearnComesTo, LearnByCostsComesTo, priced}
@@ -38,7 +38,7 @@ TextsComeToOne = (r : Request) → (AsksSolver r → ⊥) → IsOne (plan_of r).
 pub record AreOfOneListing (to : LearnArguments) (text : List ℕ) (o p : Outcome) : Type 0 where
   pub lines : List ListingLine
   pub listing : IsListing text lines
-  pub narrow : width_of to.settings ≤ 5000000
+  pub narrow : width_of to.settings ≤ widest
   pub first : LinesLearn to lines o
   pub second : LinesLearn to lines p
 

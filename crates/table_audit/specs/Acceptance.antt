@@ -29,6 +29,10 @@ abbrev pub lengths_below : Option (List ℕ) → ℕ → ℕ
 lengths_below None left = left
 lengths_below (Some costs) left = left + 1
 
+-- the most sequences that an entry of an accepted table may have to be told from
+abbrev pub widest : ℕ
+widest = 5000000
+
 -- how many sequences an entry of a table may have to be told from, at most
 abbrev pub width_of : Header → ℕ
 width_of h = length (sequences_below (with_scratch h h.regs) h.pool (lengths_below h.costs h.left))
@@ -37,7 +41,7 @@ abbrev pub width : Table → ℕ
 width t = width_of t.header
 
 abbrev pub WideVerdict : Table → Option AuditError → Type 0
-WideVerdict t = Tests (width t ≤ 5000000) (Wide (width t))
+WideVerdict t = Tests (width t ≤ widest) (Wide (width t))
 
 -- ---- an entry, which has this number ----
 

@@ -4,11 +4,11 @@ use Rattle.rule_table.specs.Views.{table_of}
 use Rattle.table_learn.specs.declared.errors.LearnError.{LearnError}
 use Rattle.table_learn.specs.declared.errors.LearnError.TheVariants.{Wide, Full, Memory}
 use Rattle.table_learn.specs.Learnt.{Settings, Window, IsFull}
-use Rattle.table_audit.specs.Acceptance.{width_of}
+use Rattle.table_audit.specs.Acceptance.{widest, width_of}
 
 -- what each error says
 abbrev pub FailsAs : Settings → List Window → LearnError → Type 0
-FailsAs s windows (Wide count) = (count ≡ width_of s) × (5000000 < count)
+FailsAs s windows (Wide count) = (count ≡ width_of s) × (widest < count)
 FailsAs s windows (Full t bytes) = IsFull s windows (table_of t) bytes
 FailsAs s windows Memory = Unit {0}
 

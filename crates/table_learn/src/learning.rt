@@ -4,7 +4,7 @@ ghost use Rattle.rule_table.specs.Table.{IsTable};
 ghost use Rattle.window_exec.specs.State.{seen};
 ghost use Rattle.rule_table.specs.Views.{rule_of, table_of};
 ghost use Rattle.table_audit.specs.Shorter.{alphabet_registers};
-ghost use Rattle.table_audit.specs.Acceptance.{width_of};
+ghost use Rattle.table_audit.specs.Acceptance.{widest, width_of};
 ghost use Rattle.table_learn.specs.Learnt.{Window as Model, Learnt, text_limit, text_length};
 ghost use Rattle.table_learn.specs.Given.{settings_of, window_of, AreInLimits, AreWindows, IsWindow};
 ghost use Rattle.table_learn.specs.Found.{window_in};
@@ -91,7 +91,7 @@ fn learn_window<L: Ledger>(
     requires counted { window.k ≡ alphabet_registers (settings_of settings.now) window.left }
     requires limits { AreInLimits (settings_of settings.now) }
     requires window { IsWindow (settings_of settings.now) (window_in window) }
-    requires narrow { width_of (settings_of settings.now) ≤ 5000000 }
+    requires narrow { width_of (settings_of settings.now) ≤ widest }
     requires before { (windows : List Model) × HasLearnt (settings_of settings.now) windows learner }
     ensures learnt { (windows : List Model) → HasLearnt (settings_of settings.now) windows learner → IfOk result (HasLearnt (settings_of settings.now) (windows ++ window_in window ∷ [])) }
     ensures grown { IfOk result (λ l. length learner.states.items ≤ length l.states.items) }
