@@ -3,6 +3,7 @@ ghost use Rattle.std.specs.Prelude.{◌≡◌, ◌<◌, ◌≤◌, ◌&&◌, ◌
 ghost use Rattle.thumb_model.specs.Listing.{Nothing};
 ghost use Rattle.thumb_model.specs.Replaced.{is_op, labels_kept, new_line, replaced_lines, without};
 ghost use Rattle.listing_parser.specs.Views.{line_view, mention_view, names_view, statement_view, value_view};
+ghost use Rattle.listing_parser.specs.Directives.{Unmarked};
 ghost use Rattle.listing_parser.specs.ToldView.{mark_view};
 ghost use Rattle.listing_parser.specs.Parsing.{own_line};
 ghost use Rattle.thumb_syntax.specs.ParsedView.{shown};
@@ -162,7 +163,8 @@ fn front_text(alloc: Global, line: &ListingLine) -> Result<Vec<u8>, AllocError>
 /// The line of these labels alone. `text` is its bytes up to and including the last label's colon; a newline is added.
 pub fn line_of_labels(names: Vec<Vec<u8>>, mut text: Vec<u8>) -> Result<ListingLine, AllocError>
     requires { 0 < length names.items }
-    ensures { IfOk result (λ l. line_view l ≡ record { names = map (λ name. name.items) names.items; statement = Nothing; text = text.items ++ 10 ∷ []; front = text.items ++ 10 ∷ [] }) }
+    ensures line { IfOk result (λ l. line_view l ≡ record { names = map (λ name. name.items) names.items; statement = Nothing; text = text.items ++ 10 ∷ []; front = text.items ++ 10 ∷ [] }) }
+    ensures mark { IfOk result (λ l. mark_view l.mark ≡ Unmarked) }
 {
     let front = text.len();
     text.push(b'\n')?;

@@ -1,6 +1,8 @@
 //! Lets a branch go to another label, in a list of lines: its line is replaced by a new one, and all other lines keep their bytes.
 ghost use Rattle.std.specs.Prelude.{◌≡◌, [], Some, map, IfOk};
 ghost use Rattle.thumb_model.specs.Listing.{Instruction};
+ghost use Rattle.listing_parser.specs.Directives.{Unmarked};
+ghost use Rattle.listing_parser.specs.ToldView.{mark_view};
 ghost use Rattle.listing_parser.specs.Views.{line_view};
 ghost use Rattle.listing_parser.specs.Parsing.{line_mentioning};
 ghost use Rattle.listing_parser.specs.Targets.{aimed_lines};
@@ -15,12 +17,13 @@ use thumb_syntax::{Label, Parsed};
 /// A line of its own for a branch to a label: a tab, its canonical text with the label's name and a newline.
 #[tactic(auto, unfolding(crate::specs::Parsing::line_mentioning))]
 pub fn branch_line(alloc: Global, instr: &Instr, name: &[u8]) -> Result<ListingLine, Memory>
-    ensures { IfOk result (λ l. line_view l ≡ record {
+    ensures line { IfOk result (λ l. line_view l ≡ record {
       names = [];
       statement = Instruction instr.now (Some (record { name = name.now; plus = 0 }));
       text = line_mentioning instr.now (Some (record { name = name.now; plus = 0 }));
       front = [];
     }) }
+    ensures mark { IfOk result (λ l. mark_view l.mark ≡ Unmarked) }
 {
     let label = Some(Label { name, added: 0 });
     let text = own_text(
