@@ -1,11 +1,11 @@
 //! Whether what a line mentions stays within reach however many bytes go in between.
 ghost use Rattle.std.specs.Prelude.{◌≡◌, ◌≤◌, ◌^◌, Some};
-ghost use Rattle.thumb_model.specs.Layout.{cleared};
 ghost use Rattle.listing_parser.specs.Views.{mention_view, statement_view};
 ghost use Rattle.steady_layout.specs.Steady.{reaches as is_reached, steady_branch as branch_is_steady, steady_literal as literal_is_steady, steady_aim as aim_is_steady, steady_instr, steady_at, labels_in, sets_in};
 ghost use Rattle.steady_layout.specs.Starts.{AreStarts};
 
 use crate::starts::Start;
+use label_layout::cleared;
 use listing_parser::{Listing, Mention, Statement};
 use thumb_instr::Instr;
 
@@ -69,16 +69,6 @@ fn steady_aim(
     }
 }
 
-/// The address that a listing sets for a name, with bit 0 cleared.
-fn cleared_address(listing: &Listing, name: &[u8]) -> Option<u32>
-    ensures { result ≡ sets_in listing.now name.now }
-{
-    match listing.set_address(name) {
-        Some(address) => Some(address / 2 * 2),
-        None => None,
-    }
-}
-
 /// Whether what an instruction mentions stays within reach. The starts are those of the listing's lines.
 fn is_steady_mention(
     starts: &[Start],
@@ -94,7 +84,7 @@ fn is_steady_mention(
     match listing.label_line(&mention.name) {
         Some(line) => steady_aim(base, here, instr, Some(starts[line]), None, mention.plus),
         None => {
-            let set = cleared_address(listing, &mention.name);
+            let set = cleared(listing.set_address(&mention.name));
             steady_aim(base, here, instr, None, set, mention.plus)
         }
     }

@@ -1,5 +1,6 @@
 use Rattle.std.proofs.Common.{◌≡◌, ◌∙◌, ◌<◌, false, List, ℕ, Option, Some, None, length, get_or, ap, sym, arith}
 use Rattle.thumb_model.specs.Listing.{Name, ListingLine}
+use Rattle.thumb_model.specs.Layout.{cleared, set_address}
 use Rattle.listing_parser.specs.TableWords.{label_line}
 use Rattle.listing_parser.proofs.LabelLemmas.{label_within}
 use Rattle.steady_layout.specs.declared.starts.Start.{Start}
@@ -42,5 +43,5 @@ returns-in-None c =
     let label : labels_in c.args.base c.args.listing.now name ≡ None =
     no_label name 0 (first c.args.base) c.args.listing.now (sym (c.in-None.ensures ∙ ap (λ (q : Name). label_line q 0 c.args.listing.now) c.deref.ensures.value)) in
     c.steady_aim-in-None.ensures
-    ∙ ap (λ (o : Option ℕ). steady_aim c.args.base c.args.here c.args.instr.now None o c.args.mention.now.plus) (c.cleared_address-set.ensures ∙ ap (sets_in c.args.listing.now) c.deref-in-None.ensures.value)
+    ∙ ap (λ (o : Option ℕ). steady_aim c.args.base c.args.here c.args.instr.now None o c.args.mention.now.plus) (c.cleared-set.ensures ∙ ap cleared (c.set_address.ensures ∙ ap (λ (q : Name). set_address q c.args.listing.now) c.deref-in-None.ensures.value))
     ∙ ap (λ (o : Option Start). steady_aim c.args.base c.args.here c.args.instr.now o (sets_in c.args.listing.now name) c.args.mention.now.plus) (sym label)
