@@ -10,7 +10,7 @@ use Rattle.thumb_instr.specs.declared.instr.Instr.{Instr}
 use Rattle.thumb_instr.specs.Window.{Low, renamed}
 use Rattle.thumb_instr.proofs.RenamingLemmas.{window_renamed}
 use Rattle.thumb_model.specs.Listing.{Name, Mention, Value, Number, OfName, Statement, Nothing, Instruction, Words, Aligns, Sets, ListingLine, Word, Label, places_in, places_of, labels_from, code_of, has_label}
-use Rattle.thumb_model.specs.Layout.{instr_size, padding, size_at, end_of, label_address, set_in, set_address, cleared, lies_in}
+use Rattle.thumb_model.specs.Layout.{instr_size, padding, size_at, end_of, label_address, set_in, set_address, cleared, lies_in, or_first}
 use Rattle.rule_model.specs.Rules.{Rule, AreSound}
 use Rattle.thumb_model.specs.Effect.{AreOver}
 use Rattle.thumb_model.specs.Replaced.{move_label, is_op, is_align, are_joined, are_joined_from, without, labels_kept, new_line, replaced_lines}
@@ -21,11 +21,11 @@ use Rattle.rule_model.proofs.Table.{window_length}
 use Rattle.thumb_model.proofs.LinesReplaced.{ops_of, before, past_words}
 use Rattle.rule_model.proofs.LinesKept.{some_left as some_instruction, code_of_after}
 use Rattle.label_layout.proofs.Shared.{need}
-use Rattle.thumb_assembler.specs.Bytes.{lies_nowhere, may_leave, branch_lost, value_lost, values_lost, lies_inside, flaw_of, or_first, flaws_from, first_flaw}
+use Rattle.thumb_assembler.specs.Bytes.{lies_nowhere, may_leave, branch_lost, value_lost, values_lost, lies_inside, flaw_of, flaws_from, first_flaw}
 use Rattle.thumb_machine.proofs.WordLemmas.{some_or as some_else}
 use Rattle.listing_laws.proofs.Fitted.{two_bytes as some_bytes}
-use Rattle.thumb_assembler.proofs.Around.{labelled, no_flaw}
-use Rattle.thumb_model.proofs.Shared.{two_bytes}
+use Rattle.thumb_assembler.proofs.Around.{labelled}
+use Rattle.thumb_model.proofs.Shared.{first_none, two_bytes}
 use Rattle.kept_layout.proofs.SetsKept.{op_sets_none, without_sets, labels_set_none, new_set_none}
 
 -- ---- paddings ----
@@ -325,7 +325,7 @@ flawless_from : (base : ℕ) (all : List ListingLine) (n : ℕ) (ls : List Listi
 unfolding AreFlawless
 flawless_from base all n [] e = tt
 flawless_from base all n (l ∷ ls) e =
-    let parts = no_flaw n (flaw_of base all l.statement) (flaws_from base all (n + 1) ls) e in
+    let parts = first_none n (flaw_of base all l.statement) (flaws_from base all (n + 1) ls) e in
     (parts.0, flawless_from base all (n + 1) ls parts.1)
 
 from_flawless : (base : ℕ) (all : List ListingLine) (n : ℕ) (ls : List ListingLine) → AreFlawless base all ls → flaws_from base all n ls ≡ None

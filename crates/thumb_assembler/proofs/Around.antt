@@ -14,14 +14,14 @@ use Rattle.thumb_model.specs.Naming.{Naming, Fits, points, is_in_range, laid, wo
 use Rattle.thumb_model.specs.States.{World, Around, Inside, External}
 use Rattle.thumb_model.specs.Acts.{act}
 use Rattle.thumb_model.specs.Steps.{label_place, point_among, set_bit, landing, word_of_mention, word_of_place, word_behind, literal_word, target_at, around_of}
-use Rattle.thumb_assembler.specs.Bytes.{lies_at, mention_lies, Aims, IsSetBy, lies_nowhere, branch_lost, flaw_of, flaws_from, or_first}
+use Rattle.thumb_assembler.specs.Bytes.{lies_at, mention_lies, Aims, IsSetBy, lies_nowhere, branch_lost, flaw_of, flaws_from}
 use Rattle.thumb_model.proofs.Tied.{TargetTied}
 use Rattle.listing_parser.specs.TableWords.{words_from}
 use Rattle.listing_parser.specs.Targets.{from_label, reaches, is_literal, is_code_label, is_label}
 use Rattle.listing_parser.proofs.LabelLemmas.{code_place, label_among}
 use Rattle.listing_parser.proofs.RunLemmas.{reaches_by_count}
 use Rattle.label_layout.proofs.Sums.{at_end}
-use Rattle.thumb_assembler.specs.declared.errors.Flaw.{Flaw}
+use Rattle.thumb_model.proofs.Shared.{first_none}
 use Rattle.thumb_assembler.specs.declared.errors.Flaw.TheVariants as flaw
 use Rattle.thumb_assembler.specs.Fair.{label_in, is_fair}
 use Rattle.thumb_assembler.specs.Runs.{Loaded, word_at, is_code_address, aim_from, goes_to, target_in, literal_in, following, around_in, lands_at, IsAssembled, loaded}
@@ -50,13 +50,9 @@ same_act b at to (instr.Branch d) j w a = ap (λ (k : Instr). act b k w) a.2
 same_act b at to (instr.Call d) j w a = ap (λ (k : Instr). act b k w) a.2
 same_act b at to i j w a = ap (λ (k : Instr). act b k w) a
 
-pub no_flaw : (n : ℕ) (o : Option Flaw) (rest : Option (ℕ × Flaw)) → or_first n o rest ≡ None → (o ≡ None) × (rest ≡ None)
-no_flaw n None rest e = (refl, e)
-no_flaw n (Some f) rest e = absurd (let bad : Some (n, f) ≡ None = e in cc)
-
 flawless : (base : ℕ) (all : List ListingLine) (n : ℕ) (before after : List ListingLine) (l : ListingLine) → flaws_from base all n (before ++ l ∷ after) ≡ None → flaw_of base all l.statement ≡ None
-flawless base all n [] after l e = (no_flaw n (flaw_of base all l.statement) (flaws_from base all (n + 1) after) e).0
-flawless base all n (b ∷ bs) after l e = flawless base all (n + 1) bs after l (no_flaw n (flaw_of base all b.statement) (flaws_from base all (n + 1) (bs ++ l ∷ after)) e).1
+flawless base all n [] after l e = (first_none n (flaw_of base all l.statement) (flaws_from base all (n + 1) after) e).0
+flawless base all n (b ∷ bs) after l e = flawless base all (n + 1) bs after l (first_none n (flaw_of base all b.statement) (flaws_from base all (n + 1) (bs ++ l ∷ after)) e).1
 
 pub labelled : (name : Name) (p at : ℕ) (ls : List ListingLine) → has_label name (labels_from p ls) ≡ is_some (label_address name at ls)
 labelled name p at [] = refl

@@ -1,10 +1,10 @@
 -- The invariant of the loop over a listing's lines.
-use Rattle.std.proofs.Common.{◌≡◌, ◌∙◌, ℕ, ◌+◌, ◌%◌, ◌<◌, ◌≤◌, true, List, [], ◌∷◌, ◌++◌, length, map, drop, get_or, refl, sym, ap, subst, arith, Option, Some, None, append_assoc, append-nil}
+use Rattle.std.proofs.Common.{◌≡◌, ◌∙◌, ℕ, ◌+◌, ◌%◌, ◌<◌, ◌≤◌, true, List, [], ◌∷◌, ◌++◌, length, map, drop, get_or, refl, sym, ap, subst, arith, Option, None, append_assoc, append-nil}
 use Rattle.std.proofs.lemmas.Bool.{and_parts}
 use Rattle.thumb_model.specs.Listing.{Name, ListingLine}
-use Rattle.thumb_model.specs.Layout.{Fault, Layable, size_at, end_of, lies_in, fault_at, faults_from}
-use Rattle.thumb_model.specs.Layout as layout
-use Rattle.thumb_assembler.specs.Bytes.{AreLineBytes, IsSetBy, AreImage, flaws_from, first_flaw, or_first}
+use Rattle.thumb_model.specs.Layout.{Layable, size_at, end_of, lies_in, fault_at, faults_from, or_first}
+use Rattle.thumb_model.proofs.Shared.{first_none}
+use Rattle.thumb_assembler.specs.Bytes.{AreLineBytes, IsSetBy, AreImage, flaws_from, first_flaw}
 use Rattle.std.proofs.Math.ListN.{drop_of_length-le}
 use Rattle.listing_parser.specs.declared.line.ListingLine.{ListingLine as Lines}
 use Rattle.listing_parser.specs.Views.{line_view}
@@ -32,10 +32,6 @@ pub progress_start : (base : ℕ) (all : List ListingLine) → Layable base all 
 unfolding Completes
 progress_start base all layable fair even = record { end = refl; flaws = refl; faults = layable; fair = fair; even = even; done = λ set h rest g. g }
 
-no_fault : (n : ℕ) (o : Option Fault) (rest : Option (ℕ × Fault)) → layout.or_first n o rest ≡ None → (o ≡ None) × (rest ≡ None)
-no_fault n None rest e = (refl, e)
-no_fault n (Some f) rest e = absurd (let bad : Some (n, f) ≡ None = e in cc)
-
 pub record Next (base : ℕ) (all : List ListingLine) (at : ℕ) (l : ListingLine) : Type 0 where
   pub fair : is_fair all l.statement ≡ true
   pub fault : fault_at (lies_in base all) at l.statement ≡ None
@@ -48,7 +44,7 @@ next_is base all number at l left bytes p =
     let least = at_end at (l ∷ left) in
     record {
       fair = (and_parts (is_fair all l.statement) (are_fair all left) p.fair).0;
-      fault = (no_fault (number + 1) (fault_at (lies_in base all) at l.statement) _ p.faults).0;
+      fault = (first_none (number + 1) (fault_at (lies_in base all) at l.statement) _ p.faults).0;
       even = p.even;
       within = omega arith;
     }
@@ -64,7 +60,7 @@ progress_more base all number at l left old new is p h =
     (record {
       end = p.end;
       flaws = sym (ap (λ (o : Option Flaw). or_first (number + 1) o (flaws_from base all (number + 1 + 1) left)) h.sound) ∙ p.flaws;
-      faults = (no_fault (number + 1) (fault_at (lies_in base all) at l.statement) _ p.faults).1;
+      faults = (first_none (number + 1) (fault_at (lies_in base all) at l.statement) _ p.faults).1;
       fair = (and_parts (is_fair all l.statement) (are_fair all left) p.fair).1;
       even = (let e : (at + size_at l.statement at) % 2 ≡ 0 = (let even = n.even in omega arith) in e);
       done = λ set g rest r.

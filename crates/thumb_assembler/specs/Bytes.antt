@@ -7,7 +7,7 @@ use Rattle.thumb_instr.specs.declared.distance.Distance.{Distance}
 use Rattle.thumb_instr.specs.Items.{bytes_of}
 use Rattle.thumb_table.specs.Table.{Encodes}
 use Rattle.thumb_model.specs.Listing.{Name, Mention, Value, Statement, Nothing, Instruction, Words, Aligns, Sets, ListingLine, Number, OfName}
-use Rattle.thumb_model.specs.Layout.{instr_size, padding, size_at, label_address, distance, literal_base, set_address, end_of, lies_in}
+use Rattle.thumb_model.specs.Layout.{instr_size, padding, size_at, label_address, distance, literal_base, set_address, end_of, lies_in, or_first}
 use Rattle.thumb_model.specs.Naming.{laid, Naming}
 use Rattle.thumb_model.specs.Steps.{word_of_value}
 use Rattle.thumb_assembler.specs.declared.errors.ImageError.{ImageError}
@@ -128,11 +128,7 @@ flaw_of base all (Words vs) = if values_lost base all vs then Some flaw.NoAddres
 flaw_of base all (Aligns size most) = None
 flaw_of base all (Sets name address) = if lies_inside base all address then Some flaw.Inside else None
 
--- the flaw of line n where it has one, else the first flaw of the lines after it
-abbrev pub or_first : ℕ → Option Flaw → Option (ℕ × Flaw) → Option (ℕ × Flaw)
-or_first n None rest = rest
-or_first n (Some f) rest = Some (n, f)
-
+-- the first line with a flaw, by its number
 abbrev pub flaws_from : ℕ → List ListingLine → ℕ → List ListingLine → Option (ℕ × Flaw)
 flaws_from base all n [] = None
 flaws_from base all n (l ∷ ls) = or_first n (flaw_of base all l.statement) (flaws_from base all (n + 1) ls)

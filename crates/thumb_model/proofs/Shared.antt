@@ -7,7 +7,7 @@ use Rattle.thumb_instr.specs.Window.{is_in_window}
 use Rattle.thumb_instr.specs.declared.instr.Instr.{Instr}
 use Rattle.thumb_model.specs.Effect.{one_of}
 use Rattle.thumb_model.specs.Flow.{Way, ways, ways_on}
-use Rattle.thumb_model.specs.Layout.{Fault, aim_fault, fault_at, instr_size, or_first}
+use Rattle.thumb_model.specs.Layout.{aim_fault, fault_at, instr_size, or_first}
 use Rattle.thumb_model.specs.Listing.{Aligns, Code, Instruction, Name, Nothing, Place, Sets, Statement, Value, Word, Words, is_op_place}
 use Rattle.thumb_instr.specs.declared.instr.Instr.TheVariants as instr
 
@@ -48,7 +48,7 @@ one_of_unmap to r (x ∷ xs) h =
       | false ↦ λ t g. (let f = one_of_unmap to r xs g in (f.0, or_right (f.0 == x) _ f.1, f.2))
     ] refl h
 
-pub first_none : (n : ℕ) (o : Option Fault) (rest : Option (ℕ × Fault)) → or_first n o rest ≡ None → (o ≡ None) × (rest ≡ None)
+pub first_none : {A : Type 0} (n : ℕ) (o : Option A) (rest : Option (ℕ × A)) → or_first n o rest ≡ None → (o ≡ None) × (rest ≡ None)
 first_none n None rest e = (refl, e)
 first_none n (Some f) rest e = absurd (cc)
 

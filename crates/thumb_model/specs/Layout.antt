@@ -120,11 +120,12 @@ fault_at lies at (Words vs) = None
 fault_at lies at (Aligns size most) = None
 fault_at lies at (Sets name address) = None
 
--- the first line with a fault, by its number
-abbrev pub or_first : ℕ → Option Fault → Option (ℕ × Fault) → Option (ℕ × Fault)
+-- what is found at line n where something is, else what is found first in the lines after it
+abbrev pub or_first : {A : Type 0} → ℕ → Option A → Option (ℕ × A) → Option (ℕ × A)
 or_first n None rest = rest
 or_first n (Some f) rest = Some (n, f)
 
+-- the first line with a fault, by its number
 abbrev pub faults_from : (Name → Option ℕ) → ℕ → ℕ → List ListingLine → Option (ℕ × Fault)
 faults_from lies n at [] = None
 faults_from lies n at (l ∷ ls) = or_first n (fault_at lies at l.statement) (faults_from lies (n + 1) (at + size_at l.statement at) ls)
