@@ -10,14 +10,16 @@ use Rattle.thumb_model.specs.Same.{has_ended}
 use Rattle.thumb_machine.specs.declared.answers.Answer.{Answer}
 use Rattle.thumb_machine.specs.declared.world.End.{End}
 use Rattle.thumb_machine.specs.declared.world.End.TheVariants as end
-use Rattle.thumb_machine.specs.declared.machine.Position.{Position as MachinePosition}
-use Rattle.thumb_machine.specs.declared.machine.Position.TheVariants as at
-use Rattle.thumb_machine.specs.declared.machine.Stage.{Stage}
-use Rattle.thumb_machine.specs.declared.machine.Stage.TheVariants as stage
+use Rattle.thumb_machine.specs.declared.position.Position.{Position as MachinePosition}
+use Rattle.thumb_machine.specs.declared.position.Position.TheVariants as at
+use Rattle.thumb_machine.specs.declared.position.Stage.{Stage}
+use Rattle.thumb_machine.specs.declared.position.Stage.TheVariants as stage
+use Rattle.thumb_machine.specs.declared.world.World.{World}
 use Rattle.thumb_machine.specs.declared.machine.Machine.{Machine}
 use Rattle.thumb_machine.specs.Outside.{events_of}
 use Rattle.thumb_machine.specs.Stages.{end_of, next_at, next_on, stage_of}
-use Rattle.thumb_machine.specs.Running.{EndedBy, IsStage, Stands, Stepped, at_of, state_of}
+use Rattle.thumb_machine.specs.Positions.{EndedBy, IsStage, Stands, at_of, state_of}
+use Rattle.thumb_machine.specs.Running.{Stepped}
 use Rattle.audit_cli.specs.Trace.{GoesOn, IsRun, StandsAfter, goes, wants, ended}
 use Rattle.audit_cli.proofs.StayLemmas.{stays_quiet}
 
@@ -82,19 +84,19 @@ times_suc f (suc n) a = times_suc f n (f a)
 times_more : {A : Type 0} (f : A → A) (n : ℕ) (a : A) → times f (n + 1) a ≡ f (times f n a)
 times_more f n a = let e : n + 1 ≡ suc n = omega arith in ap (λ (k : ℕ). times f k a) e ∙ times_suc f n a
 
--- the state that a machine stands in
-stands_in : (s : State) (m : Machine) (left : List Answer) → Stands s m left → state_of m left ≡ s
-stands_in s m left h = λ i. record { world = record { values = h.values i; memory = h.memory i; answers = h.answers i }; at = h.place i; events = h.events i }
+-- the state that a run stands in
+stands_in : (s : State) (world : World) (here : MachinePosition) (left : List Answer) → Stands s world here left → state_of world here left ≡ s
+stands_in s world here left h = λ i. record { world = record { values = h.values i; memory = h.memory i; answers = h.answers i }; at = h.at i; events = h.events i }
 
 -- so many steps were taken, and the run goes on
 pub record SoFar (names : Naming) (code : Code) (start : State) (n : ℕ) (m : Machine) (left : List Answer) : Type 0 where
-  pub stands : Stands (times (step names code) n start) m left
+  pub stands : Stands (times (step names code) n start) m.world m.at left
   pub goes_on : (k : ℕ) → k < n → GoesOn names code (times (step names code) k start)
   pub running : has_ended (at_of m.at) ≡ false
 
-pub none_yet : (names : Naming) (code : Code) (m : Machine) (left : List Answer) → has_ended (at_of m.at) ≡ false → SoFar names code (state_of m left) 0 m left
+pub none_yet : (names : Naming) (code : Code) (m : Machine) (left : List Answer) → has_ended (at_of m.at) ≡ false → SoFar names code (state_of m.world m.at left) 0 m left
 none_yet names code m left h = record {
-  stands = record { values = refl; memory = refl; answers = refl; place = refl; events = refl };
+  stands = record { values = refl; memory = refl; answers = refl; at = refl; events = refl };
   goes_on = λ k lt. absurd (omega arith);
   running = h;
 }
@@ -121,17 +123,17 @@ module _ (names : Naming) (code : Code) (start : State) (most n : ℕ) (m new : 
   abbrev next : Continuation
   next = next_at names code now.at now
 
-  stood : state_of m before ≡ now
-  stood = stands_in now m before far.stands
+  stood : state_of m.world m.at before ≡ now
+  stood = stands_in now m.world m.at before far.stands
 
-  stands_next : Stands (times (step names code) (n + 1) start) new left
-  stands_next = subst (λ (t : State). Stands t new left) (ap (step names code) stood ∙ sym (times_more (step names code) n start)) did.stands
+  stands_next : Stands (times (step names code) (n + 1) start) new.world new.at left
+  stands_next = subst (λ (t : State). Stands t new.world new.at left) (ap (step names code) stood ∙ sym (times_more (step names code) n start)) did.stands
 
   staged : IsStage s next new.at
   staged = subst (λ (t : State). IsStage s (next_at names code t.at t) new.at) stood did.stage
 
   running_now : has_ended now.at ≡ false
-  running_now = sym (ap has_ended far.stands.place) ∙ far.running
+  running_now = sym (ap has_ended far.stands.at) ∙ far.running
 
   -- no step so far needed more answers than were left
   went : (next ≡ Stay → ⊥) → (k : ℕ) → k < n + 1 → GoesOn names code (times (step names code) k start)
@@ -144,7 +146,7 @@ module _ (names : Naming) (code : Code) (start : State) (most n : ℕ) (m new : 
   one_more same = record {
     stands = stands_next;
     goes_on = went (no_stay next (on same));
-    running = ap has_ended stands_next.place ∙ ap (λ (t : State). has_ended t.at) (times_more (step names code) n start) ∙ step_runs names code now.at now (on same);
+    running = ap has_ended stands_next.at ∙ ap (λ (t : State). has_ended t.at) (times_more (step names code) n start) ∙ step_runs names code now.at now (on same);
   }
 
   stays : s ≡ stage.Wants → next ≡ Stay
@@ -168,9 +170,9 @@ module _ (names : Naming) (code : Code) (start : State) (most n : ℕ) (m new : 
         within = omega (arith, less);
         goes_on = went (λ h. let bad : Over ≡ Stay = sym o.0 ∙ h in absurd (cc));
         stands = subst (λ (t : Stage). StandsAfter names code most (n + 1) (times (step names code) (n + 1) start) t) (sym o.3)
-            (ended (sym (ap has_ended stands_next.place) ∙ ap (λ (a : MachinePosition). has_ended (at_of a)) o.2) ends.0 ends.1 e (sym stands_next.events ∙ ends.2) ends.3);
+            (ended (sym (ap has_ended stands_next.at) ∙ ap (λ (a : MachinePosition). has_ended (at_of a)) o.2) ends.0 ends.1 e (sym stands_next.events ∙ ends.2) ends.3);
       }
 
 -- all steps were taken
 pub all_taken : (names : Naming) (code : Code) (start : State) (most : ℕ) (m : Machine) (left : List Answer) → SoFar names code start most m left → IsRun names code start most most stage.Going
-all_taken names code start most m left far = record { within = omega arith; goes_on = far.goes_on; stands = goes (sym (ap has_ended far.stands.place) ∙ far.running) refl }
+all_taken names code start most m left far = record { within = omega arith; goes_on = far.goes_on; stands = goes (sym (ap has_ended far.stands.at) ∙ far.running) refl }

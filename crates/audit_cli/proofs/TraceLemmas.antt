@@ -9,11 +9,12 @@ use Rattle.thumb_model.specs.States.{Event, Here, State, with_bytes}
 use Rattle.thumb_model.specs.Steps.{step, times}
 use Rattle.thumb_model.specs.Same.{begun, here_or_ended}
 use Rattle.thumb_machine.specs.declared.answers.Answer.{Answer}
-use Rattle.thumb_machine.specs.declared.machine.Machine.{Machine}
-use Rattle.thumb_machine.specs.declared.machine.Stage.{Stage}
+use Rattle.thumb_machine.specs.declared.world.World.{World}
+use Rattle.thumb_machine.specs.declared.position.Position.{Position}
+use Rattle.thumb_machine.specs.declared.position.Stage.{Stage}
 use Rattle.thumb_machine.specs.declared.machine.State.{State as Begins}
 use Rattle.thumb_machine.specs.Outside.{answers_of, events_of}
-use Rattle.thumb_machine.specs.Running.{at_of, state_of}
+use Rattle.thumb_machine.specs.Positions.{at_of, state_of}
 use Rattle.thumb_machine.specs.Starting.{Starts, start_values as values_at}
 use Rattle.thumb_machine.specs.Laid.{IsLaid}
 use Rattle.audit_cli.specs.Trace.{IsRun, answers_from, start_values, start_world, event_lines, steps_line, TraceArguments, LinesTrace, ran, Traces, read}
@@ -27,16 +28,16 @@ goes_on asked text lines (Err e) is h = tt
 
 -- ---- the run ----
 
--- a machine that starts from the fixed state is where the trace begins
-pub begins : (lines : List ListingLine) (label : List ℕ) (p : ℕ) (b : Begins) (m : Machine) (left : List Answer) → place_of (code_of lines) label ≡ Some p
-    → values_at b ≡ start_values → b.bytes ≡ [] → b.place ≡ p → Starts b m → answers_of left ≡ answers_from 1 256 → state_of m left ≡ begun (code_of lines) label start_world []
-begins lines label p b m left at values bytes place starts answers = λ i. record {
+-- a run that starts from the fixed state is where the trace begins
+pub begins : (lines : List ListingLine) (label : List ℕ) (p : ℕ) (b : Begins) (world : World) (here : Position) (left : List Answer) → place_of (code_of lines) label ≡ Some p
+    → values_at b ≡ start_values → b.bytes ≡ [] → b.place ≡ p → Starts b b.place world here → answers_of left ≡ answers_from 1 256 → state_of world here left ≡ begun (code_of lines) label start_world []
+begins lines label p b world here left at values bytes place starts answers = λ i. record {
   world = record {
     values = (starts.values ∙ values) i;
     memory = (starts.memory ∙ ap (λ bs. with_bytes bs (λ (a : ℕ). 0)) bytes) i;
     answers = answers i;
   };
-  at = (ap at_of starts.place ∙ ap Here place ∙ ap here_or_ended (sym at)) i;
+  at = (ap at_of starts.at ∙ ap Here place ∙ ap here_or_ended (sym at)) i;
   events = ap events_of starts.events i;
 }
 

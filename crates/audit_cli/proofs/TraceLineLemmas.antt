@@ -2,7 +2,7 @@
 use Rattle.std.proofs.Common.{◌≡◌, ◌++◌, ◌∷◌, [], ℕ}
 use Rattle.std.specs.Prelude.{codes}
 use Rattle.std.specs.Fmt.{decimal}
-use Rattle.thumb_machine.specs.declared.machine.Stage.{Stage}
+use Rattle.thumb_machine.specs.declared.position.Stage.{Stage}
 use Rattle.audit_cli.specs.Trace.{stage_word, steps_line}
 use Rattle.audit_cli.proofs.RefusalLemmas.{three}
 

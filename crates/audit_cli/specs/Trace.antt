@@ -8,8 +8,8 @@ use Rattle.thumb_model.specs.Steps.{step, times}
 use Rattle.thumb_model.specs.Listing.{Code, Name, ListingLine, code_of, place_of}
 use Rattle.thumb_model.specs.Same.{has_ended, begun}
 use Rattle.thumb_machine.specs.declared.world.End.{End}
-use Rattle.thumb_machine.specs.declared.machine.Stage.{Stage}
-use Rattle.thumb_machine.specs.declared.machine.Stage.TheVariants as stage
+use Rattle.thumb_machine.specs.declared.position.Stage.{Stage}
+use Rattle.thumb_machine.specs.declared.position.Stage.TheVariants as stage
 use Rattle.thumb_machine.specs.Stages.{end_of, next_at, stage_of}
 use Rattle.std.specs.List.{flat_map}
 use Rattle.audit_cli.specs.Printed.{printed, and_number, refusal_line, IsUnread, IsUnlaid}

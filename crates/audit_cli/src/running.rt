@@ -5,7 +5,8 @@ ghost use Rattle.thumb_model.specs.Naming.{Naming};
 ghost use Rattle.thumb_model.specs.Steps.{step, times};
 ghost use Rattle.thumb_model.specs.Same.{has_ended};
 ghost use Rattle.thumb_machine.specs.Outside.{events_of};
-ghost use Rattle.thumb_machine.specs.Running.{IsProgram, at_of, state_of};
+ghost use Rattle.thumb_machine.specs.Positions.{at_of, state_of};
+ghost use Rattle.thumb_machine.specs.Running.{IsProgram};
 ghost use Rattle.audit_cli.specs.Trace.{IsRun};
 
 use std::alloc::AllocError;
@@ -18,9 +19,9 @@ pub(crate) fn run(
     most: u32,
 ) -> Result<(u32, Stage), AllocError>
     requires { has_ended (at_of machine.old.at) ≡ false }
-    ensures run { IfOk result (λ r. (names : Naming) (code : Code) → IsProgram names code machine.old.program → IsRun names code (state_of machine.old answers.old) most r.0 r.1) }
+    ensures run { IfOk result (λ r. (names : Naming) (code : Code) → IsProgram names code machine.old.program → IsRun names code (state_of machine.old.world machine.old.at answers.old) most r.0 r.1) }
     ensures events { IfOk result (λ r. (names : Naming) (code : Code) → IsProgram names code machine.old.program →
-        events_of machine.new.world.events.items ≡ (times (step names code) r.0 (state_of machine.old answers.old)).events) }
+        events_of machine.new.world.events.items ≡ (times (step names code) r.0 (state_of machine.old.world machine.old.at answers.old)).events) }
 {
     for taken in 0..most {
         match machine.step(answers)? {

@@ -13,7 +13,7 @@ use Rattle.thumb_model.specs.Same.{has_ended, begun}
 use Rattle.thumb_model.proofs.Returns.{returns_are_cuts}
 use Rattle.thumb_machine.specs.Laid.{IsLaid}
 use Rattle.thumb_machine.specs.Stages.{end_of, next_on, next_at, stage_of}
-use Rattle.thumb_machine.specs.declared.machine.Stage.{Stage}
+use Rattle.thumb_machine.specs.declared.position.Stage.{Stage}
 use Rattle.listing_parser.proofs.MadeLemmas.{one_listing}
 use Rattle.command_runs.specs.Plans.{Outcome, Does}
 use Rattle.audit_cli.specs.Trace.{TraceArguments, GoesOn, StandsAfter, goes, wants, ended, IsRun, start_world, event_lines, steps_line, LinesTrace, Traces, TraceComesTo}

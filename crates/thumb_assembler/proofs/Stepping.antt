@@ -1,75 +1,41 @@
 -- The machine's step at an instruction of an image is the model's step.
-use Rattle.std.proofs.Common.{◌≡◌, ℕ, ◌∙◌, List, [], ◌∷◌, ◌++◌, Some, Result, Ok, Err, refl, sym, ap, subst, append_assoc}
+use Rattle.std.proofs.Common.{◌≡◌, ℕ, List, [], ◌∷◌, ◌++◌, Result, Ok, Err, refl, sym, ap, subst}
 use Rattle.std.specs.Prelude.{IfOk, OnErr}
 use Rattle.thumb_instr.specs.declared.instr.Instr.{Instr}
 use Rattle.thumb_machine.specs.declared.answers.Answer.{Answer}
-use Rattle.thumb_machine.specs.declared.world.World.{World}
 use Rattle.thumb_machine.specs.declared.world.Around.{Around}
 use Rattle.thumb_machine.specs.declared.world.End.{End}
 use Rattle.thumb_machine.specs.declared.world.End.TheVariants as end
 use Rattle.thumb_machine.specs.declared.world.Continuation.{Continuation}
-use Rattle.thumb_machine.specs.declared.world.Continuation.TheVariants as next
-use Rattle.thumb_machine.specs.declared.machine.Stage.{Stage}
-use Rattle.thumb_machine.specs.declared.machine.Stage.TheVariants as stage
+use Rattle.thumb_machine.specs.declared.position.Position.{Position}
+use Rattle.thumb_machine.specs.declared.position.Position.TheVariants as at
+use Rattle.thumb_machine.specs.declared.position.Stage.{Stage}
+use Rattle.thumb_machine.specs.declared.position.Stage.TheVariants as stage
 use Rattle.thumb_machine.specs.Stages.{stage_of}
-use Rattle.thumb_machine.specs.Registers.{values_of}
 use Rattle.thumb_machine.specs.Memory.{memory_of}
 use Rattle.thumb_machine.specs.Outside.{events_of}
-use Rattle.thumb_machine.specs.Acting.{around_of, next_of, target_of, world_of, Acted, Changed, Changes, EndsBy}
+use Rattle.thumb_machine.specs.Acting.{around_of, target_of, world_of, Changed, Changes}
+use Rattle.thumb_machine.specs.Positions.{EndedBy, IsStage, at_of, state_of}
+use Rattle.thumb_machine.proofs.Arrivals.{Done, act_led}
 use Rattle.thumb_model.specs.States.{Act, State}
 use Rattle.thumb_model.specs.Acts.{act}
-use Rattle.thumb_model.specs.Steps.{arrives, does, falls, set_bit}
+use Rattle.thumb_model.specs.Steps.{does, falls, set_bit}
 use Rattle.thumb_model.specs.States as model
-use Rattle.thumb_assembler.specs.declared.machine.Position.{Position}
-use Rattle.thumb_assembler.specs.declared.machine.Position.TheVariants as at
 use Rattle.thumb_assembler.specs.declared.machine.ImageMachine.{ImageMachine}
-use Rattle.thumb_assembler.specs.Machines.{EndedBy, IsStage, LeadsTo, Stepped, Steps, at_of, loaded_of, state_of}
+use Rattle.thumb_assembler.specs.Machines.{Stepped, Steps, loaded_of}
 use Rattle.thumb_assembler.specs.Runs.{Loaded, stays, acts, falls_out, IsFetched, act_in, around_in, following, literal_in, lands_at, target_in}
 
 -- the surroundings of an instruction that the code computes are the model's
 pub around_is : (m : Loaded) (a : ℕ) (i : Instr) (around : Around) → target_of around.target ≡ target_in m a i → around.literal ≡ literal_in m a i → around.link ≡ set_bit (following a i) → around_of around (lands_at m) ≡ around_in m a i
 around_is m a i around t l k = λ n. record { target = t n; literal = l n; link = k n; lands = lands_at m }
 
--- a run that ended at an instruction has the event of its end as its last
-ended_by : (n : Continuation) (old new : Position) (a b : ℕ) (before es all : List model.Event) → old ≡ at.Here a → at_of new ≡ arrives a b (next_of n) → LeadsTo n new → EndsBy n es → all ≡ before ++ es → EndedBy old new all
-ended_by n old (at.Here q) a b before es all here arrived leads ends told = tt
-ended_by next.On old (at.Ended e) a b before es all here arrived leads ends told = absurd (cc)
-ended_by next.Stay old (at.Ended e) a b before es all here arrived leads ends told = absurd (cc)
-ended_by (next.To q) old (at.Ended e) a b before es all here arrived leads ends told = absurd (cc)
-ended_by (next.Over d) old (at.Ended e) a b before es all here arrived leads ends told =
-    let same : e ≡ d = cc in
-    let split : all ≡ (before ++ ends.0) ++ ends.1 ∷ [] = told ∙ ap (λ l. before ++ l) ends.2 ∙ sym (append_assoc before ends.0 (ends.1 ∷ [])) in
-    subst (λ (o : Position). EndedBy o (at.Ended e) all) (sym here) (before ++ ends.0, ends.1, split, ends.3 ∙ ap (λ (x : End). Some x) (sym same))
-
--- what the contracts give about a step at an instruction
-pub record Done (old : ImageMachine) (before : List Answer) (a : ℕ) (i : Instr) (n : Continuation) (middle : World) (new : ImageMachine) (left : List Answer) (s : Stage) : Type 0 where
-  pub here : old.at ≡ at.Here a
-  pub fetched : IsFetched (loaded_of old.image) a i
-  pub acted : Acted (act (around_in (loaded_of old.image) a i) i (world_of old.world before)) old.world middle left n
-  pub world : new.world ≡ middle
-  pub at : at_of new.at ≡ arrives a (following a i) (next_of n)
-  pub stage : IsStage s (next_of n) new.at
-  pub leads : LeadsTo n new.at
-
-pub does_step : (old : ImageMachine) (before : List Answer) (a : ℕ) (i : Instr) (n : Continuation) (middle : World) (new : ImageMachine) (left : List Answer) (s : Stage) → Done old before a i n middle new left s → Stepped old before new left s
-does_step old before a i n middle new left s d =
-    let start : State = state_of old before in
+pub does_step : (old : ImageMachine) (before : List Answer) (a : ℕ) (i : Instr) (n : Continuation) (new : ImageMachine) (left : List Answer) (s : Stage) → IsFetched (loaded_of old.image) a i
+    → Done a (following a i) (act (around_in (loaded_of old.image) a i) i (world_of old.world before)) n old.world old.at new.world new.at left s → Stepped old before new left s
+does_step old before a i n new left s fetched d =
+    let start : State = state_of old.world old.at before in
     let x : Act = act_in (loaded_of old.image) a i start in
-    let told : events_of new.world.events.items ≡ events_of old.world.events.items ++ x.events = ap (λ (w : World). events_of w.events.items) d.world ∙ d.acted.changed.events in
-    record {
-      next = x.next;
-      state = does a (following a i) x start;
-      step = acts a i (ap at_of d.here) d.fetched;
-      stands = record {
-        values = ap (λ (w : World). values_of w.registers) d.world ∙ d.acted.changed.registers;
-        memory = ap (λ (w : World). memory_of w.memory) d.world ∙ d.acted.changed.memory;
-        answers = d.acted.answers;
-        address = d.at ∙ ap (λ (y : model.Continuation). arrives a (following a i) y) d.acted.next;
-        events = told;
-      };
-      stage = subst (λ (y : model.Continuation). IsStage s y new.at) d.acted.next d.stage;
-      ends = ended_by n old.at new.at a (following a i) (events_of old.world.events.items) x.events (events_of new.world.events.items) d.here d.at d.leads d.acted.ends told;
-    }
+    let led = act_led a (following a i) x n old.world old.at before new.world new.at left s d in
+    record { next = x.next; state = does a (following a i) x start; step = acts a i (ap at_of d.here) fetched; stands = led.stands; stage = led.stage; ends = led.ends }
 
 ends_again : (here : Position) (e : End) (es : List model.Event) → here ≡ at.Ended e → EndedBy here here es
 ends_again (at.Ended d) e es h = refl
@@ -82,9 +48,9 @@ stage_again here e s h t = subst (λ (x : Position). IsStage s model.Over x) (sy
 pub ended_step : (m : ImageMachine) (left : List Answer) (e : End) (s : Stage) → m.at ≡ at.Ended e → s ≡ stage_of e → Stepped m left m left s
 ended_step m left e s h t = record {
   next = model.Over;
-  state = state_of m left;
+  state = state_of m.world m.at left;
   step = stays (ap at_of h);
-  stands = record { values = refl; memory = refl; answers = refl; address = refl; events = refl };
+  stands = record { values = refl; memory = refl; answers = refl; at = refl; events = refl };
   stage = stage_again m.at e s h t;
   ends = ends_again m.at e (events_of m.world.events.items) h;
 }
@@ -97,9 +63,9 @@ pub fall_step : (old new : ImageMachine) (left : List Answer) (a : ℕ) (s : Sta
     → new.at ≡ at.Ended end.Fell → Stepped old left new left s
 fall_step old new left a s h none c t e = record {
   next = model.Over;
-  state = falls (state_of old left);
+  state = falls (state_of old.world old.at left);
   step = falls_out a (ap at_of h) none;
-  stands = record { values = c.registers; memory = c.memory; answers = refl; address = ap at_of e; events = c.events };
+  stands = record { values = c.registers; memory = c.memory; answers = refl; at = ap at_of e; events = c.events };
   stage = stage_again new.at end.Fell s e t;
   ends = subst (λ (es : List model.Event). EndedBy old.at new.at es) (sym c.events) (fallen_at old.at new.at a (events_of old.world.events.items) h e);
 }
@@ -108,4 +74,4 @@ fall_step old new left a s h none c t e = record {
 pub fall_steps : {E : Type 0} (old new : ImageMachine) (left : List Answer) (a : ℕ) (r : Result Stage E) → old.at ≡ at.Here a → ((i : Instr) → IsFetched (loaded_of old.image) a i → ⊥) → Changes [] (memory_of old.world.memory) (model.Fell ∷ []) old.world new.world r
     → IfOk r (λ s. (s ≡ stage.Fell) × (new.at ≡ at.Ended end.Fell)) → OnErr r (new.at ≡ old.at) → Steps old left new left r
 fall_steps old new left a (Ok s) h none c t k = fall_step old new left a s h none c t.0 t.1
-fall_steps old new left a (Err x) h none c t k = record { values = c.registers; memory = c.memory; answers = refl; address = ap at_of k; events = c.events }
+fall_steps old new left a (Err x) h none c t k = record { values = c.registers; memory = c.memory; answers = refl; at = ap at_of k; events = c.events }

@@ -3,7 +3,8 @@ ghost use Rattle.std.specs.Prelude.{◌≡◌, ◌+◌, ◌*◌, ◌<◌, ◌^�
 ghost use Rattle.thumb_instr.specs.declared.instr.Instr.{Instr};
 ghost use Rattle.thumb_model.specs.Layout.{literal_base};
 ghost use Rattle.thumb_model.specs.Steps.{set_bit};
-ghost use Rattle.thumb_assembler.specs.Machines.{loaded_of, target_of};
+ghost use Rattle.thumb_machine.specs.Acting.{target_of};
+ghost use Rattle.thumb_assembler.specs.Machines.{loaded_of};
 ghost use Rattle.thumb_assembler.specs.Runs.{IsFetched, aim_from, byte_at, following, goes_to, half_at, is_code_address, literal_in, target_in, word_at};
 
 use label_layout::instr_size;

@@ -11,4 +11,4 @@ mod pushing;
 
 pub use assembling::assemble;
 pub use errors::ImageError;
-pub use machine::{ImageMachine, Position};
+pub use machine::ImageMachine;

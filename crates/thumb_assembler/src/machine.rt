@@ -1,32 +1,19 @@
 //! A machine that reads its instructions from an image and decodes them, so that an image's run can be compared with its listing's.
-ghost use Rattle.std.specs.Prelude.{◌≡◌, [], ◌∷◌, ℕ, IfOk, OnErr};
-ghost use Rattle.thumb_instr.specs.declared.instr.Instr.{Instr};
-ghost use Rattle.thumb_model.specs.States.{Fell, with_bytes};
-ghost use Rattle.thumb_model.specs.Steps.{arrives};
-ghost use Rattle.thumb_machine.specs.Acting.{Changes, next_of};
+ghost use Rattle.std.specs.Prelude.{◌≡◌, [], ℕ, IfOk, OnErr};
+ghost use Rattle.thumb_model.specs.States.{with_bytes};
 ghost use Rattle.thumb_machine.specs.Memory.{memory_of};
 ghost use Rattle.thumb_machine.specs.Registers.{values_of};
-ghost use Rattle.thumb_machine.specs.Stages.{stage_of};
-ghost use Rattle.thumb_machine.specs.Starting.{start_values};
-ghost use Rattle.thumb_assembler.specs.Machines.{IsStage, LeadsTo, Starts, Steps, at_of, loaded_of};
-ghost use Rattle.thumb_assembler.specs.Runs.{IsFetched, following};
+ghost use Rattle.thumb_machine.specs.Starting.{Starts, start_values};
+ghost use Rattle.thumb_assembler.specs.Machines.{Steps, loaded_of};
+ghost use Rattle.thumb_assembler.specs.Runs.{IsFetched};
 
 use crate::image::{Image, behind};
 use std::alloc::{AllocError, Global};
 use thumb_instr::{Distance, Instr};
 use thumb_machine::{
-    Answer, Answers, Around, Continuation, End, Event, Memory, Registers, Stage, State, Target,
-    World, registers_of, stage_of,
+    Answer, Answers, Around, Event, Memory, Position, Stage, State, Target, World, registers_of,
+    stage_of,
 };
-
-/// Where a machine that runs an image is.
-#[derive(Clone, Copy, Debug, PartialEq, Eq)]
-pub enum Position {
-    /// At an address.
-    Here { address: u32 },
-    /// At the end of its run.
-    Ended { end: End },
-}
 
 /// A machine that runs an image: it reads code and literals from the image, and data from a memory of its own.
 #[derive(Drop)]
@@ -84,7 +71,7 @@ impl ImageMachine {
         at: u32,
     ) -> Result<ImageMachine, AllocError>
         ensures image { IfOk result (λ m. loaded_of m.image ≡ record { base = base; bytes = image.now; high = hi }) }
-        ensures start { IfOk result (Starts start at) }
+        ensures start { IfOk result (λ m. Starts start at m.world m.at) }
     {
         let image = Image {
             bytes: Vec::from_slice(alloc, image)?,
@@ -95,7 +82,7 @@ impl ImageMachine {
         Ok(ImageMachine {
             image,
             world,
-            at: Position::Here { address: at },
+            at: Position::Here { at },
         })
     }
 
@@ -106,11 +93,11 @@ impl ImageMachine {
         ensures step { Steps self.old answers.old self.new answers.new result }
     {
         let address = match self.at {
-            Position::Here { address } => address,
+            Position::Here { at } => at,
             Position::Ended { end } => return Ok(stage_of(end)),
         };
         match self.image.fetch(address) {
-            None => self.fall(),
+            None => self.at.fall(&mut self.world),
             Some(instr) => self.run(answers, address, instr),
         }
     }
@@ -131,45 +118,7 @@ impl ImageMachine {
         let around = self.image.around(address, &instr);
         let image = &mut self.image;
         let next = self.world.act(answers, &around, &*image, &instr)?;
-        Ok(self.arrive(address, behind(address, &instr), next))
-    }
-
-    /// Ends the run where there is no instruction.
-    fn fall(&mut self) -> Result<Stage, AllocError>
-        ensures image { self.new.image ≡ self.old.image }
-        ensures told { Changes [] (memory_of self.old.world.memory) (Fell ∷ []) self.old.world self.new.world result }
-        ensures ended { IfOk result (λ s. (s ≡ Stage.Fell) × (self.new.at ≡ Position.Ended End.Fell)) }
-        ensures kept { OnErr result (self.new.at ≡ self.old.at) }
-    {
-        self.world.events.push(Event::Fell)?;
-        self.at = Position::Ended { end: End::Fell };
-        Ok(Stage::Fell)
-    }
-
-    /// Continues after an instruction at an address; `following` is the address after it.
-    fn arrive(&mut self, address: u32, following: u32, next: Continuation) -> Stage
-        requires { self.old.at ≡ Position.Here address }
-        ensures image { self.new.image ≡ self.old.image }
-        ensures world { self.new.world ≡ self.old.world }
-        ensures at { at_of self.new.at ≡ arrives address following (next_of next) }
-        ensures stage { IsStage result (next_of next) self.new.at }
-        ensures ends { LeadsTo next self.new.at }
-    {
-        match next {
-            Continuation::On => {
-                self.at = Position::Here { address: following };
-                Stage::Going
-            }
-            Continuation::Stay => Stage::Wants,
-            Continuation::To { at } => {
-                self.at = Position::Here { address: at };
-                Stage::Going
-            }
-            Continuation::Over { end } => {
-                self.at = Position::Ended { end };
-                stage_of(end)
-            }
-        }
+        Ok(self.at.arrive(behind(address, &instr), next))
     }
 
     /// The events of the run so far.

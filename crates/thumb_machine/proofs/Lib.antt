@@ -2,6 +2,7 @@ pub mod Values
 pub mod Acts
 pub mod Listed
 pub mod Popped
+pub mod Arrivals
 pub mod Stepping
 pub mod Rows
 pub mod PointsMade

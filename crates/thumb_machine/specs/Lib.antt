@@ -7,6 +7,7 @@ pub mod Accesses
 pub mod Lists
 pub mod Landings
 pub mod Computes
+pub mod Positions
 pub mod Running
 pub mod Naming
 pub mod Making

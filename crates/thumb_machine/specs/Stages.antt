@@ -2,8 +2,8 @@
 use Rattle.std.specs.Prelude.{ℕ, Option, Some, None, slice_get}
 use Rattle.thumb_machine.specs.declared.world.End.{End}
 use Rattle.thumb_machine.specs.declared.world.End.TheVariants as end
-use Rattle.thumb_machine.specs.declared.machine.Stage.{Stage}
-use Rattle.thumb_machine.specs.declared.machine.Stage.TheVariants as stage
+use Rattle.thumb_machine.specs.declared.position.Stage.{Stage}
+use Rattle.thumb_machine.specs.declared.position.Stage.TheVariants as stage
 use Rattle.thumb_model.specs.Listing.{Code, Place, Op, Word}
 use Rattle.thumb_model.specs.Naming.{Naming}
 use Rattle.thumb_model.specs.States.{State, Position, Here, Ended, Continuation, Over, Event, Load, Store, Call, Sys, Left, Fault, Astray, Fell}

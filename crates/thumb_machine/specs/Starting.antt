@@ -1,9 +1,10 @@
--- How a run begins: values, memory and place from the state that the caller gives.
-use Rattle.std.specs.Prelude.{◌≡◌, ◌==◌, nat_lt, [], slice_index, if◌then◌else◌}
+-- How a run begins: values and memory from the state that the caller gives, and where.
+use Rattle.std.specs.Prelude.{◌≡◌, ◌==◌, ℕ, nat_lt, [], slice_index, if◌then◌else◌}
 use Rattle.std.specs.Int.{bit_at}
 use Rattle.thumb_machine.specs.declared.machine.State.{State}
-use Rattle.thumb_machine.specs.declared.machine.Machine.{Machine}
-use Rattle.thumb_machine.specs.declared.machine.Position.TheVariants as at
+use Rattle.thumb_machine.specs.declared.world.World.{World}
+use Rattle.thumb_machine.specs.declared.position.Position.{Position}
+use Rattle.thumb_machine.specs.declared.position.Position.TheVariants as at
 use Rattle.thumb_machine.specs.Registers.{values_of}
 use Rattle.thumb_machine.specs.Memory.{memory_of}
 use Rattle.thumb_model.specs.Effect.{Values, sp, lr, n_flag, z_flag, c_flag, v_flag}
@@ -21,9 +22,9 @@ start_values s = λ x.
     else if nat_lt x 13 then slice_index s.r x
     else 0
 
--- the machine is at the beginning: memory is 0 but for the bytes that were given
-pub record Starts (s : State) (m : Machine) : Type 0 where
-  pub values : values_of m.world.registers ≡ start_values s
-  pub memory : memory_of m.world.memory ≡ with_bytes s.bytes (λ a. 0)
-  pub events : m.world.events.items ≡ []
-  pub place : m.at ≡ at.Here s.place
+-- the run is at the beginning, at the place or address `first`: memory is 0 but for the bytes that were given
+pub record Starts (s : State) (first : ℕ) (world : World) (here : Position) : Type 0 where
+  pub values : values_of world.registers ≡ start_values s
+  pub memory : memory_of world.memory ≡ with_bytes s.bytes (λ a. 0)
+  pub events : world.events.items ≡ []
+  pub at : here ≡ at.Here first

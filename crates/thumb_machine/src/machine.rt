@@ -1,53 +1,23 @@
 //! The machine that a caller steps through a listing: its program, its world, and where it is.
-ghost use Rattle.std.specs.Prelude.{◌≡◌, ◌<◌, ◌+◌, ◌-◌, ◌^◌, [], ◌∷◌, slice_get, Some, IfOk, OnErr};
+ghost use Rattle.std.specs.Prelude.{◌≡◌, slice_get, Some, IfOk, OnErr};
 ghost use Rattle.thumb_model.specs.Listing.{Code, code_of};
 ghost use Rattle.thumb_model.specs.Naming.{Naming as Names};
-ghost use Rattle.thumb_model.specs.States.{Fell};
-ghost use Rattle.thumb_model.specs.Steps.{arrives};
-ghost use Rattle.thumb_machine.specs.Memory.{memory_of};
-ghost use Rattle.thumb_machine.specs.Acting.{Changes, next_of};
 ghost use Rattle.thumb_machine.specs.Registers.{values_of};
 ghost use Rattle.thumb_machine.specs.Naming.{naming_of};
 ghost use Rattle.thumb_machine.specs.Starting.{Starts, start_values};
-ghost use Rattle.thumb_machine.specs.Running.{IsProgram, IsStage, LeadsTo, Steps, at_of};
-ghost use Rattle.thumb_machine.specs.Stages.{stage_of};
+ghost use Rattle.thumb_machine.specs.Running.{IsProgram, Steps};
 
 use crate::answers::{Answers, Bytes};
 use crate::event::Event;
 use crate::memory::Memory;
 use crate::naming::Naming;
 use crate::points::points_of;
+use crate::position::{Position, Stage, stage_of};
 use crate::program::{PlaceContents, Program};
 use crate::registers::Registers;
-use crate::world::{Continuation, End, World};
+use crate::world::World;
 use listing_parser::Listing;
 use std::alloc::{AllocError, Global};
-
-/// Where a machine is.
-#[derive(Clone, Copy, Debug, PartialEq, Eq)]
-pub enum Position {
-    /// At a place.
-    Here { place: u32 },
-    /// At the end of its run.
-    Ended { end: End },
-}
-
-/// How a step ended.
-#[derive(Clone, Copy, Debug, PartialEq, Eq)]
-pub enum Stage {
-    /// The run goes on.
-    Going,
-    /// The run left the listing.
-    Left,
-    /// The run ended by an unaligned access.
-    Fault,
-    /// The run ended by a branch that leads nowhere.
-    Astray,
-    /// The run ended where no instruction is.
-    Fell,
-    /// The step needs more answers than are left, and nothing changed.
-    Wants,
-}
 
 /// A machine that runs a listing under a naming.
 #[derive(Drop)]
@@ -55,18 +25,6 @@ pub struct Machine {
     pub(crate) program: Program,
     pub(crate) world: World,
     pub(crate) at: Position,
-}
-
-/// The stage that reports this end.
-pub fn stage_of(end: End) -> Stage
-    ensures { result ≡ stage_of end }
-{
-    match end {
-        End::Left => Stage::Left,
-        End::Fault => Stage::Fault,
-        End::Astray => Stage::Astray,
-        End::Fell => Stage::Fell,
-    }
 }
 
 /// How a run begins: r0 to r12, sp (a multiple of 4) and lr, the flags (N is 8, Z is 4, C is 2 and V is 1), bytes of the memory, and the place of a code
@@ -118,7 +76,7 @@ impl Machine {
         state: &State,
     ) -> Result<Machine, AllocError>
         ensures program { IfOk result (λ m. IsProgram (naming_of naming.now) (code_of listing.now) m.program) }
-        ensures start { IfOk result (Starts state.now) }
+        ensures start { IfOk result (λ m. Starts state.now state.now.place m.world m.at) }
     {
         let program = program_of(alloc, listing, naming)?;
         let mut memory = Memory::new(alloc);
@@ -132,7 +90,7 @@ impl Machine {
                 memory,
                 events: Vec::new(alloc),
             },
-            at: Position::Here { place: state.place },
+            at: Position::Here { at: state.place },
         })
     }
 
@@ -143,11 +101,11 @@ impl Machine {
         ensures step { (names : Names) (code : Code) → IsProgram names code self.old.program → Steps names code self.old answers.old self.new answers.new result }
     {
         let place = match self.at {
-            Position::Here { place } => place,
+            Position::Here { at } => at,
             Position::Ended { end } => return Ok(stage_of(end)),
         };
         match self.program.rows.get(place as usize).copied() {
-            None => self.fall(),
+            None => self.at.fall(&mut self.world),
             Some(row) => self.run(answers, place, row),
         }
     }
@@ -166,50 +124,11 @@ impl Machine {
         ensures step { (names : Names) (code : Code) → IsProgram names code self.old.program → Steps names code self.old answers.old self.new answers.new result }
     {
         match row {
-            PlaceContents::Data => self.fall(),
+            PlaceContents::Data => self.at.fall(&mut self.world),
             PlaceContents::Instruction { instr, around } => {
                 let program = &mut self.program;
                 let next = self.world.act(answers, &around, &*program, &instr)?;
-                Ok(self.arrive(place, next))
-            }
-        }
-    }
-
-    /// Ends the run where no instruction is.
-    fn fall(&mut self) -> Result<Stage, AllocError>
-        ensures program { self.new.program ≡ self.old.program }
-        ensures told { Changes [] (memory_of self.old.world.memory) (Fell ∷ []) self.old.world self.new.world result }
-        ensures ended { IfOk result (λ s. (s ≡ Stage.Fell) × (self.new.at ≡ Position.Ended End.Fell)) }
-        ensures kept { OnErr result (self.new.at ≡ self.old.at) }
-    {
-        self.world.tell(Event::Fell)?;
-        self.at = Position::Ended { end: End::Fell };
-        Ok(Stage::Fell)
-    }
-
-    /// Goes on after an instruction at a place.
-    fn arrive(&mut self, place: u32, next: Continuation) -> Stage
-        requires here { self.old.at ≡ Position.Here place }
-        requires room { place < 2 ^ 32 - 1 }
-        ensures program { self.new.program ≡ self.old.program }
-        ensures world { self.new.world ≡ self.old.world }
-        ensures at { at_of self.new.at ≡ arrives place (place + 1) (next_of next) }
-        ensures stage { IsStage result (next_of next) self.new.at }
-        ensures ends { LeadsTo next self.new.at }
-    {
-        match next {
-            Continuation::On => {
-                self.at = Position::Here { place: place + 1 };
-                Stage::Going
-            }
-            Continuation::Stay => Stage::Wants,
-            Continuation::To { at } => {
-                self.at = Position::Here { place: at };
-                Stage::Going
-            }
-            Continuation::Over { end } => {
-                self.at = Position::Ended { end };
-                stage_of(end)
+                Ok(self.at.arrive(place + 1, next))
             }
         }
     }
