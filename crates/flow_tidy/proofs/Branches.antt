@@ -4,7 +4,7 @@ use Rattle.std.proofs.lemmas.Option.{same_Some}
 use Rattle.thumb_instr.specs.declared.instr.Instr.{Instr}
 use Rattle.thumb_model.specs.Listing.{Place, Op, Word}
 use Rattle.listing_draft.specs.Drafted.{instr_in, name_in}
-use Rattle.flow_tidy.specs.Due.{is_branch_always}
+use Rattle.flow_tidy.specs.DuePlaces.{is_branch_always}
 use Rattle.flow_tidy.specs.Tidying.{is_branch}
 use Rattle.flow_tidy.specs.Made.{label_of_always, label_of_branch}
 
@@ -25,10 +25,10 @@ label_none None e = refl
 label_none (Some (Word v)) e = refl
 label_none (Some (Op j m)) e = absurd (cc)
 
-pub always_branch : (o : Option Place) → is_branch_always o ≡ true → label_of_always o ≡ name_in o
+pub always_branch : (o : Option Place) → is_branch_always (instr_in o) ≡ true → label_of_always o ≡ name_in o
 always_branch (Some (Op j (Some m))) h = ap (λ b. if b then Some m.name else None) h
 always_branch o h = refl
 
-pub always_other : (o : Option Place) → is_branch_always o ≡ false → label_of_always o ≡ None
+pub always_other : (o : Option Place) → is_branch_always (instr_in o) ≡ false → label_of_always o ≡ None
 always_other (Some (Op j (Some m))) h = ap (λ b. if b then Some m.name else None) h
 always_other o h = refl

@@ -10,8 +10,9 @@ use Rattle.thumb_model.specs.Listing.{Name, Mention, Place, Op, Code, place_of}
 use Rattle.thumb_model.specs.Steps.{aim_of}
 use Rattle.thumb_model.specs.Replaced.{moved, replaced}
 use Rattle.thumb_model.specs.Flow.{point}
+use Rattle.listing_draft.specs.Drafted.{instr_in}
 use Rattle.flow_tidy.specs.Tidying.{is_always, Hops, HopsBy, IsEnd, Cause, ToNext, ToEnd, Idle, is_branch, GoesToNext, GoesToEnd, IsIdle, HasCause}
-use Rattle.flow_tidy.specs.Due.{IsCaused, is_branch_always, is_branch_if, lets_on}
+use Rattle.flow_tidy.specs.DuePlaces.{IsCaused, is_branch_always, is_branch_if, lets_on}
 use Rattle.flow_tidy.proofs.Ways.{aim_is_point}
 use Rattle.flow_tidy.proofs.Going.{MayGo, fetch, aim_moved, reached_forth}
 use Rattle.flow_tidy.proofs.Aimed.{to_label, aimed_code, get_aimed, get_other, name_stays, aim_stays}
@@ -152,10 +153,10 @@ module _ (code : Code) (p : ℕ) (leaves : MayLeave code p) where
   through x y i m e f a n c =
       let g = leaves.labelled x e in
       let own = mentioned code p g.i g.mention g.stands g.next in
-      let second : is_branch_always (slice_get code.places (p + 1)) ≡ true = ap is_branch_always f ∙ a in
-      let if_so : is_branch_if (slice_get code.places p) ≡ (is_branch g.i && not (is_always g.i)) = ap is_branch_if g.stands in
-      let quiet : ((is_branch g.i && not (is_always g.i)) && is_branch_always (slice_get code.places (p + 1))) ≡ false = ap (λ b. b && is_branch_always (slice_get code.places (p + 1))) (sym if_so) ∙ leaves.quiet in
-      let always : is_always g.i ≡ true = quiet_always (is_branch g.i) (is_always g.i) (is_branch_always (slice_get code.places (p + 1))) quiet g.branch second in
+      let second : is_branch_always (instr_in (slice_get code.places (p + 1))) ≡ true = ap (λ o. is_branch_always (instr_in o)) f ∙ a in
+      let if_so : is_branch_if (instr_in (slice_get code.places p)) ≡ (is_branch g.i && not (is_always g.i)) = ap (λ o. is_branch_if (instr_in o)) g.stands in
+      let quiet : ((is_branch g.i && not (is_always g.i)) && is_branch_always (instr_in (slice_get code.places (p + 1)))) ≡ false = ap (λ b. b && is_branch_always (instr_in (slice_get code.places (p + 1)))) (sym if_so) ∙ leaves.quiet in
+      let always : is_always g.i ≡ true = quiet_always (is_branch g.i) (is_always g.i) (is_branch_always (instr_in (slice_get code.places (p + 1)))) quiet g.branch second in
       joined code x own.mention.name y
       (one_hop code x own.mention.name (record { place = p; i = g.i; mention = own.mention; labelled = e; stands = own.stands; always = always; named = refl; code_label = ap is_some own.next }))
       (one_hop code own.mention.name y (record { place = p + 1; i = i; mention = m; labelled = own.next; stands = f; always = a; named = n; code_label = c }))

@@ -11,7 +11,7 @@ use Rattle.listing_draft.specs.Drafted.{lines_now, unchanged, Drafted}
 use Rattle.listing_draft.proofs.Drafts.{set_length}
 use Rattle.flow_tidy.specs.Made.{change}
 use Rattle.flow_tidy.specs.Tidying.{ToEnd, GoesToEnd, GoesToNext, IsIdle, IsPossible, setting}
-use Rattle.flow_tidy.specs.Due.{AreDue, IsCaused}
+use Rattle.flow_tidy.specs.DuePlaces.{AreDue, IsCaused}
 use Rattle.flow_tidy.specs.Quick.{left, ChangesSoonest, IsQuick}
 use Rattle.flow_tidy.proofs.Aimed.{aimed_code, code_aimed}
 use Rattle.flow_tidy.proofs.Quickly.{code_goes, due_no_more, reached_left, soonest_idle, soonest_next}

@@ -9,11 +9,11 @@ use Rattle.thumb_model.specs.Listing.{Name, Mention, Place, Op, Word, Code, code
 use Rattle.kept_places.specs.Marks.{is_gone, rank}
 use Rattle.listing_draft.specs.Drafted.{Drafted, lines_now, name_in}
 use Rattle.listing_draft.proofs.Drafts.{set_length}
-use Rattle.flow_tidy.specs.declared.chain_ends.Found.{Found}
+use Rattle.flow_tidy.specs.declared.chain_ends.Stamped.{Stamped}
 use Rattle.flow_tidy.specs.declared.chain_ends.Known.{Known}
 use Rattle.flow_tidy.specs.declared.chain_ends.Known.TheVariants.{Nothing, Walked, Last}
 use Rattle.flow_tidy.specs.Tidying.{is_always, Hops, HopsBy, is_branch}
-use Rattle.flow_tidy.specs.Due.{HasEnd}
+use Rattle.flow_tidy.specs.DuePlaces.{HasEnd}
 use Rattle.flow_tidy.specs.Made.{label_of_always, label_of_branch}
 use Rattle.flow_tidy.specs.Quick.{EndsAt}
 use Rattle.flow_tidy.specs.ChainEnds.{hop_at, known_by, known_in, AreEnds, AreWalked, IsLast, LastBy, LastOf}
@@ -331,7 +331,7 @@ fewer_unknown (Last o ∷ ks) (suc p) e = fewer_unknown ks p e
 
 -- ---- what was found, and what of it counts ----
 
-pub counts_from : (since latest n : ℕ) (found : List Found) → n ≡ length found → ((p : ℕ) (f : Found) → slice_get found p ≡ Some f → f.stamp < since) → map (known_in since latest) found ≡ replicate n Nothing
+pub counts_from : (since latest n : ℕ) (found : List Stamped) → n ≡ length found → ((p : ℕ) (f : Stamped) → slice_get found p ≡ Some f → f.stamp < since) → map (known_in since latest) found ≡ replicate n Nothing
 counts_from since latest zero [] e h = refl
 counts_from since latest zero (f ∷ fs) e h = absurd (omega arith)
 counts_from since latest (suc n) [] e h = absurd (omega arith)
@@ -342,7 +342,7 @@ counts_from since latest (suc n) (f ∷ fs) e h =
     ap (λ (k : Known). k ∷ map (known_in since latest) fs) first ∙ ap (λ (ks : List Known). Nothing ∷ ks) rest
 
 -- where nothing was found, nothing is known
-pub nothing_counts : (since latest n : ℕ) (found : List Found) → found ≡ replicate n (record { stamp = 0; known = Nothing }) → map (known_in since latest) found ≡ replicate n Nothing
+pub nothing_counts : (since latest n : ℕ) (found : List Stamped) → found ≡ replicate n (record { stamp = 0; known = Nothing }) → map (known_in since latest) found ≡ replicate n Nothing
 nothing_counts since latest n found e = ap (map (known_in since latest)) e ∙ all n
   where
     one : (b : Bool) → (if b then Nothing else Nothing) ≡ Nothing
@@ -361,13 +361,13 @@ still false true c Walked o e = absurd (cc)
 still false false c Walked o e = absurd (cc)
 still false b c (Last l) o e = e
 
-still_known : (since latest next : ℕ) (found : List Found) (p : ℕ) (o : Option ℕ) → slice_get (map (known_in since next) found) p ≡ Some (Last o) → slice_get (map (known_in since latest) found) p ≡ Some (Last o)
+still_known : (since latest next : ℕ) (found : List Stamped) (p : ℕ) (o : Option ℕ) → slice_get (map (known_in since next) found) p ≡ Some (Last o) → slice_get (map (known_in since latest) found) p ≡ Some (Last o)
 still_known since latest next [] p o e = absurd (cc)
 still_known since latest next (f ∷ fs) zero o e =
     ap Some (still (nat_lt f.stamp since) (nat_eq f.stamp next) (nat_eq f.stamp latest) f.known o (same_Some (known_in since next f) (Last o) e))
 still_known since latest next (f ∷ fs) (suc p) o e = still_known since latest next fs p o e
 
-pub still_ends : (d : Drafted) (since latest next : ℕ) (found : List Found) → AreEnds d (map (known_in since latest) found) → AreEnds d (map (known_in since next) found)
+pub still_ends : (d : Drafted) (since latest next : ℕ) (found : List Stamped) → AreEnds d (map (known_in since latest) found) → AreEnds d (map (known_in since next) found)
 still_ends d since latest next found a = record {
   many = length-map found (known_in since next) ∙ sym (length-map found (known_in since latest)) ∙ a.many;
   each = λ q o g e. a.each q o g (still_known since latest next found q o e);
@@ -381,7 +381,7 @@ not_walked false false Nothing f e = cc
 not_walked false false Walked f e = cc
 not_walked false false (Last l) f e = cc
 
-pub none_walked : (since next : ℕ) (found : List Found) → ((p : ℕ) (f : Found) → slice_get found p ≡ Some f → f.stamp < next) → (q : ℕ) → slice_get (map (known_in since next) found) q ≡ Some Walked → ⊥
+pub none_walked : (since next : ℕ) (found : List Stamped) → ((p : ℕ) (f : Stamped) → slice_get found p ≡ Some f → f.stamp < next) → (q : ℕ) → slice_get (map (known_in since next) found) q ≡ Some Walked → ⊥
 none_walked since next [] h q e = cc
 none_walked since next (f ∷ fs) h zero e =
     let other : nat_eq f.stamp next ≡ false = (let l : f.stamp < next = h zero f refl in grind (arith, nat_tests)) in
@@ -405,6 +405,6 @@ map_set f [] p x = refl
 map_set f (y ∷ xs) zero x = refl
 map_set {B = B} f (y ∷ xs) (suc p) x = ap (λ (ys : List B). f y ∷ ys) (map_set f xs p x)
 
-pub noted : (since latest p : ℕ) (found : List Found) (known : Known) → since ≤ latest → map (known_in since latest) (slice_set found p (record { stamp = latest; known = known })) ≡ slice_set (map (known_in since latest) found) p known
+pub noted : (since latest p : ℕ) (found : List Stamped) (known : Known) → since ≤ latest → map (known_in since latest) (slice_set found p (record { stamp = latest; known = known })) ≡ slice_set (map (known_in since latest) found) p known
 noted since latest p found known h =
     map_set (known_in since latest) found p (record { stamp = latest; known = known }) ∙ ap (slice_set (map (known_in since latest) found) p) (noted_now since latest known h)

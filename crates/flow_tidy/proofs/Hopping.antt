@@ -12,7 +12,7 @@ use Rattle.kept_places.proofs.Ranks.{rank_kept, ranks_ascend, ranks_grow}
 use Rattle.listing_draft.specs.Drafted.{instr_in}
 use Rattle.listing_draft.proofs.Drafts.{node_rank}
 use Rattle.flow_tidy.specs.Tidying.{Hops, is_branch, GoesToNext, IsIdle}
-use Rattle.flow_tidy.specs.Due.{HasEnd}
+use Rattle.flow_tidy.specs.DuePlaces.{HasEnd}
 use Rattle.flow_tidy.specs.Made.{label_of_always, label_of_branch}
 
 -- ---- a branch to the next place ----

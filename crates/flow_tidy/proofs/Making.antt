@@ -7,7 +7,7 @@ use Rattle.thumb_model.specs.Listing.{Name, Mention, Place, Op, Word, ListingLin
 use Rattle.thumb_model.specs.Layout.{Layable}
 use Rattle.flow_tidy.specs.declared.found.Changed.{Changed}
 use Rattle.flow_tidy.specs.Tidying.{IsEnd, Setting, Cause, ToNext, ToEnd, Idle, Change, is_branch, lines_by, lines_after, rank, GoesToNext, GoesToEnd, IsIdle, HasCause, IsPossible, NonePossible}
-use Rattle.flow_tidy.specs.Due.{HasEnd, IsCaused, IsNextAt}
+use Rattle.flow_tidy.specs.DuePlaces.{HasEnd, IsCaused, IsNextAt}
 use Rattle.flow_tidy.specs.Made.{change, label_of_branch, IsAccepted, IsEndOf, IsFit, IsMade, IsMadeAt, IsMovedTo, IsWithin}
 use Rattle.flow_tidy.proofs.Unique.{cause_same}
 use Rattle.flow_tidy.proofs.Whole.{change_keeps}

@@ -18,7 +18,7 @@ use Rattle.steady_layout.specs.Steady.{IsSteady}
 use Rattle.steady_layout.proofs.Cuts.{cut_op}
 use Rattle.steady_layout.proofs.Laws.{cut_stays, steady_is_layable}
 use Rattle.flow_tidy.specs.Tidying.{Cause, ToNext, ToEnd, Idle, GoesToNext, GoesToEnd, IsIdle, HasCause, IsPossible, NonePossible, lines_by, rank as turn, setting}
-use Rattle.flow_tidy.specs.Due.{before_is_due, lets_on, AreDue, HasEnd, IsCaused, IsLeast, IsNextAt}
+use Rattle.flow_tidy.specs.DuePlaces.{before_is_due, lets_on, AreDue, HasEnd, IsCaused, IsLeast, IsNextAt}
 use Rattle.flow_tidy.specs.Made.{change}
 use Rattle.flow_tidy.specs.Quick.{left, ChangesSoonest, HaveRoom, IsSure, NoneAt}
 use Rattle.flow_tidy.proofs.Lefts.{left_all, left_as_many, left_at, left_free, left_gone, left_set, left_unset}

@@ -3,7 +3,7 @@ use Rattle.std.proofs.Common.{◌≡◌, ℕ, ◌+◌, ◌*◌, ◌<◌, ◌≤�
 use Rattle.std.proofs.Math.Nat.{mul_comm, mul-le-mul_left}
 use Rattle.thumb_model.specs.Listing.{ListingLine, places_of}
 use Rattle.flow_tidy.specs.Tidying.{Setting, Change, lines_after, IsFirst, NonePossible, AreTidied, setting, tidying_cost, AreTidiedBy}
-use Rattle.flow_tidy.specs.Due.{IsNextAt}
+use Rattle.flow_tidy.specs.DuePlaces.{IsNextAt}
 use Rattle.flow_tidy.specs.Made.{AreMadeBy}
 use Rattle.flow_tidy.proofs.Ends.{room_of, room_less, room_few}
 use Rattle.flow_tidy.proofs.Handing.{square_below}

@@ -14,7 +14,7 @@ use Rattle.code_flow.specs.Marks.{AreMarks}
 use Rattle.thumb_model.specs.Flow.{Reached}
 use Rattle.label_layout.specs.Addresses.{Addresses, AreAddresses}
 use Rattle.flow_tidy.specs.Tidying.{Setting, Cause, ToNext, ToEnd, Idle, GoesToNext, GoesToEnd, IsIdle, HasCause, lines_by}
-use Rattle.flow_tidy.specs.Due.{before_is_due, lets_on, AreDue, IsCaused, IsKnown, IsLeast, IsNextAt}
+use Rattle.flow_tidy.specs.DuePlaces.{before_is_due, lets_on, AreDue, IsCaused, IsKnown, IsLeast, IsNextAt}
 use Rattle.flow_tidy.proofs.Aimed.{aimed_code, code_aimed}
 use Rattle.flow_tidy.proofs.AimedRuns.{reached_same}
 use Rattle.flow_tidy.proofs.Aims.{addresses_stay}

@@ -6,7 +6,7 @@ use Rattle.thumb_instr.specs.declared.instr.Instr.{Instr}
 use Rattle.thumb_model.specs.Listing.{Mention, Op, Code, is_call_instr}
 use Rattle.thumb_model.specs.Flow.{Reached}
 use Rattle.flow_tidy.specs.Tidying.{is_branch, Cause, ToNext, ToEnd, Idle, HasCause, IsIdle}
-use Rattle.flow_tidy.specs.Due.{may_change, IsCaused}
+use Rattle.flow_tidy.specs.DuePlaces.{may_change, IsCaused}
 
 branch_may : (code : Code) (p : ℕ) (mark : Bool) (i : Instr) (mention : Option Mention) → slice_get code.places p ≡ Some (Op i mention) → is_branch i ≡ true → may_change (slice_get code.places p) mark ≡ true
 branch_may code p mark i mention e b = ap (λ o. may_change o mark) e ∙ ap (λ (x : Bool). x || not (mark || is_call_instr i)) b

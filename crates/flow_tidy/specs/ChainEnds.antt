@@ -3,7 +3,7 @@ use Rattle.std.specs.Prelude.{◌≡◌, ℕ, zero, suc, ◌<◌, ◌≤◌, nat
 use Rattle.thumb_model.specs.Listing.{Name, Code, code_of, place_of}
 use Rattle.kept_places.specs.Marks.{is_gone, rank}
 use Rattle.listing_draft.specs.Drafted.{lines_now, name_in, stands, Drafted}
-use Rattle.flow_tidy.specs.declared.chain_ends.Found.{Found}
+use Rattle.flow_tidy.specs.declared.chain_ends.Stamped.{Stamped}
 use Rattle.flow_tidy.specs.declared.chain_ends.Known.{Known}
 use Rattle.flow_tidy.specs.declared.chain_ends.Known.TheVariants.{Nothing, Walked, Last}
 use Rattle.flow_tidy.specs.Made.{label_of_always}
@@ -57,10 +57,10 @@ known_by latest Walked = if latest then Walked else Nothing
 known_by latest (Last last) = Last last
 
 -- what was found counts if its stamp is `since` or later
-abbrev pub known_in : ℕ → ℕ → Found → Known
+abbrev pub known_in : ℕ → ℕ → Stamped → Known
 known_in since latest found = if nat_lt found.stamp since then Nothing else known_by (nat_eq found.stamp latest) found.known
 
 -- what was found has no stamp later than the latest
-pub record IsStamped (since latest : ℕ) (found : List Found) : Type 0 where
+pub record IsStamped (since latest : ℕ) (found : List Stamped) : Type 0 where
   pub since_then : since ≤ latest
-  pub stamps : (p : ℕ) (f : Found) → slice_get found p ≡ Some f → f.stamp ≤ latest
+  pub stamps : (p : ℕ) (f : Stamped) → slice_get found p ≡ Some f → f.stamp ≤ latest

@@ -1,5 +1,5 @@
 pub mod ChainEnds
-pub mod Due
+pub mod DuePlaces
 pub mod WidestLayout
 pub mod Halves
 pub mod Laws

@@ -16,7 +16,7 @@ use Rattle.flow_tidy.specs.declared.outcome.PlaceOutcome.TheVariants as outcome
 use Rattle.flow_tidy.specs.declared.outcome.Redirected.{Redirected}
 use Rattle.flow_tidy.specs.declared.outcome.Redirected.TheVariants as redirected
 use Rattle.flow_tidy.specs.Tidying.{line_length, lines_by, rank as turn, Cause, ToEnd, GoesToEnd, HasCause, IsPossible, setting}
-use Rattle.flow_tidy.specs.Due.{AreDue}
+use Rattle.flow_tidy.specs.DuePlaces.{AreDue}
 use Rattle.flow_tidy.specs.Halves.{wide_of}
 use Rattle.flow_tidy.specs.Made.{change, label_of_branch}
 use Rattle.flow_tidy.specs.WidestLayout.{IsWidestLayout, IsSteadyTo}

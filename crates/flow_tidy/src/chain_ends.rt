@@ -4,7 +4,7 @@ ghost use Rattle.thumb_model.specs.Listing.{code_of};
 ghost use Rattle.kept_places.specs.Marks.{is_gone, rank};
 ghost use Rattle.listing_draft.specs.Drafted.{lines_now};
 ghost use Rattle.flow_tidy.specs.declared.chain_ends.Known.TheVariants.{Walked};
-ghost use Rattle.flow_tidy.specs.Due.{HasEnd};
+ghost use Rattle.flow_tidy.specs.DuePlaces.{HasEnd};
 ghost use Rattle.flow_tidy.specs.Quick.{EndsAt, GoesTo};
 ghost use Rattle.flow_tidy.specs.ChainEnds.{hop_at, known_in, AreEnds, AreWalked, IsLast};
 
@@ -26,7 +26,7 @@ pub(crate) enum Known {
 
 /// What was found of a place, stamped with the number `latest` of that time.
 #[derive(Clone, Copy)]
-struct Found {
+struct Stamped {
     stamp: u32,
     known: Known,
 }
@@ -36,7 +36,7 @@ struct Found {
 /// What has a stamp below `since` is forgotten, and that a walk passed a place counts only if it has that walk's own stamp, the latest.
 #[derive(Drop)]
 pub(crate) struct Ends {
-    found: Vec<Found>,
+    found: Vec<Stamped>,
     since: u32,
     latest: u32,
 }
@@ -55,7 +55,7 @@ impl Model for Ends {
 }
 
 /// What is known by what was found, where stamps count from `since` on and the walk under way has the stamp `latest`.
-fn known_of(found: &Found, since: u32, latest: u32) -> Known
+fn known_of(found: &Stamped, since: u32, latest: u32) -> Known
     ensures { result ≡ known_in since latest found.now }
 {
     if found.stamp < since {
@@ -84,7 +84,7 @@ impl Ends {
     pub(crate) fn none(alloc: Global, count: u32) -> Result<Self, AllocError>
         ensures { IfOk result (λ e. e ≡ replicate count Nothing) }
     {
-        let nothing = Found {
+        let nothing = Stamped {
             stamp: 0,
             known: Known::Nothing,
         };
@@ -100,7 +100,7 @@ impl Ends {
     fn clear(&mut self)
         ensures { self.new ≡ replicate (length self.old) Nothing }
     {
-        self.found.fill(Found {
+        self.found.fill(Stamped {
             stamp: 0,
             known: Known::Nothing,
         });
@@ -145,7 +145,7 @@ impl Ends {
         requires { place < length self.old }
         ensures { self.new ≡ slice_set self.old place known }
     {
-        self.found[place as usize] = Found {
+        self.found[place as usize] = Stamped {
             stamp: self.latest,
             known,
         };

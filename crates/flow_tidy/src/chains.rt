@@ -1,6 +1,7 @@
 //! Where branches go: the label of each, and the end of the chain of branches that begins at a label.
 ghost use Rattle.std.specs.Prelude.{◌≡◌, option_map, slice_get};
 ghost use Rattle.thumb_model.specs.Listing.{code_of, places_of};
+ghost use Rattle.flow_tidy.specs.DuePlaces.{is_branch_always, is_branch_if};
 ghost use Rattle.flow_tidy.specs.Tidying.{is_always, is_branch};
 ghost use Rattle.flow_tidy.specs.Made.{hop_of, label_of_always, label_of_branch, IsEndOf};
 
@@ -19,6 +20,26 @@ pub(crate) fn is_branch(instr: &Instr) -> bool
     ensures { result ≡ is_branch instr.now }
 {
     matches!(instr, Instr::BranchIf { .. } | Instr::Branch { .. })
+}
+
+/// Whether the instruction that stands somewhere, if one does, is a branch with a condition.
+pub(crate) fn is_branch_if(instr: Option<Instr>) -> bool
+    ensures { result ≡ is_branch_if instr }
+{
+    match instr {
+        None => false,
+        Some(instr) => is_branch(&instr) && !is_always(&instr),
+    }
+}
+
+/// Whether the instruction that stands somewhere, if one does, is a branch without a condition.
+pub(crate) fn is_branch_always(instr: Option<Instr>) -> bool
+    ensures { result ≡ is_branch_always instr }
+{
+    match instr {
+        None => false,
+        Some(instr) => is_always(&instr),
+    }
 }
 
 /// The label that the branch at a place goes to.

@@ -7,13 +7,13 @@ ghost use Rattle.listing_parser.specs.Parsing.{line_mentioning};
 ghost use Rattle.listing_parser.specs.Targets.{aimed_lines};
 ghost use Rattle.code_flow.specs.Marks.{AreMarks};
 ghost use Rattle.flow_tidy.specs.Tidying.{lines_without, GoesToNext, IsIdle, setting};
-ghost use Rattle.flow_tidy.specs.Due.{HasEnd};
+ghost use Rattle.flow_tidy.specs.DuePlaces.{HasEnd};
 ghost use Rattle.flow_tidy.specs.Made.{label_of_branch, IsAccepted, IsMade, IsMadeAt};
 
 use crate::chains::{chain_end, label_of_branch};
 use crate::found::Changed;
 use crate::limits::{accepted, within_limits};
-use crate::marks::Marks;
+use crate::reached_places::ReachedPlaces;
 use label_layout::{Layout, aim_fault};
 use listing_parser::{Listing, Memory, Place, is_call};
 use std::alloc::Global;
@@ -37,7 +37,7 @@ pub(crate) fn goes_to_next(listing: &Listing, place: u32) -> bool
 }
 
 /// Whether an instruction that nothing reaches stands at this place, and no call.
-pub(crate) fn is_idle(listing: &Listing, reached: &Marks, place: u32) -> bool
+pub(crate) fn is_idle(listing: &Listing, reached: &ReachedPlaces, place: u32) -> bool
     requires within { place < length (places_of listing.now) }
     requires reached { AreMarks (code_of listing.now) reached.now }
     ensures { IsTrue result ↔ IsIdle (code_of listing.now) place }
@@ -132,7 +132,7 @@ fn with_end(
 fn without_idle(
     alloc: Global,
     listing: &Listing,
-    reached: &Marks,
+    reached: &ReachedPlaces,
     base: u32,
     place: u32,
 ) -> Result<Option<Changed>, Memory>
@@ -151,7 +151,7 @@ pub(crate) fn changed_at(
     alloc: Global,
     listing: &Listing,
     laid: &Layout,
-    reached: &Marks,
+    reached: &ReachedPlaces,
     place: u32,
 ) -> Result<Option<Changed>, Memory>
     requires within { place < length (places_of listing.now) }

@@ -3,16 +3,17 @@ ghost use Rattle.std.specs.Prelude.{◌≡◌, ◌<◌, ◌↔◌, false, length
 ghost use Rattle.kept_places.specs.Marks.{is_gone, rank};
 ghost use Rattle.thumb_model.specs.Listing.{code_of, place_of};
 ghost use Rattle.code_flow.specs.Marks.{AreMarks};
-ghost use Rattle.listing_draft.specs.Drafted.{lines_now, stands};
-ghost use Rattle.flow_tidy.specs.Due.{is_branch_always as branches_always, is_branch_if as branches_if, lets_on as code_lets_on};
+ghost use Rattle.listing_draft.specs.Drafted.{instr_in, lines_now, stands};
+ghost use Rattle.flow_tidy.specs.DuePlaces.{lets_on as code_lets_on};
 ghost use Rattle.flow_tidy.specs.Tidying.{GoesToNext, IsIdle};
 ghost use Rattle.flow_tidy.specs.Made.{label_of_always, label_of_branch};
 ghost use Rattle.flow_tidy.specs.Quick.{left, GoesTo};
 
-use crate::chains::{is_always, is_branch};
+use crate::chains::{is_branch, is_branch_always, is_branch_if};
 use code_flow::Reached;
 use listing_draft::Draft;
 use listing_parser::is_call;
+use thumb_instr::Instr;
 
 /// The kept place that the branch at a kept place goes to.
 pub(crate) fn target(draft: &mut Draft, place: u32) -> Option<u32>
@@ -44,7 +45,7 @@ pub(crate) fn hop(draft: &mut Draft, place: u32) -> Option<u32>
     ensures kept { IfSome result (λ q. is_gone draft.old.gone q ≡ false) }
     ensures same { draft.new ≡ draft.old }
 {
-    if is_branch_always(draft, place) {
+    if is_branch_always(draft.instr(place)) {
         draft.goes_to(place)
     } else {
         None
@@ -79,30 +80,15 @@ pub(crate) fn is_idle(draft: &Draft, reached: &Reached, place: u32) -> bool
     }
 }
 
-/// Whether a branch with a condition stands at a kept place.
-fn is_branch_if(draft: &Draft, place: u32) -> bool
-    requires within { place < length draft.now.gone }
+/// The instruction at a kept place, where one stands there; none at the end.
+fn instr_at(draft: &Draft, place: u32) -> Option<Instr>
     requires kept { is_gone draft.now.gone place ≡ false }
-    ensures { result ≡ branches_if (stands draft.now place) }
-{
-    match draft.instr(place) {
-        None => false,
-        Some(instr) => is_branch(&instr) && !is_always(&instr),
-    }
-}
-
-/// Whether a branch without a condition stands at a kept place; false of the end.
-fn is_branch_always(draft: &Draft, place: u32) -> bool
-    requires kept { is_gone draft.now.gone place ≡ false }
-    ensures { result ≡ branches_always (stands draft.now place) }
+    ensures { result ≡ instr_in (stands draft.now place) }
 {
     if place >= draft.place_count() {
-        return false;
+        return None;
     }
-    match draft.instr(place) {
-        None => false,
-        Some(instr) => is_always(&instr),
-    }
+    draft.instr(place)
 }
 
 /// Whether chains that ended at a kept place may go on once the instruction there is removed: a conditional branch, followed by an unconditional one.
@@ -115,5 +101,5 @@ pub(crate) fn lets_on(draft: &mut Draft, place: u32) -> bool
     // For the prover alone: the type of the answer says that the places are fewer than 2^32.
     let _places = draft.place_count();
     let next = draft.node(place + 1);
-    is_branch_if(draft, place) && is_branch_always(draft, next)
+    is_branch_if(draft.instr(place)) && is_branch_always(instr_at(draft, next))
 }

@@ -11,15 +11,9 @@ ghost use Rattle.flow_tidy.specs.Quick.{counts_for, HaveRoom};
 use crate::chains::is_branch;
 use crate::found::Changed;
 use label_layout::{LayoutError, layout};
-use listing_parser::{Listing, ListingLine, Memory, Statement};
+use listing_parser::{LONGEST_LINE, Listing, ListingLine, MOST_LINES, Memory, Statement};
 use std::alloc::Global;
 use thumb_instr::Instr;
-
-/// How many lines a listing may have.
-const MOST_LINES: usize = 262_144;
-
-/// How many bytes a line may have without its newline.
-const LONGEST_LINE: usize = 1024;
 
 /// How many bytes the line of a branch has at most beside the name of its label.
 const BRANCH_BYTES: usize = 6;

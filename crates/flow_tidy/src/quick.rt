@@ -8,7 +8,7 @@ ghost use Rattle.kept_places.specs.Marks.{is_gone, rank};
 ghost use Rattle.listing_draft.specs.Drafted.{lines_now, name_in, stands};
 ghost use Rattle.flow_tidy.specs.Tidying.{ToEnd, GoesToNext, IsIdle, IsPossible, setting};
 ghost use Rattle.flow_tidy.specs.declared.chain_ends.Known.{Known};
-ghost use Rattle.flow_tidy.specs.Due.{AreDue, HasEnd};
+ghost use Rattle.flow_tidy.specs.DuePlaces.{AreDue, HasEnd};
 ghost use Rattle.flow_tidy.specs.ChainEnds.{AreEnds};
 ghost use Rattle.flow_tidy.specs.Halves.{halves};
 ghost use Rattle.flow_tidy.specs.Made.{change};
@@ -16,7 +16,7 @@ ghost use Rattle.flow_tidy.specs.Quick.{left, EndsAt, IsOutcome, IsOutcomeAt, Is
 
 use crate::chain_ends::{Ends, chain_end};
 use crate::drafted::{is_idle, is_next, lets_on, target};
-use crate::due::Due;
+use crate::due_places::DuePlaces;
 use crate::limits::{is_short_branch, leave_room};
 use crate::outcome::{PlaceOutcome, Redirected};
 use crate::widest_layout::{WidestLayout, is_beyond, reaches};
@@ -42,7 +42,7 @@ pub(crate) fn is_sure(alloc: Global, listing: &Listing, base: u32) -> Result<boo
 
 /// Removes the instruction at a kept place, whose branch goes to the next place or which nothing reaches. The kept place before becomes due; all places do, if
 /// chains that ended there may go on.
-fn remove(draft: &mut Draft, due: &mut Due, place: u32)
+fn remove(draft: &mut Draft, due: &mut DuePlaces, place: u32)
     requires within { place < length draft.old.gone }
     requires kept { is_gone draft.old.gone place ≡ false }
     requires many { length due.old ≡ length draft.old.gone }
@@ -174,7 +174,7 @@ fn retarget(
 /// Removes the instruction at a kept place, if nothing reaches it. Else the place isn't due any more, unless its branch is out of reach of its chain's end.
 fn change_idle(
     draft: &mut Draft,
-    due: &mut Due,
+    due: &mut DuePlaces,
     ends: &mut Ends,
     reached: &Reached,
     widest: &WidestLayout,
@@ -209,7 +209,7 @@ fn change_idle(
 fn change_at(
     alloc: Global,
     draft: &mut Draft,
-    due: &mut Due,
+    due: &mut DuePlaces,
     ends: &mut Ends,
     reached: &Reached,
     widest: &WidestLayout,
@@ -248,7 +248,7 @@ fn change_at(
 fn change_if_due(
     alloc: Global,
     draft: &mut Draft,
-    due: &mut Due,
+    due: &mut DuePlaces,
     ends: &mut Ends,
     reached: &Reached,
     widest: &WidestLayout,
@@ -276,7 +276,7 @@ fn change_if_due(
 pub(crate) fn first_change(
     alloc: Global,
     draft: &mut Draft,
-    due: &mut Due,
+    due: &mut DuePlaces,
     ends: &mut Ends,
     reached: &Reached,
     widest: &WidestLayout,

@@ -3,19 +3,19 @@ ghost use Rattle.std.specs.Prelude.{◌<◌, ◌↔◌, IsTrue, IfOk, length};
 ghost use Rattle.thumb_model.specs.Listing.{code_of, places_of};
 ghost use Rattle.code_flow.specs.Marks.{AreMarks};
 ghost use Rattle.flow_tidy.specs.Tidying.{setting};
-ghost use Rattle.flow_tidy.specs.Due.{AreDue, IsCaused, IsFoundNext, IsKnown};
+ghost use Rattle.flow_tidy.specs.DuePlaces.{AreDue, IsCaused, IsFoundNext, IsKnown};
 ghost use Rattle.flow_tidy.specs.Made.{IsMadeAt};
 
 use crate::changing::{changed_at, goes_to_next, has_end, is_idle};
-use crate::due::Due;
+use crate::due_places::DuePlaces;
 use crate::found::{Changed, Found};
-use crate::marks::Marks;
+use crate::reached_places::ReachedPlaces;
 use label_layout::Layout;
 use listing_parser::{Listing, Memory};
 use std::alloc::Global;
 
 /// Whether some change has its cause at a place.
-fn is_caused(listing: &Listing, reached: &Marks, place: u32) -> bool
+fn is_caused(listing: &Listing, reached: &ReachedPlaces, place: u32) -> bool
     requires within { place < length (places_of listing.now) }
     requires reached { AreMarks (code_of listing.now) reached.now }
     ensures { IsTrue result ↔ IsCaused (code_of listing.now) place }
@@ -30,7 +30,7 @@ fn is_caused(listing: &Listing, reached: &Marks, place: u32) -> bool
 }
 
 /// Marks a place as not due if no change has its cause there.
-fn judge(listing: &Listing, reached: &Marks, due: &mut Due, place: u32)
+fn judge(listing: &Listing, reached: &ReachedPlaces, due: &mut DuePlaces, place: u32)
     requires within { place < length (places_of listing.now) }
     requires reached { AreMarks (code_of listing.now) reached.now }
     requires due { AreDue (code_of listing.now) due.old }
@@ -46,8 +46,8 @@ fn changed_if_due(
     alloc: Global,
     listing: &Listing,
     laid: &Layout,
-    reached: &Marks,
-    due: &mut Due,
+    reached: &ReachedPlaces,
+    due: &mut DuePlaces,
     place: u32,
 ) -> Result<Option<Changed>, Memory>
     requires within { place < length (places_of listing.now) }
@@ -70,8 +70,8 @@ pub(crate) fn first_change(
     alloc: Global,
     listing: &Listing,
     laid: &Layout,
-    reached: &Marks,
-    due: &mut Due,
+    reached: &ReachedPlaces,
+    due: &mut DuePlaces,
 ) -> Result<Option<Found>, Memory>
     requires known { IsKnown listing.now laid.now reached.now due.old }
     ensures known { IsKnown listing.now laid.now reached.now due.new }

@@ -1,41 +1,22 @@
 //! After a change the layout, the marks of what is reached and the places that are due are brought up to date: only a layout that moved is made anew.
-ghost use Rattle.std.specs.Prelude.{◌≡◌, ◌<◌, ◌⊎◌, [], OnOk, IfOk, length, slice_get};
+ghost use Rattle.std.specs.Prelude.{◌≡◌, ◌<◌, ◌⊎◌, [], OnOk, IfOk, length};
 ghost use Rattle.thumb_model.specs.Layout.{Layable};
 ghost use Rattle.thumb_model.specs.Listing.{code_of, places_of};
 ghost use Rattle.thumb_model.specs.Replaced.{replaced};
 ghost use Rattle.code_flow.specs.Marks.{AreMarks};
 ghost use Rattle.label_layout.specs.Addresses.{AreAddresses};
-ghost use Rattle.flow_tidy.specs.Due.{is_branch_always as branches_always, is_branch_if as branches_if, lets_on as code_lets_on, AreDue, IsKnown, IsNextAt};
+ghost use Rattle.flow_tidy.specs.DuePlaces.{lets_on as code_lets_on, AreDue, IsKnown, IsNextAt};
 ghost use Rattle.flow_tidy.specs.Made.{IsMovedTo};
 ghost use Rattle.flow_tidy.specs.Tidying.{GoesToNext, IsIdle, setting};
 
-use crate::chains::{is_always, is_branch};
-use crate::due::Due;
+use crate::chains::{is_branch_always, is_branch_if};
+use crate::due_places::DuePlaces;
 use crate::found::{Changed, Found};
-use crate::marks::Marks;
+use crate::reached_places::ReachedPlaces;
 use label_layout::{Layout, LayoutError, layout};
-use listing_parser::{Listing, Memory, Place};
+use listing_draft::instr_of;
+use listing_parser::{Listing, Memory};
 use std::alloc::Global;
-
-/// Whether a branch with a condition stands at a place.
-fn is_branch_if(listing: &Listing, place: u32) -> bool
-    ensures { result ≡ branches_if (slice_get (places_of listing.now) place) }
-{
-    match listing.place(place) {
-        Some(Place::Op { instr, .. }) => is_branch(&instr) && !is_always(&instr),
-        _ => false,
-    }
-}
-
-/// Whether a branch without a condition stands at a place.
-fn is_branch_always(listing: &Listing, place: u32) -> bool
-    ensures { result ≡ branches_always (slice_get (places_of listing.now) place) }
-{
-    match listing.place(place) {
-        Some(Place::Op { instr, .. }) => is_always(&instr),
-        _ => false,
-    }
-}
 
 /// Whether chains that ended at a place may go on once the instruction there is removed: a conditional branch, followed by an unconditional one.
 fn lets_on(listing: &Listing, place: u32) -> bool
@@ -44,7 +25,8 @@ fn lets_on(listing: &Listing, place: u32) -> bool
 {
     // For the prover alone: the type of the answer says that the places are fewer than 2^32.
     let _places = listing.place_count();
-    is_branch_if(listing, place) && is_branch_always(listing, place + 1)
+    let next = instr_of(listing.place(place + 1));
+    is_branch_if(instr_of(listing.place(place))) && is_branch_always(next)
 }
 
 /// The layout of a listing that can be laid out.
@@ -61,7 +43,7 @@ pub(crate) fn laid_out(alloc: Global, listing: &Listing, base: u32) -> Result<La
 }
 
 /// Drops the marks of a place that is removed, whose branch goes to the next place or which nothing reaches, and marks what is due then.
-fn leave(listing: &Listing, place: u32, reached: &mut Marks, due: &mut Due)
+fn leave(listing: &Listing, place: u32, reached: &mut ReachedPlaces, due: &mut DuePlaces)
     requires goes { GoesToNext (code_of listing.now) place ⊎ IsIdle (code_of listing.now) place }
     requires reached { AreMarks (code_of listing.now) reached.old }
     requires due { AreDue (code_of listing.now) due.old }
@@ -100,8 +82,8 @@ pub(crate) fn settle(
     listing: &Listing,
     found: Found,
     laid: &mut Layout,
-    reached: &mut Marks,
-    due: &mut Due,
+    reached: &mut ReachedPlaces,
+    due: &mut DuePlaces,
 ) -> Result<Listing, Memory>
     requires known { IsKnown listing.now laid.old reached.old due.old }
     requires next { IsNextAt (setting laid.old.base) found.place listing.now found.changed.listing }

@@ -7,20 +7,20 @@ ghost use Rattle.thumb_model.specs.Same.{Same};
 ghost use Rattle.code_flow.specs.Marks.{AreMarks};
 ghost use Rattle.label_layout.specs.Addresses.{AreAddresses};
 ghost use Rattle.listing_draft.specs.Drafted.{lines_now};
-ghost use Rattle.flow_tidy.specs.Due.{AreDue};
+ghost use Rattle.flow_tidy.specs.DuePlaces.{AreDue};
 ghost use Rattle.flow_tidy.specs.WidestLayout.{IsWidestLayout};
 ghost use Rattle.flow_tidy.specs.Quick.{left, IsSure};
 ghost use Rattle.flow_tidy.specs.Tidying.{tidying_cost, AreTidiedBy, IsRefusal};
 
 use crate::chain_ends::Ends;
-use crate::due::Due;
+use crate::due_places::DuePlaces;
 use crate::errors::TidyError;
-use crate::marks::Marks;
 use crate::outcome::PlaceOutcome;
 use crate::quick::{first_change as first_sure, is_sure};
+use crate::reached_places::ReachedPlaces;
 use crate::searching::first_change;
 use crate::settling::{laid_out, settle};
-use crate::tidied::Tidy;
+use crate::tidied::TidiedListing;
 use crate::widest_layout::{WidestLayout, widest_layout_of};
 use code_flow::{Reached, reached};
 use label_layout::{Layout, layout};
@@ -34,8 +34,8 @@ fn tidied(
     alloc: Global,
     mut listing: Listing,
     mut laid: Layout,
-    mut reached: Marks,
-) -> Result<Tidy, Memory>
+    mut reached: ReachedPlaces,
+) -> Result<TidiedListing, Memory>
     requires laid { AreAddresses listing laid }
     requires layable { Layable laid.base listing }
     requires reached { AreMarks (code_of listing) reached }
@@ -43,23 +43,28 @@ fn tidied(
 {
     // Places are counted in 32 bits, so changes fit into 64.
     let places = listing.place_count();
-    let mut due = Due::all(alloc, places)?;
+    let mut due = DuePlaces::all(alloc, places)?;
     let mut changes = 0;
     while let Some(found) = first_change(alloc, &listing, &laid, &reached, &mut due)? {
         listing = settle(alloc, &listing, found, &mut laid, &mut reached, &mut due)?;
         changes += 1;
     }
-    Ok(Tidy { listing, changes })
+    Ok(TidiedListing { listing, changes })
 }
 
 /// What is left of the lines of a draft, once it isn't sure by places whether a branch may be redirected: from there on each change makes a listing.
-fn tidied_on(alloc: Global, draft: Draft, base: u32, reached: &Reached) -> Result<Tidy, Memory>
+fn tidied_on(
+    alloc: Global,
+    draft: Draft,
+    base: u32,
+    reached: &Reached,
+) -> Result<TidiedListing, Memory>
     requires layable { Layable base (lines_now draft) }
     requires all { length reached.now ≡ length draft.gone }
     requires reached { AreMarks (code_of (lines_now draft)) (left draft.gone reached.now) }
     ensures { IfOk result (λ new. AreTidiedBy base (lines_now draft) new.listing new.changes) }
 {
-    let marks = Marks::kept(alloc, reached, &draft)?;
+    let marks = ReachedPlaces::kept(alloc, reached, &draft)?;
     let listing = draft.into_listing(alloc)?;
     let laid = laid_out(alloc, &listing, base)?;
     tidied(alloc, listing, laid, marks)
@@ -71,9 +76,9 @@ fn tidied_by_places(
     alloc: Global,
     listing: Listing,
     widest: &WidestLayout,
-    mut due: Due,
+    mut due: DuePlaces,
     reached: &Reached,
-) -> Result<Tidy, Memory>
+) -> Result<TidiedListing, Memory>
     requires sure { IsSure widest.now.base listing }
     requires widest { IsWidestLayout listing widest.now }
     requires due { AreDue (code_of listing) due }
@@ -90,14 +95,19 @@ fn tidied_by_places(
             PlaceOutcome::Made => count += 1,
             PlaceOutcome::Nothing => {
                 let listing = draft.into_listing(alloc)?;
-                return Ok(Tidy {
+                return Ok(TidiedListing {
                     listing,
                     changes: count,
                 });
             }
             PlaceOutcome::Unsure => {
-                let Tidy { listing, changes } = tidied_on(alloc, draft, widest.base, reached)?;
-                return Ok(Tidy {
+                let TidiedListing { listing, changes } = tidied_on(
+                    alloc,
+                    draft,
+                    widest.base,
+                    reached,
+                )?;
+                return Ok(TidiedListing {
                     listing,
                     changes: count + changes,
                 });
@@ -116,7 +126,7 @@ pub fn tidy<L: Ledger>(
     listing: Listing,
     base: u32,
     steps: &mut Steps<L>,
-) -> Result<Tidy, TidyError>
+) -> Result<TidiedListing, TidyError>
     ensures tidied { IfOk result (λ new. AreTidiedBy base listing new.listing new.changes) }
     ensures same { IfOk result (λ new. HasLiterals (code_of listing) → Same (code_of listing) (code_of new.listing)) }
     ensures verdict { MatchResult result (λ _. Layable base listing) (IsRefusal base listing) }
@@ -130,7 +140,7 @@ pub fn tidy<L: Ledger>(
     }
     let laid = layout(alloc, &listing, base)?;
     let reached = reached(alloc, &listing, steps)?;
-    let marks = Marks::of(alloc, &reached, listing.place_count())?;
+    let marks = ReachedPlaces::of(alloc, &reached, listing.place_count())?;
     let tidy = tidied(alloc, listing, laid, marks)?;
     Ok(tidy)
 }

@@ -5,13 +5,13 @@ ghost use Rattle.thumb_model.specs.Listing.{code_of, places_of};
 ghost use Rattle.code_flow.specs.Marks.{AreMarks};
 ghost use Rattle.listing_parser.specs.Views.{line_view};
 ghost use Rattle.steady_layout.specs.Steady.{reaches as is_reached};
-ghost use Rattle.flow_tidy.specs.Due.{may_change, AreDue};
+ghost use Rattle.flow_tidy.specs.DuePlaces.{may_change, AreDue};
 ghost use Rattle.flow_tidy.specs.WidestLayout.{places_begin, IsWidestLayout, IsSteadyTo};
 ghost use Rattle.flow_tidy.specs.Halves.{wide_of as one_if_wide, wides_before, IsBeyond};
 ghost use Rattle.flow_tidy.specs.Quick.{IsSure};
 
 use crate::chains::is_branch;
-use crate::due::Due;
+use crate::due_places::DuePlaces;
 use code_flow::Reached;
 use listing_parser::{Listing, ListingLine, Memory, Place, is_call};
 use std::alloc::{AllocError, Global};
@@ -59,7 +59,7 @@ fn place_starts(
 
 /// What is seen of a place.
 #[derive(Clone, Copy)]
-struct Look {
+struct PlaceFacts {
     /// 1 for a data word or a call of a label, else 0.
     wide: u32,
     /// Whether a change may have its cause there.
@@ -67,21 +67,21 @@ struct Look {
 }
 
 /// What is seen of a place, given whether it is reached.
-fn look_at(listing: &Listing, place: u32, is_reached: bool) -> Look
+fn look_at(listing: &Listing, place: u32, is_reached: bool) -> PlaceFacts
     ensures wide { result.wide ≡ one_if_wide (slice_get (places_of listing.now) place) }
     ensures few { result.wide ≤ 1 }
     ensures may_change { result.may_change ≡ may_change (slice_get (places_of listing.now) place) is_reached }
 {
     match listing.place(place) {
-        None => Look {
+        None => PlaceFacts {
             wide: 0,
             may_change: false,
         },
-        Some(Place::Word(_)) => Look {
+        Some(Place::Word(_)) => PlaceFacts {
             wide: 1,
             may_change: false,
         },
-        Some(Place::Op { instr, .. }) => Look {
+        Some(Place::Op { instr, .. }) => PlaceFacts {
             wide: matches!(instr, Instr::Call { .. }) as u32,
             may_change: is_branch(&instr) || !(is_reached || is_call(&instr)),
         },
@@ -89,13 +89,13 @@ fn look_at(listing: &Listing, place: u32, is_reached: bool) -> Look
 }
 
 /// What is seen of all places: how many before each are data words or calls of a label, and which are due at first.
-struct Seen {
+struct WideAndDue {
     wide: Vec<u32>,
     due: Vec<bool>,
 }
 
 /// What is seen of all places in one pass over them.
-fn look_over(alloc: Global, listing: &Listing, reached: &Reached) -> Result<Seen, AllocError>
+fn look_over(alloc: Global, listing: &Listing, reached: &Reached) -> Result<WideAndDue, AllocError>
     requires reached { AreMarks (code_of listing.now) reached.now }
     ensures wide { IfOk result (λ seen. seen.wide.items ≡ wides_before 0 (places_of listing.now)) }
     ensures due { IfOk result (λ seen. AreDue (code_of listing.now) seen.due.items) }
@@ -105,12 +105,12 @@ fn look_over(alloc: Global, listing: &Listing, reached: &Reached) -> Result<Seen
     let mut due = Vec::with_capacity(alloc, places as usize)?;
     let mut count: u32 = 0;
     for place in 0..places {
-        let look = look_at(listing, place, reached.at(place));
+        let facts = look_at(listing, place, reached.at(place));
         wide.push(count)?;
-        due.push(look.may_change)?;
-        count += look.wide;
+        due.push(facts.may_change)?;
+        count += facts.wide;
     }
-    Ok(Seen { wide, due })
+    Ok(WideAndDue { wide, due })
 }
 
 /// Whether a branch at `from` reaches the address `to`, if its displacement from its address plus 4 may be from -2 `half` to below 2 `half` bytes.
@@ -128,7 +128,7 @@ pub(crate) fn widest_layout_of(
     listing: &Listing,
     base: u32,
     reached: &Reached,
-) -> Result<(WidestLayout, Due), Memory>
+) -> Result<(WidestLayout, DuePlaces), Memory>
     requires sure { IsSure base listing.now }
     requires reached { AreMarks (code_of listing.now) reached.now }
     ensures base { IfOk result (λ r. r.0.base ≡ base) }
@@ -139,14 +139,14 @@ pub(crate) fn widest_layout_of(
         None => unreachable!(),
         Some(lines) => {
             let places = place_starts(alloc, listing.lines(), &lines)?;
-            let Seen { wide, due } = look_over(alloc, listing, reached)?;
+            let WideAndDue { wide, due } = look_over(alloc, listing, reached)?;
             let widest = WidestLayout {
                 base,
                 lines,
                 places,
                 wide,
             };
-            Ok((widest, Due::of(due)))
+            Ok((widest, DuePlaces::of(due)))
         }
     }
 }

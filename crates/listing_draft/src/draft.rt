@@ -48,8 +48,8 @@ fn none_aimed(alloc: Global, count: u32) -> Result<Vec<Option<Vec<u8>>>, AllocEr
     Ok(aims)
 }
 
-/// The instruction at a place, where one stands there.
-fn instr_of(place: Option<Place<'_>>) -> Option<Instr>
+/// The instruction of a place, where one stands there.
+pub fn instr_of(place: Option<Place<'_>>) -> Option<Instr>
     ensures { result ≡ instr_in (option_map place_view place.entry) }
 {
     match place {

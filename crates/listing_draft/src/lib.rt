@@ -6,4 +6,4 @@
 mod draft;
 mod emitting;
 
-pub use draft::Draft;
+pub use draft::{Draft, instr_of};

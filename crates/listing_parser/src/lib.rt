@@ -21,5 +21,6 @@ pub use errors::{ListingError, ListingFault, Memory};
 pub use line::{FunctionMark, ListingLine, Mention, Place, Statement, Value, is_call};
 pub use listing::Listing;
 pub use parsing::{parse, print};
+pub use reading::{LONGEST_LINE, MOST_LINES};
 pub use replacing::{add_labels, add_new, copy_lines, is_op, line_of_labels};
 pub use retargeting::branch_line;

@@ -14,11 +14,11 @@ use ascii_scan::{Lines, SourceLine};
 use std::alloc::{AllocError, Global};
 use thumb_syntax::is_name;
 
-/// The most lines of a listing.
-const MOST_LINES: usize = 262_144;
+/// How many lines a listing has at most.
+pub const MOST_LINES: usize = 262_144;
 
-/// The most bytes of a line, without its newline.
-const LONGEST_LINE: usize = 1024;
+/// How many bytes a line has at most, without its newline.
+pub const LONGEST_LINE: usize = 1024;
 
 /// The name of the label at the front, and the bytes after its colon.
 fn next_label(bytes: &[u8]) -> Option<(&[u8], &[u8])>

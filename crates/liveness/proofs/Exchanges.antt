@@ -19,7 +19,7 @@ use Rattle.liveness.specs.Graph.{jump_from, ways_at, IsLast, AreCallers}
 use Rattle.liveness.specs.declared.graph.Callers.{Callers}
 use Rattle.liveness.specs.Through.{uses_among}
 use Rattle.liveness.specs.Passing.{writes_among, reads_from, writes_from}
-use Rattle.liveness.specs.Window.{nth_or_nop, AreAscending, ArePut, GivesWay}
+use Rattle.liveness.specs.Window.{nth_or_nop, AreAscending, ArePut, IsWindowExchange}
 use Rattle.liveness.proofs.Callers.{among}
 use Rattle.liveness.proofs.Passings.{ways_there}
 use Rattle.padded_code.proofs.Spread.{length_nops as nops_length}
@@ -121,7 +121,7 @@ pub from_first : (qs : List ℕ) → AreAscending 0 qs → AreAscending (get_or 
 from_first [] a = tt
 from_first (q ∷ qs) a = (let l : q ≤ q = omega arith in l, a.1)
 
-module _ (code new : Code) (ps : List ℕ) (window is : List Instr) (gives : GivesWay code new ps window is) (ascends : AreAscending 0 ps) (some : 0 < length ps) (all all' : List (Option Ways)) (ways_are : AreAllWays code all) (put : ArePut ps is all') (others : (q : ℕ) → one_of q ps ≡ false → slice_get all' q ≡ slice_get all q) where
+module _ (code new : Code) (ps : List ℕ) (window is : List Instr) (gives : IsWindowExchange code new ps window is) (ascends : AreAscending 0 ps) (some : 0 < length ps) (all all' : List (Option Ways)) (ways_are : AreAllWays code all) (put : ArePut ps is all') (others : (q : ℕ) → one_of q ps ≡ false → slice_get all' q ≡ slice_get all q) where
   -- a place apart from the window is none of these
   pub apart_none : (q : ℕ) → IsApart (get_or ps 0 0) (length (spread (get_or ps 0 0) ps window)) q → one_of q ps ≡ false
   apart_none q (inl l) = none_below (get_or ps 0 0) q ps (from_first ps ascends) l

@@ -19,7 +19,7 @@ use Rattle.liveness.specs.Through.{live_through, nothing, AreThrough}
 use Rattle.padded_code.proofs.Padded.{way_to}
 use Rattle.liveness.proofs.Moves.{fits_in}
 use Rattle.liveness.proofs.FlowLaws.{flow_back}
-use Rattle.liveness.proofs.GivesWay.{GivesWay, gives_way}
+use Rattle.liveness.proofs.GivesWay.{RegionGivesWay, gives_way}
 use Rattle.liveness.proofs.Keeping.{alone_reads}
 use Rattle.liveness.proofs.KeptSets.{IsTested, is_live}
 use Rattle.common_lemmas.proofs.Lists.{map_back}
@@ -87,7 +87,7 @@ module _ (lines : List ListingLine) (place old new : ℕ) (sets : Sets) (w : Was
     code_is : code_of lines ≡ left
     code_is = ap code_of w.is ∙ code_left w.write w.before place old w.window w.instrs keeps (sym w.old_many) ∙ ap (λ n. replaced code place n w.instrs) (sym w.old_many)
 
-    gives : GivesWay code left to place w.window w.instrs
+    gives : RegionGivesWay code left to place w.window w.instrs
     gives = gives_way code place w.window w.instrs keeps
 
     -- the instructions that stand there are the new ones

@@ -15,7 +15,7 @@ use Rattle.liveness.proofs.Moves.{window_runs, new_runs, is_within, ways_moved, 
 -- ---- a region ----
 
 -- straight code from p on gives way to other straight code; each other place comes `to` another
-pub record GivesWay (code new_code : Code) (to : ℕ → ℕ) (p : ℕ) (window new : List Instr) : Type 0 where
+pub record RegionGivesWay (code new_code : Code) (to : ℕ → ℕ) (p : ℕ) (window new : List Instr) : Type 0 where
   pub shorter : length new < length window
   pub within : p + length window ≤ length code.places
   pub as_many : length new_code.places + length window ≡ length code.places + length new
@@ -29,7 +29,7 @@ pub record GivesWay (code new_code : Code) (to : ℕ → ℕ) (p : ℕ) (window 
   pub follows_back : (q : ℕ) → (q < p) ⊎ (p + length window ≤ q) → (l : Leads) (r : ℕ) → Follows new_code (to q) (lead_to to l) r → (s : ℕ) × Follows code q l s × (r ≡ to s)
 
 -- where a window gives way
-pub gives_way : (code : Code) (p : ℕ) (window new : List Instr) → KeepsAt code p window new → GivesWay code (replaced code p (length window) new) (moved p (length window - length new)) p window new
+pub gives_way : (code : Code) (p : ℕ) (window new : List Instr) → KeepsAt code p window new → RegionGivesWay code (replaced code p (length window) new) (moved p (length window - length new)) p window new
 gives_way code p window new at = record {
   shorter = at.shorter;
   within = is_within code p window new at;

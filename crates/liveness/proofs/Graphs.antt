@@ -20,7 +20,7 @@ use Rattle.liveness.specs.Graph.{is_return, some_return, other_than, jump_from, 
 use Rattle.liveness.specs.declared.window.Window.{Window}
 use Rattle.liveness.specs.Clears.{Change, IsChangeBy}
 use Rattle.liveness.specs.Passing.{reads_from, writes_from}
-use Rattle.liveness.specs.Window.{AreAscending, ArePut, GivesWay}
+use Rattle.liveness.specs.Window.{AreAscending, ArePut, IsWindowExchange}
 use Rattle.liveness.proofs.Exchanges.{from_first, one_here, apart_none, ways_put, callers_same, reads_are, writes_are, spread_end}
 
 -- one way that goes on is no jump, and leads to no code point but the next place
@@ -34,7 +34,7 @@ one_on p m (e ∷ []) on a =
     (ap (other_than (p + 1)) l ∙ ap (λ b. other_if b (p + 1)) (eq-eqb (p + 1) (p + 1) refl), ap (λ n. is_return n || false) l)
 one_on p m (e ∷ f ∷ es) on a = absurd a.1
 
-module _ (code new : Code) (ps : List ℕ) (window is : List Instr) (gives : GivesWay code new ps window is) (ascends : AreAscending 0 ps) (some : 0 < length ps) (all all' : List (Option Ways)) (g : Graph) (graph : IsGraph code all g) (many : length all' ≡ length all) (put : ArePut ps is all') (others : (q : ℕ) → one_of q ps ≡ false → slice_get all' q ≡ slice_get all q) where
+module _ (code new : Code) (ps : List ℕ) (window is : List Instr) (gives : IsWindowExchange code new ps window is) (ascends : AreAscending 0 ps) (some : 0 < length ps) (all all' : List (Option Ways)) (g : Graph) (graph : IsGraph code all g) (many : length all' ≡ length all) (put : ArePut ps is all') (others : (q : ℕ) → one_of q ps ≡ false → slice_get all' q ≡ slice_get all q) where
   new_ways : AreAllWays new all'
   new_ways = ways_put code new ps window is gives ascends some all all' graph.ways put others
 

@@ -15,7 +15,7 @@ use Rattle.liveness.specs.Through.{live_through, read_along, nothing}
 use Rattle.shrinking_sets.proofs.Exchange.{Runs, runs_at}
 use Rattle.padded_code.proofs.Padded.{lead_to, way_to}
 use Rattle.liveness.proofs.Moves.{drop_at, drop_whole}
-use Rattle.liveness.proofs.GivesWay.{GivesWay}
+use Rattle.liveness.proofs.GivesWay.{RegionGivesWay}
 use Rattle.shrinking_sets.proofs.Forward.{reader}
 use Rattle.liveness.proofs.FlowLaws.{passer}
 use Rattle.liveness.proofs.Paths.{or_left, or_right}
@@ -74,7 +74,7 @@ alone_reads code is q x r h = through_reads code is q (q + length is) x refl r (
 
 -- ---- an item ----
 
-module _ (code new_code : Code) (to : ℕ → ℕ) (p : ℕ) (window new : List Instr) (at : GivesWay code new_code to p window new) (x : ℕ) where
+module _ (code new_code : Code) (to : ℕ → ℕ) (p : ℕ) (window new : List Instr) (at : RegionGivesWay code new_code to p window new) (x : ℕ) where
   abbrev Apart : ℕ → Type 0
   Apart q = (q < p) ⊎ (p + length window ≤ q)
 

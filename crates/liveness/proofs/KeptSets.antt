@@ -19,7 +19,7 @@ use Rattle.liveness.specs.Through.{live_through, IsReadStill, AreThrough}
 use Rattle.shrinking_sets.proofs.Exchange.{runs_at}
 use Rattle.padded_code.proofs.Padded.{way_to}
 use Rattle.liveness.proofs.Moves.{drop_at}
-use Rattle.liveness.proofs.GivesWay.{GivesWay}
+use Rattle.liveness.proofs.GivesWay.{RegionGivesWay}
 use Rattle.liveness.proofs.Keeping.{still_read, enters, read_before, read_within, within_read}
 use Rattle.liveness.proofs.Paths.{has_zero}
 use Rattle.common_lemmas.proofs.Lists.{get_map, get_front, map_back}
@@ -70,7 +70,7 @@ set_within ss q x h =
     ]
 
 module _ (code new_code : Code) (to : ℕ → ℕ) (p : ℕ) (window new : List Instr) (sets : Sets) (before after : Items) (ahead : List Flow) (kept : List NewSets)
-    (t : IsTested window new before after ahead kept) (live : IsLive code sets) (at : GivesWay code new_code to p window new) (flows : AreFlowsFrom code (p + length window) ahead)
+    (t : IsTested window new before after ahead kept) (live : IsLive code sets) (at : RegionGivesWay code new_code to p window new) (flows : AreFlowsFrom code (p + length window) ahead)
     (eb : set_at sets.before p ≡ before.bits) (ea : set_at sets.after (p + length window - 1) ≡ after.bits) where
   abbrev behind_it : ℕ → Bool
   behind_it y = has after.bits y

@@ -18,7 +18,7 @@ use Rattle.liveness.specs.Grows.{IsGrowing}
 use Rattle.liveness.specs.KeptLive.{parts_of, IsFitKept, IsIdle, IsKeptLive, IsShrunkBy}
 use Rattle.liveness.specs.Passing.{reads_from, writes_from}
 use Rattle.liveness.specs.Walk.{start_at}
-use Rattle.liveness.specs.Window.{AreAscending, ArePut, GivesWay}
+use Rattle.liveness.specs.Window.{AreAscending, ArePut, IsWindowExchange}
 use Rattle.liveness.specs.Within.{IsWired}
 use Rattle.liveness.proofs.Graphs.{graph_stays, change, is_change, fresh_reads, fresh_writes}
 use Rattle.liveness.proofs.Growings.{all_grown}
@@ -59,7 +59,7 @@ pub record IsRegrown (k₂ k₃ : KeptFlow) : Type 0 where
   pub live : (code : Code) → IsGraph code k₂.ways.items k₂.graph → IsGrowing code k₂.walk.before.sets.items k₂.walk.touched.places → IsGrowing code k₃.walk.before.sets.items []
 
 module _ (ps : List ℕ) (is : List Instr) (f e : ℕ) (first : f ≡ get_or ps 0 0) (end : e ≡ get_or ps (length ps - 1) 0 + 1) (ascends : AreAscending 0 ps) (some : 0 < length ps) (old fresh : Window) (k k₁ k₂ k₃ : KeptFlow) (a : IsExchanged ps is f e old fresh k k₁) (b : IsShrunk old fresh k₁ k₂) (d : IsRegrown k₂ k₃)
-    (code new : Code) (window : List Instr) (gives : GivesWay code new ps window is) (kept : IsKeptLive code (parts_of k)) where
+    (code new : Code) (window : List Instr) (gives : IsWindowExchange code new ps window is) (kept : IsKeptLive code (parts_of k)) where
   graph₁ : IsGraph new k₁.ways.items k.graph
   graph₁ = graph_stays code new ps window is gives ascends some k.ways.items k₁.ways.items k.graph kept.graph a.many a.put a.others
 

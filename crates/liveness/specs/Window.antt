@@ -24,7 +24,7 @@ abbrev pub ArePut : List ℕ → List Instr → List (Option Ways) → Type 0
 ArePut ps is all = (k : ℕ) (ws : Option Ways) → k < length ps → slice_get all (get_or ps k 0) ≡ Some ws → AreWays (get_or ps k 0) (ways_of None (nth_or_nop is k)) (way_list ws)
 
 -- in a code whose places stay, the instructions of a window at these places give way to new ones at the first of them: the places between them, and those left over, are gone
-pub record GivesWay (code new : Code) (ps : List ℕ) (window is : List Instr) : Type 0 where
+pub record IsWindowExchange (code new : Code) (ps : List ℕ) (window is : List Instr) : Type 0 where
   pub as_many : length window ≡ length ps
   pub few : length is ≤ length ps
   pub exchange : IsExchange code new (get_or ps 0 0) (spread (get_or ps 0 0) ps window) (spread (get_or ps 0 0) ps is)

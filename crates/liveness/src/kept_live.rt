@@ -13,7 +13,7 @@ ghost use Rattle.liveness.specs.Grows.{IsGrowing};
 ghost use Rattle.liveness.specs.KeptLive.{parts_of, IsFitKept, IsIdle, IsKeptLive, IsShrunkBy, LosesAt};
 ghost use Rattle.liveness.specs.Passing.{reads_from, writes_from};
 ghost use Rattle.liveness.specs.Walk.{start_at};
-ghost use Rattle.liveness.specs.Window.{AreAscending, ArePut, GivesWay};
+ghost use Rattle.liveness.specs.Window.{AreAscending, ArePut, IsWindowExchange};
 ghost use Rattle.liveness.specs.Within.{IsWired};
 
 use crate::clearing::{begin, clear};
@@ -237,7 +237,7 @@ fn replace_in(kept: &mut KeptFlow, places: &[u32], new: &[Instr], lost: &mut Pla
     ensures idle { IsIdle kept.new }
     ensures many { length kept.new.ways.items ≡ length kept.old.ways.items }
     ensures due { length lost.new ≡ length lost.old }
-    ensures kept { (code code' : Code) (window : List AnInstr) → GivesWay code code' places.now window new.now → IsKeptLive code (parts_of kept.old) → IsKeptLive code' (parts_of kept.new) }
+    ensures kept { (code code' : Code) (window : List AnInstr) → IsWindowExchange code code' places.now window new.now → IsKeptLive code (parts_of kept.old) → IsKeptLive code' (parts_of kept.new) }
     ensures lost { (p : ℕ) → (marked lost.new p ≡ true) ↔ ((marked lost.old p ≡ true) ⊎ LosesAt (set_at kept.old.walk.before.sets.items p) (set_at kept.new.walk.before.sets.items p)) }
 {
     let first = places[0];
@@ -268,7 +268,7 @@ impl KeptLive {
         requires room { length lost.old ≡ length self.old.before }
         ensures many { length self.new.before ≡ length self.old.before }
         ensures due { length lost.new ≡ length lost.old }
-        ensures kept { (code code' : Code) (window : List AnInstr) → GivesWay code code' places.now window new.now → IsKeptLive code self.old → IsKeptLive code' self.new }
+        ensures kept { (code code' : Code) (window : List AnInstr) → IsWindowExchange code code' places.now window new.now → IsKeptLive code self.old → IsKeptLive code' self.new }
         ensures lost { (p : ℕ) → (marked lost.new p ≡ true) ↔ ((marked lost.old p ≡ true) ⊎ LosesAt (set_at self.old.before p) (set_at self.new.before p)) }
     {
         replace_in(&mut self.kept, places, new, lost);

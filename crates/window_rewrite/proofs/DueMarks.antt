@@ -5,7 +5,7 @@ use Rattle.std.proofs.lemmas.Bool.{cases_eq, cases_Bool}
 use Rattle.std.proofs.lemmas.Option.{same_Some}
 use Rattle.kept_places.specs.Marks.{marked, IsLeast}
 use Rattle.kept_places.proofs.Ranks.{marked_other, marked_set, marked_within}
-use Rattle.window_rewrite.specs.Due.{before_least, StayMarked}
+use Rattle.window_rewrite.specs.WorkList.{before_least, StayMarked}
 
 pub least_within : (ms : List Bool) → before_least ms ≤ length ms
 least_within [] = omega arith

@@ -13,7 +13,7 @@ use Rattle.padded_code.specs.Padding.{IsPadded}
 use Rattle.padded_code.specs.Exchange.{marks_after, exchanged}
 use Rattle.padded_code.proofs.Windows.{rank_taken}
 use Rattle.window_rewrite.specs.Choices.{NoneAt}
-use Rattle.window_rewrite.specs.Due.{Reaches}
+use Rattle.window_rewrite.specs.WorkList.{Reaches}
 use Rattle.window_rewrite.proofs.DueFits.{applied_at, rank_now, GaveWay}
 use Rattle.window_rewrite.proofs.WindowPlaces.{window_within}
 

@@ -23,12 +23,12 @@ use Rattle.edited_listing.specs.Edited.{Edited, lines_now, marks, padded}
 use Rattle.edited_listing.specs.Changes.{is_none}
 use Rattle.liveness.specs.KeptLive.{LosesAt}
 use Rattle.window_rewrite.specs.declared.choice.Choice.{Choice}
-use Rattle.window_rewrite.specs.declared.due.Due.{Due}
+use Rattle.window_rewrite.specs.declared.work_list.WorkList.{WorkList}
 use Rattle.window_rewrite.specs.declared.finding.Rules.{Rules}
 use Rattle.window_rewrite.specs.declared.scene.Scene.{Scene}
 use Rattle.window_rewrite.specs.declared.scene.Site.{Site}
 use Rattle.window_rewrite.specs.Choices.{choice_of, setting_of, AreReady, IsBest, IsChoice, NoneAt}
-use Rattle.window_rewrite.specs.Due.{AreMarks, AreTried, AreTriedBut, Reaches, StayMarked}
+use Rattle.window_rewrite.specs.WorkList.{AreMarks, AreTried, AreTriedBut, Reaches, StayMarked}
 use Rattle.window_rewrite.specs.Scenes.{lines_of, IsKept, IsSite}
 use Rattle.window_rewrite.proofs.DueFits.{GaveWay}
 use Rattle.window_rewrite.proofs.DueMarks.{set_length, untaken, was_unmarked}
@@ -69,7 +69,7 @@ stands_at r scene o k a =
     record { place = t.0; within = omega (arith, t.1, k.as_many, marks_many scene.listing); kept = t.2; here = t.3 }
 
 -- none applies at a lesser place than the least one that is due
-none_lesser : (r : Rules) (scene : Scene) (d : Due) (place : ℕ) → IsKept scene → AreTriedBut (setting_of r) scene d place → ((q : ℕ) → q < place → marked d.due q ≡ false)
+none_lesser : (r : Rules) (scene : Scene) (d : WorkList) (place : ℕ) → IsKept scene → AreTriedBut (setting_of r) scene d place → ((q : ℕ) → q < place → marked d.due q ≡ false)
     → (o : Replacement) → AppliesIn (setting_of r) o (lines_of scene) → rank (marks scene.listing) place ≤ o.place
 none_lesser r scene d place k tried least o a = elim (cases_lt o.place (rank (marks scene.listing) place)) [
   | inl h ↦ absurd (
@@ -79,7 +79,7 @@ none_lesser r scene d place k tried least o a = elim (cases_lt o.place (rank (ma
   | inr h ↦ h
 ]
 
-pub first_here : (r : Rules) (scene : Scene) (d : Due) (place : ℕ) (c : Choice) → IsKept scene → AreTriedBut (setting_of r) scene d place → ((q : ℕ) → q < place → marked d.due q ≡ false)
+pub first_here : (r : Rules) (scene : Scene) (d : WorkList) (place : ℕ) (c : Choice) → IsKept scene → AreTriedBut (setting_of r) scene d place → ((q : ℕ) → q < place → marked d.due q ≡ false)
     → IsBest (setting_of r) (lines_of scene) (rank (marks scene.listing) place) c → IsFirst (setting_of r) (choice_of c) (lines_of scene)
 first_here r scene d place c k tried least b =
     let here = b.at in
@@ -92,7 +92,7 @@ first_here r scene d place c k tried least b =
     }
 
 -- where none is due none applies
-pub none_left : (r : Rules) (scene : Scene) (d : Due) → IsKept scene → AreTried (setting_of r) scene d → ((p : ℕ) → marked d.due p ≡ false) → NoneApplies (setting_of r) (lines_of scene)
+pub none_left : (r : Rules) (scene : Scene) (d : WorkList) → IsKept scene → AreTried (setting_of r) scene d → ((p : ℕ) → marked d.due p ≡ false) → NoneApplies (setting_of r) (lines_of scene)
 none_left r scene d k tried none o a =
     let t = stands_at r scene o k a in
     tried.tried t.place t.within t.kept (none t.place) o (meets (marked d.refused t.place) (setting_of r) o (lines_of scene) a) (sym t.here)
@@ -100,7 +100,7 @@ none_left r scene d k tried none o a =
 -- ---- what was tried ----
 
 -- a place that was looked at counts as tried
-pub tried_here : (s : Setting) (old new : Scene) (was d : Due) (place : ℕ) → AreTriedBut s old was place → AreMarks new d → length new.listing.stands ≡ length old.listing.stands → marks new.listing ≡ marks old.listing → lines_of new ≡ lines_of old → d.due ≡ was.due
+pub tried_here : (s : Setting) (old new : Scene) (was d : WorkList) (place : ℕ) → AreTriedBut s old was place → AreMarks new d → length new.listing.stands ≡ length old.listing.stands → marks new.listing ≡ marks old.listing → lines_of new ≡ lines_of old → d.due ≡ was.due
     → ((p : ℕ) → (p ≡ place → ⊥) → marked d.refused p ≡ marked was.refused p) → NoneAt (marked d.refused place) s (lines_of old) (rank (marks old.listing) place) → AreTried s new d
 tried_here s old new was d place tried are many same lines due refused none = record {
   are = are;
@@ -119,7 +119,7 @@ tried_here s old new was d place tried are many same lines due refused none = re
 -- ---- what is due again ----
 
 -- what is due when a window of these places, the first of which is this, gave way: `lost` are the places that lost an item
-pub record AreDueAgain (longest : ℕ) (old new : Scene) (places : List ℕ) (place : ℕ) (was d : Due) (lost : List Bool) : Type 0 where
+pub record AreDueAgain (longest : ℕ) (old new : Scene) (places : List ℕ) (place : ℕ) (was d : WorkList) (lost : List Bool) : Type 0 where
   pub stay : StayMarked was.due d.due
   pub window : (k p : ℕ) → slice_get places k ≡ Some p → marked d.due p ≡ true
   pub before : (p : ℕ) → Reaches (marks old.listing) longest p place → marked d.due p ≡ true
@@ -180,7 +180,7 @@ module _ (r : Rules) (old new : Scene) (t : Site) (c : Choice) (m : IsMadeAt r o
             (subst (λ (ls : List ListingLine). IsPadded (marks new.listing) (padded new.listing) (code_of ls)) new_lines m.new_kept.is_padded));
       }
 
-  pub tried_again : (was d : Due) (lost : List Bool) → AreTriedBut (setting_of r) old was t.place → AreDueAgain r.longest old new places t.place was d lost → AreTried (setting_of r) new d
+  pub tried_again : (was d : WorkList) (lost : List Bool) → AreTriedBut (setting_of r) old was t.place → AreDueAgain r.longest old new places t.place was d lost → AreTried (setting_of r) new d
   tried_again was d lost tried again = record { are = again.are; tried = at }
     where
       kept_then : (p : ℕ) → is_gone (marks new.listing) p ≡ false → is_gone (marks old.listing) p ≡ false
@@ -241,7 +241,7 @@ choice_within r scene t c ready site is here =
 -- ---- the same listing ----
 
 -- what was tried in a scene was tried in another one with the same listing
-pub tried_same : (s : Setting) (old new : Scene) (d : Due) (p q : ℕ) → new.listing ≡ old.listing → q ≡ p → AreTriedBut s old d p → AreTriedBut s new d q
+pub tried_same : (s : Setting) (old new : Scene) (d : WorkList) (p q : ℕ) → new.listing ≡ old.listing → q ≡ p → AreTriedBut s old d p → AreTriedBut s new d q
 tried_same s old new d p q e f t =
     subst (λ k. AreTriedBut s new d k) (sym f)
     (subst (λ (l : Edited). AreTriedBut s (record { listing = l; live = new.live; layout = new.layout }) d p) (sym e)
@@ -257,7 +257,7 @@ whole_many scene k none =
     ap (λ (ps : List Place). length ps) (k.is_padded.places ∙ sym (whole_padded (marks scene.listing) (padded scene.listing) none).places) ∙ sym k.as_many ∙ marks_many scene.listing
 
 -- where all places are due nothing was tried yet
-pub tried_at_first : (s : Setting) (scene : Scene) (d : Due) (n : ℕ) → n ≡ length scene.listing.stands → d.due ≡ replicate n true → d.refused ≡ replicate n false → d.lost ≡ replicate n false → AreTried s scene d
+pub tried_at_first : (s : Setting) (scene : Scene) (d : WorkList) (n : ℕ) → n ≡ length scene.listing.stands → d.due ≡ replicate n true → d.refused ≡ replicate n false → d.lost ≡ replicate n false → AreTried s scene d
 tried_at_first s scene d n e due refused lost = record {
   are = record {
     due_many = ap (λ (ms : List Bool). length ms) due ∙ length-replicate n true ∙ e;
@@ -269,7 +269,7 @@ tried_at_first s scene d n e due refused lost = record {
 }
 
 -- where a place is taken the others were tried
-pub tried_but : (s : Setting) (scene : Scene) (was d : Due) (place : ℕ) → AreTried s scene was → d.due ≡ set was.due place false → d.refused ≡ was.refused → d.lost ≡ was.lost → AreTriedBut s scene d place
+pub tried_but : (s : Setting) (scene : Scene) (was d : WorkList) (place : ℕ) → AreTried s scene was → d.due ≡ set was.due place false → d.refused ≡ was.refused → d.lost ≡ was.lost → AreTriedBut s scene d place
 tried_but s scene was d place t due refused lost = record {
   are = record {
     due_many = ap (λ (ms : List Bool). length ms) due ∙ set_length was.due place false ∙ t.are.due_many;
@@ -283,7 +283,7 @@ tried_but s scene was d place t due refused lost = record {
 }
 
 -- the taken place needn't be tried where it is gone
-pub tried_gone : (s : Setting) (scene : Scene) (d : Due) (place : ℕ) → is_gone (marks scene.listing) place ≡ true → AreTriedBut s scene d place → AreTried s scene d
+pub tried_gone : (s : Setting) (scene : Scene) (d : WorkList) (place : ℕ) → is_gone (marks scene.listing) place ≡ true → AreTriedBut s scene d place → AreTried s scene d
 tried_gone s scene d place gone t = record {
   are = t.are;
   tried = λ p h k u. t.tried p h k u (λ e. true≢false (sym gone ∙ ap (is_gone (marks scene.listing)) (sym e) ∙ k));
@@ -296,7 +296,7 @@ none_due_before was now place l e q h = ap (λ (ms : List Bool). marked ms q) e 
 -- ---- a look at a place ----
 
 -- a place that was looked at counts as tried, also where something was refused there
-pub tried_refused : (s : Setting) (old new : Scene) (was : Due) (place : ℕ) (r : List Bool) → AreTriedBut s old was place → new.listing ≡ old.listing → place < length old.listing.stands → r ≡ set was.refused place true
+pub tried_refused : (s : Setting) (old new : Scene) (was : WorkList) (place : ℕ) (r : List Bool) → AreTriedBut s old was place → new.listing ≡ old.listing → place < length old.listing.stands → r ≡ set was.refused place true
     → NoneAt true s (lines_of old) (rank (marks old.listing) place) → AreTried s new (record { due = was.due; refused = r; lost = was.lost })
 tried_refused s old new was place r t e w is none =
     let many : length new.listing.stands ≡ length old.listing.stands = ap (λ (l : Edited). length l.stands) e in
@@ -310,7 +310,7 @@ tried_refused s old new was place r t e w is none =
     (λ p n. ap (λ (ms : List Bool). marked ms p) is ∙ marked_other was.refused place p true n)
     (subst (λ b. NoneAt b s (lines_of old) (rank (marks old.listing) place)) (sym (ap (λ (ms : List Bool). marked ms place) is ∙ marked_set was.refused place true within)) none)
 
-pub tried_idle : (s : Setting) (old new : Scene) (was : Due) (place : ℕ) → AreTriedBut s old was place → new.listing ≡ old.listing → NoneAt false s (lines_of old) (rank (marks old.listing) place) → AreTried s new was
+pub tried_idle : (s : Setting) (old new : Scene) (was : WorkList) (place : ℕ) → AreTriedBut s old was place → new.listing ≡ old.listing → NoneAt false s (lines_of old) (rank (marks old.listing) place) → AreTried s new was
 tried_idle s old new was place t e none =
     let many : length new.listing.stands ≡ length old.listing.stands = ap (λ (l : Edited). length l.stands) e in
     tried_here s old new was was place t (record {

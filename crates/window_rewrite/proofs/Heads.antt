@@ -21,7 +21,7 @@ use Rattle.thumb_model.proofs.Lists.{length_map}
 use Rattle.window_rewrite.specs.Rules.{families_in, is_marked, is_lighter, AreMany, AreMarked, AreNoted, IsIndex, IsNoted, StayNoted}
 use Rattle.window_rewrite.proofs.Weights.{weight_raised}
 use Rattle.window_rewrite.specs.Hashes.{blind, head_number, next_hash, seen, hash_from, hash_of}
-use Rattle.window_rewrite.specs.declared.marks.Marks.{Marks}
+use Rattle.window_rewrite.specs.declared.left_side_hashes.LeftSideHashes.{LeftSideHashes}
 use Rattle.window_rewrite.specs.Fitting.{NoneBetween, NoneMarked, NoneReaches, NoneStands, Lightens}
 use Rattle.window_rewrite.specs.declared.index.RuleIndex.{RuleIndex}
 use Rattle.window_runs.specs.declared.rows.WindowPlace.{WindowPlace}
@@ -99,21 +99,21 @@ mark_more old new side at hash kept here is a = λ b less. elim (cases_lt b at) 
 -- ---- marks of a table ----
 
 -- what is marked stays so while marks come
-pub still_noted : (old new : Marks) (side : List Instr) → StayNoted old new → IsNoted old side → IsNoted new side
+pub still_noted : (old new : LeftSideHashes) (side : List Instr) → StayNoted old new → IsNoted old side → IsNoted new side
 still_noted old new side stay n = record {
   whole = stay.wholes (hash_of side) n.whole;
   fronts = λ a w. stay.fronts (hash_of (take (suc a) side)) (n.fronts a w);
 }
 
-pub stay_there : (marks : Marks) → StayNoted marks marks
+pub stay_there : (marks : LeftSideHashes) → StayNoted marks marks
 stay_there marks = record { wholes = λ q h. h; fronts = λ q h. h }
 
 -- at first, of no number of the table, all rules are marked
-pub none_noted : (costs : Option (List ℕ)) (side : Rule → List Instr) (table : List (List Rule)) (marks : Marks) → AreMany marks → AreNoted costs side table 0 marks
+pub none_noted : (costs : Option (List ℕ)) (side : Rule → List Instr) (table : List (List Rule)) (marks : LeftSideHashes) → AreMany marks → AreNoted costs side table 0 marks
 none_noted costs side table marks many = record { many = many; noted = λ k i rule l at s. absurd (omega (arith, l)) }
 
 -- with one number more of a table
-pub more_noted : (costs : Option (List ℕ)) (side : Rule → List Instr) (table : List (List Rule)) (n : ℕ) (rules : List Rule) (old new : Marks) → slice_get table n ≡ Some rules → AreNoted costs side table n old → AreMany new → StayNoted old new
+pub more_noted : (costs : Option (List ℕ)) (side : Rule → List Instr) (table : List (List Rule)) (n : ℕ) (rules : List Rule) (old new : LeftSideHashes) → slice_get table n ≡ Some rules → AreNoted costs side table n old → AreMany new → StayNoted old new
     → ((i : ℕ) (rule : Rule) → slice_get rules i ≡ Some rule → is_lighter costs rule ≡ true → IsNoted new (side rule)) → AreNoted costs side table (n + 1) new
 more_noted costs side table n rules old new at x many stay here = record {
   many = many;
@@ -144,7 +144,7 @@ blind_instance n [] x = refl
 blind_instance n (i ∷ is) x = ap (λ j. j ∷ map blind (instance n is x)) (blind_slot n i x) ∙ ap (λ js. blind i ∷ js) (blind_instance n is x)
 
 -- the left sides of a family's instances differ in the number alone
-pub family_noted : (costs : Option (List ℕ)) (f : tables.Family) (o : Option tables.Rule) (marks : Marks) → ((e : tables.Rule) → o ≡ Some e → is_lighter costs (rewriting_rule e) ≡ true → IsNoted marks (map blind e.left))
+pub family_noted : (costs : Option (List ℕ)) (f : tables.Family) (o : Option tables.Rule) (marks : LeftSideHashes) → ((e : tables.Rule) → o ≡ Some e → is_lighter costs (rewriting_rule e) ≡ true → IsNoted marks (map blind e.left))
     → (i : ℕ) (rule : Rule) → slice_get (instances_of f o) i ≡ Some rule → is_lighter costs rule ≡ true → IsNoted marks (map blind rule.left)
 family_noted costs f o marks h i rule at s = instance_is f o i rule at (λ e x own value is.
     let raised_lighter : is_lighter costs (rewriting_rule (raised f.number e x)) ≡ true = ap (is_lighter costs) is ∙ s in
@@ -181,7 +181,7 @@ pub side_hash : (hidden : Bool) (side : List Instr) (registers : List Low) (wind
 side_hash hidden side registers window e = sym (hash_renamed registers 0 side (map (seen hidden) window) e)
 
 -- where a prefix of a run isn't marked, each marked side that stands first in the run is shorter
-pub unreached : (marks : Marks) (hidden : Bool) (run : List Instr) (at hash : ℕ) → hash ≡ hash_of (take (at + 1) (map (seen hidden) run)) → is_marked marks.fronts.items hash ≡ false → NoneMarked marks hidden run at
+pub unreached : (marks : LeftSideHashes) (hidden : Bool) (run : List Instr) (at hash : ℕ) → hash ≡ hash_of (take (at + 1) (map (seen hidden) run)) → is_marked marks.fronts.items hash ≡ false → NoneMarked marks hidden run at
 unreached marks hidden run at hash hash_is missing n side registers longer noted e =
     let marked : is_marked marks.fronts.items (hash_of (take (suc at) side)) ≡ true = noted.fronts at longer in
     let count = side_long hidden side registers (take n run) e in
@@ -194,7 +194,7 @@ unreached marks hidden run at hash hash_is missing n side registers longer noted
     absurd (cc)
 
 -- where the hash of a prefix isn't that of a marked side, no marked side that stands first in the run is as long as the prefix
-unmarked_none : (marks : Marks) (hidden : Bool) (run : List Instr) (at hash : ℕ) → hash ≡ hash_of (take (at + 1) (map (seen hidden) run)) → is_marked marks.wholes.items hash ≡ false
+unmarked_none : (marks : LeftSideHashes) (hidden : Bool) (run : List Instr) (at hash : ℕ) → hash ≡ hash_of (take (at + 1) (map (seen hidden) run)) → is_marked marks.wholes.items hash ≡ false
     → (n : ℕ) (side : List Instr) (registers : List Low) → length side ≡ at + 1 → IsNoted marks side → map (seen hidden) (take n run) ≡ map (renamed registers) side → ⊥
 unmarked_none marks hidden run at hash hash_is missing n side registers long noted e =
     let count : at + 1 ≡ length (take n run) = sym long ∙ sym (side_long hidden side registers (take n run) e) in
@@ -205,7 +205,7 @@ unmarked_none marks hidden run at hash hash_is missing n side registers long not
     absurd (cc)
 
 -- with one instruction more
-pub between_more : (marks : Marks) (hidden : Bool) (run : List Instr) (at hash reached next : ℕ) → hash ≡ hash_of (take (at + 1) (map (seen hidden) run)) → next ≡ (if is_marked marks.wholes.items hash then at + 1 else reached)
+pub between_more : (marks : LeftSideHashes) (hidden : Bool) (run : List Instr) (at hash reached next : ℕ) → hash ≡ hash_of (take (at + 1) (map (seen hidden) run)) → next ≡ (if is_marked marks.wholes.items hash then at + 1 else reached)
     → NoneBetween marks hidden run reached at → NoneBetween marks hidden run next (at + 1)
 between_more marks hidden run at hash reached next hash_is e none = by (is_marked marks.wholes.items hash) refl
   where
@@ -220,7 +220,7 @@ between_more marks hidden run at hash reached next hash_is e none = by (is_marke
           | inr l ↦ none n side registers (omega (arith, longer, same)) l noted s
         ])
 
-pub between_within : (marks : Marks) (at hash reached next : ℕ) → next ≡ (if is_marked marks.wholes.items hash then at + 1 else reached) → reached ≤ at → next ≤ at + 1
+pub between_within : (marks : LeftSideHashes) (at hash reached next : ℕ) → next ≡ (if is_marked marks.wholes.items hash then at + 1 else reached) → reached ≤ at → next ≤ at + 1
 between_within marks at hash reached next e h = by (is_marked marks.wholes.items hash) e
   where
     by : (b : Bool) → next ≡ (if b then at + 1 else reached) → next ≤ at + 1
@@ -228,7 +228,7 @@ between_within marks at hash reached next e h = by (is_marked marks.wholes.items
     by false e = omega (arith, e, h)
 
 -- where the next prefix isn't marked, no longer side stands there
-pub between_all : (marks : Marks) (hidden : Bool) (run : List Instr) (at hash reached : ℕ) → hash ≡ hash_of (take (at + 1) (map (seen hidden) run)) → is_marked marks.fronts.items hash ≡ false → NoneBetween marks hidden run reached at
+pub between_all : (marks : LeftSideHashes) (hidden : Bool) (run : List Instr) (at hash reached : ℕ) → hash ≡ hash_of (take (at + 1) (map (seen hidden) run)) → is_marked marks.fronts.items hash ≡ false → NoneBetween marks hidden run reached at
     → NoneMarked marks hidden run reached
 between_all marks hidden run at hash reached hash_is missing none n side registers longer noted s = elim (cases_lt at (length side)) [
   | inl l ↦ unreached marks hidden run at hash hash_is missing n side registers l noted s
@@ -236,7 +236,7 @@ between_all marks hidden run at hash reached hash_is missing none n side registe
 ]
 
 -- no side that stands first in the run is longer than the run
-pub between_end : (marks : Marks) (hidden : Bool) (run : List Instr) (reached at : ℕ) → length run ≤ at → NoneBetween marks hidden run reached at → NoneMarked marks hidden run reached
+pub between_end : (marks : LeftSideHashes) (hidden : Bool) (run : List Instr) (reached at : ℕ) → length run ≤ at → NoneBetween marks hidden run reached at → NoneMarked marks hidden run reached
 between_end marks hidden run reached at end none n side registers longer noted s =
     none n side registers longer (let long = side_long hidden side registers (take n run) s in omega (arith, long, front_long n run, end)) noted s
 
@@ -259,7 +259,7 @@ none_without costs table rows e most n k i rule registers some is_rule s =
     absurd (omega (arith, long, front_long n (run true most rows), ap (λ (js : List Instr). length js) (not_begun rows most e), some))
 
 -- nor where no marked side begins with its first instruction
-pub none_begin : (marks : Marks) (hidden : Bool) (first : Instr) (rows : List WindowPlace) → is_marked marks.fronts.items (next_hash 0 (seen hidden first)) ≡ false → Some first ≡ instr_at true rows → (most : ℕ) → NoneMarked marks hidden (run true most rows) 0
+pub none_begin : (marks : LeftSideHashes) (hidden : Bool) (first : Instr) (rows : List WindowPlace) → is_marked marks.fronts.items (next_hash 0 (seen hidden first)) ≡ false → Some first ≡ instr_at true rows → (most : ℕ) → NoneMarked marks hidden (run true most rows) 0
 none_begin marks hidden first rows missing e most n side registers some noted s = elim (begun rows most first e) [
   | inl l ↦ (
       let long = side_long hidden side registers (take n (run true most rows)) s in

@@ -7,7 +7,7 @@ use Rattle.rule_model.specs.Rules.{weight}
 use Rattle.rule_model.specs.Rewriting.{Setting, Replacement, IsFirst, NoneApplies, AreRewritten, lines_after}
 use Rattle.window_rewrite.specs.declared.choice.Replacement.{Replacement as Made}
 use Rattle.window_rewrite.specs.TableRewriting.{replacement_of}
-use Rattle.window_rewrite.specs.Due.{Completes}
+use Rattle.window_rewrite.specs.WorkList.{Completes}
 
 -- ---- what completes the replacements ----
 

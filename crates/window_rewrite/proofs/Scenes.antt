@@ -40,7 +40,7 @@ use Rattle.edited_listing.specs.Known.{HasLabelAt}
 use Rattle.kept_layout.specs.Kept.{Lays}
 use Rattle.liveness.specs.Parts.{Parts}
 use Rattle.liveness.specs.KeptLive.{IsKeptLive}
-use Rattle.liveness.specs.Window.{GivesWay}
+use Rattle.liveness.specs.Window.{IsWindowExchange}
 use Rattle.window_rewrite.specs.declared.choice.Choice.{Choice}
 use Rattle.window_rewrite.specs.declared.finding.Rules.{Rules}
 use Rattle.window_rewrite.specs.declared.known_layout.KnownLayout.{KnownLayout}
@@ -292,7 +292,7 @@ made_stands was now place ps window new m =
 
 pub made_live : (was now : Edited) (place : ℕ) (ps : List ℕ) (window new : List Instr) (k j : Parts) → IsMade was now place ps window new → IsPadded (marks was) (padded was) (code_of (lines_now was)) → length (marks was) ≡ length (padded was).places
     → AreRanked (marks was) place ps → length ps ≡ length window → MayGiveWay (code_of (lines_now was)) place window new
-    → ((code code' : Code) (window : List Instr) → GivesWay code code' ps window new → IsKeptLive code k → IsKeptLive code' j) → IsKeptLive (padded was) k → IsKeptLive (padded now) j
+    → ((code code' : Code) (window : List Instr) → IsWindowExchange code code' ps window new → IsKeptLive code k → IsKeptLive code' j) → IsKeptLive (padded was) k → IsKeptLive (padded now) j
 made_live was now place ps window new k j m s many a n keeps kept live =
     subst (λ (c : Code). IsKeptLive c j) (sym m.padded_now)
     (kept (padded was) (exchanged ps new (padded was)) window (gives_way (marks was) (padded was) (code_of (lines_now was)) s many place ps window new a n keeps) live)

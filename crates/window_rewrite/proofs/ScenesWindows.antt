@@ -16,14 +16,14 @@ use Rattle.kept_places.specs.Marks.{is_gone, rank}
 use Rattle.kept_places.proofs.Ranks.{rank_kept, ranks_ascend, outside_by_rank}
 use Rattle.shrinking_sets.specs.Straight.{is_straight, IsUnlabelled}
 use Rattle.padded_code.specs.Padding.{ranked, IsPadded}
-use Rattle.padded_code.specs.Exchange.{marks_after, exchanged, AreKeptFrom, GivesWay as GivesWayPadded}
+use Rattle.padded_code.specs.Exchange.{marks_after, exchanged, AreKeptFrom, GivesWay}
 use Rattle.padded_code.specs.Windows.{AreRanked}
 use Rattle.padded_code.specs.Spread.{spread, last_of}
 use Rattle.padded_code.proofs.Padded.{label_in}
 use Rattle.padded_code.proofs.Exchanged.{stays_padded}
 use Rattle.padded_code.proofs.Windows.{windows_stand}
 use Rattle.padded_code.proofs.Spread.{exchange_is_straight, spreads_end}
-use Rattle.liveness.specs.Window.{AreAscending, GivesWay}
+use Rattle.liveness.specs.Window.{AreAscending, IsWindowExchange}
 
 -- ---- instructions ----
 
@@ -89,7 +89,7 @@ pub still_padded : (gone : List Bool) (padded : Code) (lines : List ListingLine)
 still_padded gone padded lines s m r ps window new a n k =
     let few = k.no_longer in
     let code : Code = code_of lines in
-    let gives : GivesWayPadded gone padded code r ps new = record {
+    let gives : GivesWay gone padded code r ps new = record {
       kept = kept_from gone padded.places r ps window a (stands gone padded code s m r ps window new a n k);
       no_longer = omega arith;
       unlabelled = subst (λ c. (j : ℕ) (l : Label) → slice_get code.labels j ≡ Some l → (l.place ≤ r) ⊎ (r + c ≤ l.place)) (sym n) k.unlabelled;
@@ -117,7 +117,7 @@ unlabelled_within gone padded code s r p ps window new a n k = λ j l e.
 
 -- so the window gives way as the kept sets of live items require it
 pub gives_way : (gone : List Bool) (padded code : Code) → IsPadded gone padded code → length gone ≡ length padded.places → (r : ℕ) (ps : List ℕ) (window new : List Instr) → AreRanked gone r ps → length ps ≡ length window → MayGiveWay code r window new
-    → GivesWay padded (exchanged ps new padded) ps window new
+    → IsWindowExchange padded (exchanged ps new padded) ps window new
 gives_way gone padded code s m r [] window new a n k = let some = k.some in absurd (omega arith)
 gives_way gone padded code s m r (p ∷ ps) window new a n k =
     let few = k.no_longer in

@@ -11,7 +11,7 @@ use Rattle.rule_table.specs.Canonical.{IsRenamable, IsCanonical}
 use Rattle.seq_enum.specs.Costs.{weight_under}
 use Rattle.thumb_model.specs.Replaced.{IsWindow}
 use Rattle.window_rewrite.specs.declared.forms.Form.{Form}
-use Rattle.window_rewrite.specs.declared.marks.Marks.{Marks}
+use Rattle.window_rewrite.specs.declared.left_side_hashes.LeftSideHashes.{LeftSideHashes}
 use Rattle.window_rewrite.specs.Forms.{form_of}
 use Rattle.window_rewrite.specs.Rules.{IsNoted}
 use Rattle.window_rewrite.specs.Hashes.{seen}
@@ -41,11 +41,11 @@ abbrev pub NoneReaches : Option (List ℕ) → List (List Rule) → List Instr �
 NoneReaches costs table run count = (n k i : ℕ) (rule : Rule) (registers : List Low) → count < length rule.left → rule_at table k i ≡ Some rule → Lightens costs rule registers (take n run) → ⊥
 
 -- no marked side of more than `low` instructions stands first in the run, which is taken as it is or with 0 for 8-bit numbers
-abbrev pub NoneMarked : Marks → Bool → List Instr → ℕ → Type 0
+abbrev pub NoneMarked : LeftSideHashes → Bool → List Instr → ℕ → Type 0
 NoneMarked marks hidden run low = (n : ℕ) (side : List Instr) (registers : List Low) → low < length side → IsNoted marks side → map (seen hidden) (take n run) ≡ map (renamed registers) side → ⊥
 
 -- no marked side of more than `low` instructions, but at most `high`, does
-abbrev pub NoneBetween : Marks → Bool → List Instr → ℕ → ℕ → Type 0
+abbrev pub NoneBetween : LeftSideHashes → Bool → List Instr → ℕ → ℕ → Type 0
 NoneBetween marks hidden run low high = (n : ℕ) (side : List Instr) (registers : List Low) → low < length side → length side ≤ high → IsNoted marks side → map (seen hidden) (take n run) ≡ map (renamed registers) side → ⊥
 
 -- the item may be live: the mask has it under the map, or it is a register outside the map

@@ -9,4 +9,4 @@ pub mod Families
 pub mod Layouts
 pub mod Scenes
 pub mod Settled
-pub mod Due
+pub mod WorkList

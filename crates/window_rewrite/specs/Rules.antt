@@ -14,7 +14,7 @@ use Rattle.table_audit.specs.Soundness.{instances_of, rewriting_rule}
 use Rattle.table_audit.specs.Shorter.{IsCanonicalSide}
 use Rattle.window_rewrite.specs.declared.chains.Chains.{Chains}
 use Rattle.window_rewrite.specs.declared.index.RuleIndex.{RuleIndex}
-use Rattle.window_rewrite.specs.declared.marks.Marks.{Marks}
+use Rattle.window_rewrite.specs.declared.left_side_hashes.LeftSideHashes.{LeftSideHashes}
 use Rattle.window_rewrite.specs.declared.shadows.KeptEntries.{KeptEntries}
 use Rattle.window_rewrite.specs.Forms.{form_of}
 use Rattle.window_rewrite.specs.Hashes.{blind, hash_of}
@@ -98,17 +98,17 @@ abbrev pub AreMarked : List Bool → List Instr → ℕ → Type 0
 AreMarked marks side count = (at : ℕ) → at < count → is_marked marks (hash_of (take (suc at) side)) ≡ true
 
 -- a side is marked
-pub record IsNoted (marks : Marks) (side : List Instr) : Type 0 where
+pub record IsNoted (marks : LeftSideHashes) (side : List Instr) : Type 0 where
   pub whole : is_marked marks.wholes.items (hash_of side) ≡ true
   pub fronts : AreMarked marks.fronts.items side (length side)
 
 -- there is a mark for each hash
-pub record AreMany (marks : Marks) : Type 0 where
+pub record AreMany (marks : LeftSideHashes) : Type 0 where
   pub wholes : length marks.wholes.items ≡ 65536
   pub fronts : length marks.fronts.items ≡ 65536
 
 -- what was marked still is
-pub record StayNoted (old new : Marks) : Type 0 where
+pub record StayNoted (old new : LeftSideHashes) : Type 0 where
   pub wholes : (q : ℕ) → is_marked old.wholes.items q ≡ true → is_marked new.wholes.items q ≡ true
   pub fronts : (q : ℕ) → is_marked old.fronts.items q ≡ true → is_marked new.fronts.items q ≡ true
 
@@ -120,7 +120,7 @@ abbrev pub blind_side : Rule → List Instr
 blind_side r = map blind r.left
 
 -- of the first n numbers of a table these sides of all rules whose right sides weigh less are marked
-pub record AreNoted (costs : Option (List ℕ)) (side : Rule → List Instr) (table : List (List Rule)) (n : ℕ) (marks : Marks) : Type 0 where
+pub record AreNoted (costs : Option (List ℕ)) (side : Rule → List Instr) (table : List (List Rule)) (n : ℕ) (marks : LeftSideHashes) : Type 0 where
   pub many : AreMany marks
   pub noted : (k i : ℕ) (rule : Rule) → k < n → rule_at table k i ≡ Some rule → is_lighter costs rule ≡ true → IsNoted marks (side rule)
 

@@ -15,7 +15,7 @@ use Rattle.edited_listing.specs.Edited.{lines_now, marks, padded}
 use Rattle.edited_listing.specs.declared.looks.Run.{Run}
 use Rattle.liveness.specs.KeptLive.{IsKeptLive}
 use Rattle.window_rewrite.specs.declared.finding.Rules.{Rules}
-use Rattle.window_rewrite.specs.declared.finding.Look.{Look}
+use Rattle.window_rewrite.specs.declared.finding.SiteLookup.{SiteLookup}
 use Rattle.window_rewrite.specs.declared.finding.Sight.{Sight}
 use Rattle.window_rewrite.specs.Choices.{AreReady}
 use Rattle.window_rewrite.specs.Fitting.{IsForm, StandsThere}
@@ -59,16 +59,16 @@ pub record IsSite (most : ℕ) (s : Scene) (t : Site) : Type 0 where
 abbrev pub IsNear : Scene → Site → Type 0
 IsNear s t = StandsNear s.layout t.number
 
--- ---- a look at a site ----
+-- ---- a lookup at a site ----
 
-abbrev pub lines_seen : Look → List ListingLine
+abbrev pub lines_seen : SiteLookup → List ListingLine
 lines_seen l = lines_of l.scene.now
 
-abbrev pub number_seen : Look → ℕ
+abbrev pub number_seen : SiteLookup → ℕ
 number_seen l = l.site.now.number
 
 -- the table is ready, and the site is one of the scene
-pub record IsLook (l : Look) : Type 0 where
+pub record IsSiteLookup (l : SiteLookup) : Type 0 where
   pub ready : AreReady l.rules.now
   pub over : IsOver l.rules.now l.scene.now
   pub site : IsSite l.rules.now.longest l.scene.now l.site.now
@@ -76,16 +76,16 @@ pub record IsLook (l : Look) : Type 0 where
 
 -- the window stands at the site, is no longer than its run, and has this form
 pub record IsSight (t : Sight) : Type 0 where
-  pub look : IsLook t.look.now
-  pub stands : StandsThere (lines_seen t.look.now) (number_seen t.look.now) t.window.now t.form.now.live.bits
-  pub within : length t.window.now ≤ length t.look.now.site.now.run.instrs
+  pub lookup : IsSiteLookup t.lookup.now
+  pub stands : StandsThere (lines_seen t.lookup.now) (number_seen t.lookup.now) t.window.now t.form.now.live.bits
+  pub within : length t.window.now ≤ length t.lookup.now.site.now.run.instrs
   pub form : IsForm t.window.now t.form.now
 
 -- the lines that are left where a window there gives way
-abbrev pub lines_left : Look → List Instr → List Instr → List ListingLine
+abbrev pub lines_left : SiteLookup → List Instr → List Instr → List ListingLine
 lines_left l window new = replaced_lines own_line (number_seen l) (length window) new (lines_seen l)
 
 -- they are not too many, and can be laid out, where that isn't sure
-pub record MayBeLeft (l : Look) (window new : List Instr) : Type 0 where
+pub record MayBeLeft (l : SiteLookup) (window new : List Instr) : Type 0 where
   pub few : length (lines_left l window new) ≤ max (length (lines_seen l)) most_lines
   pub layable : is_steady l.scene.now.layout ≡ false → Layable l.rules.now.base (lines_left l window new)

@@ -116,16 +116,16 @@ fn try_family<L: Ledger>(
     steps: &mut Steps<L>,
 ) -> Result<Option<Choice>, Memory>
     requires sight { IsSight sight.now }
-    requires number { number < length sight.now.look.now.rules.now.families.now }
-    ensures some { IfOk result (λ o. IfSome o (IsFamilyChoice sight.now.look.now.rules.now (lines_seen sight.now.look.now) (number_seen sight.now.look.now) (length sight.now.window.now) number)) }
-    ensures moved { IfOk result (λ o. IfSome o (λ c. Moves sight.now.look.now.scene.now.layout c.window c.new c.moved)) }
-    ensures none { IfOk result (λ o. IfNone o (NoneOfFamily refused.new sight.now.look.now.rules.now (lines_seen sight.now.look.now) (number_seen sight.now.look.now) (length sight.now.window.now) number)) }
+    requires number { number < length sight.now.lookup.now.rules.now.families.now }
+    ensures some { IfOk result (λ o. IfSome o (IsFamilyChoice sight.now.lookup.now.rules.now (lines_seen sight.now.lookup.now) (number_seen sight.now.lookup.now) (length sight.now.window.now) number)) }
+    ensures moved { IfOk result (λ o. IfSome o (λ c. Moves sight.now.lookup.now.scene.now.layout c.window c.new c.moved)) }
+    ensures none { IfOk result (λ o. IfNone o (NoneOfFamily refused.new sight.now.lookup.now.rules.now (lines_seen sight.now.lookup.now) (number_seen sight.now.lookup.now) (length sight.now.window.now) number)) }
     ensures stays { OnOk result (refused.old ≡ true → refused.new ≡ true) }
-    ensures cost { steps.new ≤ steps.old + from_bool (side_length (families_sides sight.now.look.now.rules.now) number == length sight.now.window.now) }
+    ensures cost { steps.new ≤ steps.old + from_bool (side_length (families_sides sight.now.lookup.now.rules.now) number == length sight.now.window.now) }
     ensures rises { IfOk result (λ o. RisesByAtLeast steps.old steps.new (from_bool (is_some o))) }
 {
-    let family = &sight.look.rules.families[number];
-    let entry = entry_raised(sight.look.rules.entries, family);
+    let family = &sight.lookup.rules.families[number];
+    let entry = entry_raised(sight.lookup.rules.entries, family);
     if entry.left.len() != sight.window.len() {
         return Ok(None);
     }
@@ -135,7 +135,7 @@ fn try_family<L: Ledger>(
             alloc,
             sight,
             &instance.rule,
-            (sight.look.rules.entries.len() + number) as u64 + 1,
+            (sight.lookup.rules.entries.len() + number) as u64 + 1,
             instance.number,
             refused,
             steps,
@@ -166,14 +166,14 @@ pub(crate) fn lowest_family<L: Ledger>(
     steps: &mut Steps<L>,
 ) -> Result<Option<Choice>, Memory>
     requires { IsSight sight.now }
-    ensures some { IfOk result (λ o. IfSome o (IsLowestFamily sight.now.look.now.rules.now (lines_seen sight.now.look.now) (number_seen sight.now.look.now) (length sight.now.window.now))) }
-    ensures moved { IfOk result (λ o. IfSome o (λ c. Moves sight.now.look.now.scene.now.layout c.window c.new c.moved)) }
-    ensures none { IfOk result (λ o. IfNone o (NoneOfFamilies refused.new sight.now.look.now.rules.now (lines_seen sight.now.look.now) (number_seen sight.now.look.now) (length sight.now.window.now) (length sight.now.look.now.rules.now.families.now))) }
+    ensures some { IfOk result (λ o. IfSome o (IsLowestFamily sight.now.lookup.now.rules.now (lines_seen sight.now.lookup.now) (number_seen sight.now.lookup.now) (length sight.now.window.now))) }
+    ensures moved { IfOk result (λ o. IfSome o (λ c. Moves sight.now.lookup.now.scene.now.layout c.window c.new c.moved)) }
+    ensures none { IfOk result (λ o. IfNone o (NoneOfFamilies refused.new sight.now.lookup.now.rules.now (lines_seen sight.now.lookup.now) (number_seen sight.now.lookup.now) (length sight.now.window.now) (length sight.now.lookup.now.rules.now.families.now))) }
     ensures stays { OnOk result (refused.old ≡ true → refused.new ≡ true) }
-    ensures cost { steps.new ≤ steps.old + of_length (length sight.now.window.now) (families_sides sight.now.look.now.rules.now) }
+    ensures cost { steps.new ≤ steps.old + of_length (length sight.now.window.now) (families_sides sight.now.lookup.now.rules.now) }
     ensures rises { IfOk result (λ o. RisesByAtLeast steps.old steps.new (from_bool (is_some o))) }
 {
-    let rules = sight.look.rules;
+    let rules = sight.lookup.rules;
     if rules.families.is_empty() {
         return Ok(None);
     }

@@ -10,11 +10,11 @@ ghost use Rattle.window_rewrite.specs.Choices.{table_in, AreReady};
 
 use crate::finding::Rules;
 use crate::hashes::{hash_of, next_hash, seen};
-use crate::marks::Marks;
+use crate::left_side_hashes::LeftSideHashes;
 use thumb_instr::Instr;
 
 /// Whether a side that is marked may begin with this instruction.
-fn may_begin_in(marks: &Marks, hidden: bool, first: Instr) -> bool
+fn may_begin_in(marks: &LeftSideHashes, hidden: bool, first: Instr) -> bool
     requires { AreMany marks.now }
     ensures { result ≡ false → (rows : List WindowPlace) → Some first ≡ instr_at true rows → (most : ℕ) → NoneMarked marks.now hidden (run true most rows) 0 }
 {
@@ -42,7 +42,7 @@ pub(crate) fn may_begin(rules: &Rules<'_>, first: Option<Instr>) -> bool
 }
 
 /// `count` if a marked side may have this hash, else `other`.
-fn longest_of(marks: &Marks, hash: usize, count: usize, other: usize) -> usize
+fn longest_of(marks: &LeftSideHashes, hash: usize, count: usize, other: usize) -> usize
     requires many { AreMany marks.now }
     requires small { hash < 65536 }
     ensures { result ≡ (if is_marked marks.now.wholes.items hash then count else other) }
@@ -51,7 +51,7 @@ fn longest_of(marks: &Marks, hash: usize, count: usize, other: usize) -> usize
 }
 
 /// How many instructions a marked side that a run begins with may have at most, registers aside; 0 where there is none.
-fn reach_in(marks: &Marks, hidden: bool, run: &[Instr]) -> usize
+fn reach_in(marks: &LeftSideHashes, hidden: bool, run: &[Instr]) -> usize
     requires { AreMany marks.now }
     ensures within { result ≤ length run.now }
     ensures none { NoneMarked marks.now hidden run.now result }

@@ -5,7 +5,7 @@ ghost use Rattle.window_rewrite.specs.Rules.{left_forms, raised_forms, rules_in,
 
 use crate::chains::Chains;
 use crate::forms::{left_forms, raised_forms};
-use crate::marks::Marks;
+use crate::left_side_hashes::LeftSideHashes;
 use crate::shadows::kept_entries;
 use listing_parser::Memory;
 use rule_table::{Entry, Family};
@@ -15,9 +15,9 @@ use std::alloc::Global;
 /// Marks of the rules whose right sides weigh less, which reject most windows, and for the others chains of rules by their left sides.
 #[derive(Drop)]
 pub(crate) struct RuleIndex {
-    pub(crate) marks: Marks,
+    pub(crate) marks: LeftSideHashes,
     /// Marks of the families, by left sides with 0 for 8-bit numbers.
-    pub(crate) holes: Marks,
+    pub(crate) holes: LeftSideHashes,
     /// The entries that are kept, by the hashes of their left sides.
     pub(crate) entries: Chains,
     /// All families, by the hashes of their left sides with 0 for 8-bit numbers.
@@ -55,8 +55,8 @@ impl RuleIndex {
         ensures { IfOk result (IsIndex costs.now (map rule_of entries.now) (map family_of families.now)) }
     {
         Ok(RuleIndex {
-            marks: Marks::of(alloc, costs, entries)?,
-            holes: Marks::of_families(alloc, costs, entries, families)?,
+            marks: LeftSideHashes::of(alloc, costs, entries)?,
+            holes: LeftSideHashes::of_families(alloc, costs, entries, families)?,
             entries: entry_chains(alloc, costs, entries)?,
             families: family_chains(alloc, entries, families)?,
         })

@@ -18,7 +18,6 @@
 
 mod chains;
 mod choice;
-mod due;
 mod errors;
 mod families;
 mod finding;
@@ -28,12 +27,13 @@ mod fronts;
 mod hashes;
 mod index;
 mod known_layout;
-mod marks;
+mod left_side_hashes;
 mod registers;
 mod rewriting;
 mod scene;
 mod scratch;
 mod shadows;
+mod work_list;
 
 pub use choice::{Replacement, Rewritten};
 pub use errors::RewriteError;

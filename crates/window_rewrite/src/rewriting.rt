@@ -13,11 +13,11 @@ ghost use Rattle.window_rewrite.specs.Choices.{setting_of, sides_of, AreReady};
 ghost use Rattle.window_rewrite.specs.Layouts.{IsSteadyIf};
 
 use crate::choice::Rewritten;
-use crate::due::go_through;
 use crate::errors::RewriteError;
 use crate::finding::Rules;
 use crate::index::RuleIndex;
 use crate::scene::Scene;
+use crate::work_list::go_through;
 use label_layout::layout;
 use listing_parser::{Listing, Memory};
 use std::alloc::Global;

@@ -1,7 +1,7 @@
 use Rattle.std.proofs.Common.{◌≡◌, ◌↔◌, ◌∙◌, Bool, true, sym, subst}
 use Rattle.std.specs.Prelude.{option_map}
 use Rattle.thumb_model.specs.Listing.{code_of}
-use Rattle.flow_tidy.specs.Due.{HasEnd}
+use Rattle.flow_tidy.specs.DuePlaces.{HasEnd}
 use Rattle.flow_tidy.proofs.Making.{has_end_is, same_some}
 use Rattle.flow_tidy.proofs.changing.has_end.Goals as goal
 

@@ -4,7 +4,7 @@ use Rattle.thumb_model.specs.Listing.{code_of, Name}
 use Rattle.kept_places.specs.Marks.{rank}
 use Rattle.listing_draft.specs.Drafted.{lines_now, Drafted}
 use Rattle.flow_tidy.specs.Tidying.{ToEnd, GoesToNext, IsPossible, setting}
-use Rattle.flow_tidy.specs.Due.{HasEnd}
+use Rattle.flow_tidy.specs.DuePlaces.{HasEnd}
 use Rattle.flow_tidy.specs.Made.{change}
 use Rattle.flow_tidy.specs.Quick.{GoesTo}
 use Rattle.flow_tidy.proofs.Hopping.{goes, nowhere_ends, nowhere_next}

@@ -6,7 +6,7 @@ use Rattle.kept_places.specs.Marks.{is_gone, rank}
 use Rattle.listing_parser.specs.Parsing.{own_line}
 use Rattle.listing_draft.specs.Drafted.{lines_now, Drafted}
 use Rattle.listing_draft.proofs.Drafts.{set_length}
-use Rattle.flow_tidy.specs.Due.{lets_on, AreDue}
+use Rattle.flow_tidy.specs.DuePlaces.{lets_on, AreDue}
 use Rattle.flow_tidy.specs.Quick.{left}
 use Rattle.flow_tidy.proofs.Quickly.{code_goes, due_again, due_before, due_first}
 use Rattle.flow_tidy.proofs.Settled.{MayVanish}

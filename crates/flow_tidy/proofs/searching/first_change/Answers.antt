@@ -1,5 +1,5 @@
 use Rattle.std.proofs.Common.{arith, subst, sym}
-use Rattle.flow_tidy.specs.Due.{IsKnown}
+use Rattle.flow_tidy.specs.DuePlaces.{IsKnown}
 use Rattle.flow_tidy.specs.Tidying.{setting}
 use Rattle.flow_tidy.specs.Made.{IsMadeAt}
 use Rattle.flow_tidy.proofs.Making.{found_next, none_at_all, none_before_more}

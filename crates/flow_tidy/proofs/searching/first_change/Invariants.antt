@@ -1,4 +1,4 @@
-use Rattle.flow_tidy.specs.Due.{IsKnown}
+use Rattle.flow_tidy.specs.DuePlaces.{IsKnown}
 use Rattle.flow_tidy.specs.Tidying.{setting}
 use Rattle.flow_tidy.proofs.Making.{NoneBefore}
 use Rattle.flow_tidy.proofs.searching.first_change.Given as goal

@@ -2,7 +2,7 @@ use Rattle.std.proofs.Common.{◌∙◌, [], sym, subst}
 use Rattle.thumb_model.specs.Listing.{code_of}
 use Rattle.thumb_model.specs.Replaced.{replaced}
 use Rattle.code_flow.specs.Marks.{AreMarks}
-use Rattle.flow_tidy.specs.Due.{AreDue}
+use Rattle.flow_tidy.specs.DuePlaces.{AreDue}
 use Rattle.flow_tidy.proofs.Settled.{due_all, due_left, marks_left, may_go, may_leave}
 use Rattle.flow_tidy.proofs.settling.leave.Goals as goal
 

@@ -1,8 +1,8 @@
 use Rattle.std.proofs.Common.{◌∙◌, ◌+◌, ◌<◌, ◌^◌, Some, length, refl, sym, subst, arith}
 use Rattle.thumb_model.specs.Listing.{code_of, places_of}
-use Rattle.flow_tidy.specs.Due.{IsFoundNext, IsKnown, IsNextAt}
+use Rattle.flow_tidy.specs.DuePlaces.{IsFoundNext, IsKnown, IsNextAt}
 use Rattle.flow_tidy.specs.Tidying.{NonePossible, setting}
-use Rattle.flow_tidy.specs.Due.{AreDue}
+use Rattle.flow_tidy.specs.DuePlaces.{AreDue}
 use Rattle.flow_tidy.proofs.Ends.{room_of}
 use Rattle.flow_tidy.proofs.Rounds.{all_made, count_fits, next_made, next_room, nothing_made}
 use Rattle.flow_tidy.proofs.Settled.{all_due}

@@ -1,5 +1,5 @@
 use Rattle.std.proofs.Common.{◌≡◌, ◌+◌, ◌≤◌}
-use Rattle.flow_tidy.specs.Due.{IsKnown}
+use Rattle.flow_tidy.specs.DuePlaces.{IsKnown}
 use Rattle.flow_tidy.specs.Made.{AreMadeBy}
 use Rattle.flow_tidy.specs.Tidying.{setting}
 use Rattle.flow_tidy.proofs.Ends.{room_of}

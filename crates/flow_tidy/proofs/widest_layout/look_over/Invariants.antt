@@ -1,6 +1,6 @@
 use Rattle.std.proofs.Common.{◌≡◌, ℕ, ◌<◌, ◌≤◌, ◌++◌, Some, true, drop, length, slice_get}
 use Rattle.thumb_model.specs.Listing.{code_of, places_of}
-use Rattle.flow_tidy.specs.Due.{IsCaused}
+use Rattle.flow_tidy.specs.DuePlaces.{IsCaused}
 use Rattle.flow_tidy.specs.Halves.{wides_before}
 use Rattle.flow_tidy.proofs.widest_layout.look_over.Given as goal
 

@@ -24,53 +24,53 @@ known : (r : Rules) (n : ℕ) (read : Family) (e : Entry) → AreReady r → n <
 known r n read e ready within is entry = family_read r n (slice_index_or r.families.now n read) e ready (there r n read within is) entry
 
 pub entry_raised-entry-requires : goal.entry_raised-entry-requires
-entry_raised-entry-requires g c = raised_at c.args.sight.now.look.now.rules.now c.args.number (slice_index_or c.args.sight.now.look.now.rules.now.families.now c.args.number c.index-sight-number.result) c.requires.sight.look.ready (there c.args.sight.now.look.now.rules.now c.args.number c.index-sight-number.result c.requires.number c.index-sight-number.is)
+entry_raised-entry-requires g c = raised_at c.args.sight.now.lookup.now.rules.now c.args.number (slice_index_or c.args.sight.now.lookup.now.rules.now.families.now c.args.number c.index-sight-number.result) c.requires.sight.lookup.ready (there c.args.sight.now.lookup.now.rules.now c.args.number c.index-sight-number.result c.requires.number c.index-sight-number.is)
 
 pub returns-then-len-sight-clause-none : goal.returns-then-len-sight-clause-none
 returns-then-len-sight-clause-none g c =
-    let k = known c.args.sight.now.look.now.rules.now c.args.number c.index-sight-number.result c.entry_raised-entry.result.now c.requires.sight.look.ready c.requires.number c.index-sight-number.is c.entry_raised-entry.ensures in
-    none_long c.args.sight.now.look.now.rules.now c.args.number (family_of (slice_index_or c.args.sight.now.look.now.rules.now.families.now c.args.number c.index-sight-number.result)) (rule_of c.entry_raised-entry.result.now) k _ (lines_seen c.args.sight.now.look.now) (number_seen c.args.sight.now.look.now) (length c.args.sight.now.window.now) (λ e. c.if-len-sight.true (c.len.ensures.value ∙ e))
+    let k = known c.args.sight.now.lookup.now.rules.now c.args.number c.index-sight-number.result c.entry_raised-entry.result.now c.requires.sight.lookup.ready c.requires.number c.index-sight-number.is c.entry_raised-entry.ensures in
+    none_long c.args.sight.now.lookup.now.rules.now c.args.number (family_of (slice_index_or c.args.sight.now.lookup.now.rules.now.families.now c.args.number c.index-sight-number.result)) (rule_of c.entry_raised-entry.result.now) k _ (lines_seen c.args.sight.now.lookup.now) (number_seen c.args.sight.now.lookup.now) (length c.args.sight.now.window.now) (λ e. c.if-len-sight.true (c.len.ensures.value ∙ e))
 
 pub instance_at-requires-clause-bytes : goal.instance_at-requires-clause-bytes
-instance_at-requires-clause-bytes g c = (known c.args.sight.now.look.now.rules.now c.args.number c.index-sight-number.result c.entry_raised-entry.result.now c.requires.sight.look.ready c.requires.number c.index-sight-number.is c.entry_raised-entry.ensures).bytes
+instance_at-requires-clause-bytes g c = (known c.args.sight.now.lookup.now.rules.now c.args.number c.index-sight-number.result c.entry_raised-entry.result.now c.requires.sight.lookup.ready c.requires.number c.index-sight-number.is c.entry_raised-entry.ensures).bytes
 
 pub instance_at-requires-clause-held : goal.instance_at-requires-clause-held
-instance_at-requires-clause-held g c = (known c.args.sight.now.look.now.rules.now c.args.number c.index-sight-number.result c.entry_raised-entry.result.now c.requires.sight.look.ready c.requires.number c.index-sight-number.is c.entry_raised-entry.ensures).held
+instance_at-requires-clause-held g c = (known c.args.sight.now.lookup.now.rules.now c.args.number c.index-sight-number.result c.entry_raised-entry.result.now c.requires.sight.lookup.ready c.requires.number c.index-sight-number.is c.entry_raised-entry.ensures).held
 
 pub returns-in-None-clause-none : goal.returns-in-None-clause-none
 returns-in-None-clause-none g c =
-    let k = known c.args.sight.now.look.now.rules.now c.args.number c.index-sight-number.result c.entry_raised-entry.result.now c.requires.sight.look.ready c.requires.number c.index-sight-number.is c.entry_raised-entry.ensures in
-    none_stands c.args.sight.now.look.now.rules.now c.args.number (family_of (slice_index_or c.args.sight.now.look.now.rules.now.families.now c.args.number c.index-sight-number.result)) (rule_of c.entry_raised-entry.result.now) k _ (lines_seen c.args.sight.now.look.now) (number_seen c.args.sight.now.look.now) c.args.sight.now.window.now c.args.sight.now.form.now c.requires.sight.look.ready c.requires.sight.stands.is_window c.requires.sight.form
+    let k = known c.args.sight.now.lookup.now.rules.now c.args.number c.index-sight-number.result c.entry_raised-entry.result.now c.requires.sight.lookup.ready c.requires.number c.index-sight-number.is c.entry_raised-entry.ensures in
+    none_stands c.args.sight.now.lookup.now.rules.now c.args.number (family_of (slice_index_or c.args.sight.now.lookup.now.rules.now.families.now c.args.number c.index-sight-number.result)) (rule_of c.entry_raised-entry.result.now) k _ (lines_seen c.args.sight.now.lookup.now) (number_seen c.args.sight.now.lookup.now) c.args.sight.now.window.now c.args.sight.now.form.now c.requires.sight.lookup.ready c.requires.sight.stands.is_window c.requires.sight.form
     (λ x within same. c.in-None.ensures x within (same ∙ sym c.as_slice.ensures.value))
 
 pub try_rule-requires-clause-fit : goal.try_rule-requires-clause-fit
 try_rule-requires-clause-fit g c =
-    let k = known c.args.sight.now.look.now.rules.now c.args.number c.index-sight-number.result c.entry_raised-entry.result.now c.requires.sight.look.ready c.requires.number c.index-sight-number.is c.entry_raised-entry.ensures in
-    instance_fit c.args.sight.now.look.now.rules.now c.args.number (family_of (slice_index_or c.args.sight.now.look.now.rules.now.families.now c.args.number c.index-sight-number.result)) (rule_of c.entry_raised-entry.result.now) k c.as_slice.result.now c.in-Some.instance c.in-Some.ensures c.requires.sight.look.ready.fit
+    let k = known c.args.sight.now.lookup.now.rules.now c.args.number c.index-sight-number.result c.entry_raised-entry.result.now c.requires.sight.lookup.ready c.requires.number c.index-sight-number.is c.entry_raised-entry.ensures in
+    instance_fit c.args.sight.now.lookup.now.rules.now c.args.number (family_of (slice_index_or c.args.sight.now.lookup.now.rules.now.families.now c.args.number c.index-sight-number.result)) (rule_of c.entry_raised-entry.result.now) k c.as_slice.result.now c.in-Some.instance c.in-Some.ensures c.requires.sight.lookup.ready.fit
 
 pub try_rule-requires-clause-long : goal.try_rule-requires-clause-long
 try_rule-requires-clause-long g c =
-    let k = known c.args.sight.now.look.now.rules.now c.args.number c.index-sight-number.result c.entry_raised-entry.result.now c.requires.sight.look.ready c.requires.number c.index-sight-number.is c.entry_raised-entry.ensures in
-    instance_long c.args.sight.now.look.now.rules.now c.args.number (family_of (slice_index_or c.args.sight.now.look.now.rules.now.families.now c.args.number c.index-sight-number.result)) (rule_of c.entry_raised-entry.result.now) k c.as_slice.result.now c.in-Some.instance c.in-Some.ensures ∙ (sym c.len.ensures.value ∙ c.if-len-sight.false)
+    let k = known c.args.sight.now.lookup.now.rules.now c.args.number c.index-sight-number.result c.entry_raised-entry.result.now c.requires.sight.lookup.ready c.requires.number c.index-sight-number.is c.entry_raised-entry.ensures in
+    instance_long c.args.sight.now.lookup.now.rules.now c.args.number (family_of (slice_index_or c.args.sight.now.lookup.now.rules.now.families.now c.args.number c.index-sight-number.result)) (rule_of c.entry_raised-entry.result.now) k c.as_slice.result.now c.in-Some.instance c.in-Some.ensures ∙ (sym c.len.ensures.value ∙ c.if-len-sight.false)
 
 pub returns-in-Some-clause-some : goal.returns-in-Some-clause-some
 returns-in-Some-clause-some g c =
-    let k = known c.args.sight.now.look.now.rules.now c.args.number c.index-sight-number.result c.entry_raised-entry.result.now c.requires.sight.look.ready c.requires.number c.index-sight-number.is c.entry_raised-entry.ensures in
+    let k = known c.args.sight.now.lookup.now.rules.now c.args.number c.index-sight-number.result c.entry_raised-entry.result.now c.requires.sight.lookup.ready c.requires.number c.index-sight-number.is c.entry_raised-entry.ensures in
     let long = sym c.len.ensures.value ∙ c.if-len-sight.false in
-    let entry : length c.args.sight.now.look.now.rules.now.entries.now + c.args.number + 1 - 1 ≡ length c.args.sight.now.look.now.rules.now.entries.now + c.args.number = omega arith in
+    let entry : length c.args.sight.now.lookup.now.rules.now.entries.now + c.args.number + 1 - 1 ≡ length c.args.sight.now.lookup.now.rules.now.entries.now + c.args.number = omega arith in
     IfOk-weaker c.try_rule.result _ _ (λ o h. IfSome_then o h (λ x by.
-    family_choice c.args.sight.now.look.now.rules.now c.args.number (family_of (slice_index_or c.args.sight.now.look.now.rules.now.families.now c.args.number c.index-sight-number.result)) (rule_of c.entry_raised-entry.result.now) k c.as_slice.result.now c.in-Some.instance c.in-Some.ensures (lines_seen c.args.sight.now.look.now) (number_seen c.args.sight.now.look.now) c.args.sight.now.window.now c.args.sight.now.form.now x c.requires.sight.look.ready c.requires.sight.stands.is_window c.requires.sight.form c.as_slice.ensures.value long
-    (subst (λ n. IsChoiceBy c.args.sight.now.look.now.rules.now.costs.now c.args.sight.now.look.now.rules.now.base (entry_rule c.in-Some.instance.rule) (lines_seen c.args.sight.now.look.now) (number_seen c.args.sight.now.look.now) n c.in-Some.instance.number x) entry by))) c.try_rule.ensures.some
+    family_choice c.args.sight.now.lookup.now.rules.now c.args.number (family_of (slice_index_or c.args.sight.now.lookup.now.rules.now.families.now c.args.number c.index-sight-number.result)) (rule_of c.entry_raised-entry.result.now) k c.as_slice.result.now c.in-Some.instance c.in-Some.ensures (lines_seen c.args.sight.now.lookup.now) (number_seen c.args.sight.now.lookup.now) c.args.sight.now.window.now c.args.sight.now.form.now x c.requires.sight.lookup.ready c.requires.sight.stands.is_window c.requires.sight.form c.as_slice.ensures.value long
+    (subst (λ n. IsChoiceBy c.args.sight.now.lookup.now.rules.now.costs.now c.args.sight.now.lookup.now.rules.now.base (entry_rule c.in-Some.instance.rule) (lines_seen c.args.sight.now.lookup.now) (number_seen c.args.sight.now.lookup.now) n c.in-Some.instance.number x) entry by))) c.try_rule.ensures.some
 
 pub returns-in-Some-clause-none : goal.returns-in-Some-clause-none
 returns-in-Some-clause-none g c =
-    let k = known c.args.sight.now.look.now.rules.now c.args.number c.index-sight-number.result c.entry_raised-entry.result.now c.requires.sight.look.ready c.requires.number c.index-sight-number.is c.entry_raised-entry.ensures in
+    let k = known c.args.sight.now.lookup.now.rules.now c.args.number c.index-sight-number.result c.entry_raised-entry.result.now c.requires.sight.lookup.ready c.requires.number c.index-sight-number.is c.entry_raised-entry.ensures in
     IfOk-weaker c.try_rule.result _ _ (λ o h. if_none o h (λ none.
-    none_tried c.args.sight.now.look.now.rules.now c.args.number (family_of (slice_index_or c.args.sight.now.look.now.rules.now.families.now c.args.number c.index-sight-number.result)) (rule_of c.entry_raised-entry.result.now) k c.as_slice.result.now c.in-Some.instance c.in-Some.ensures _ (lines_seen c.args.sight.now.look.now) (number_seen c.args.sight.now.look.now) c.args.sight.now.window.now c.args.sight.now.form.now c.requires.sight.look.ready c.requires.sight.stands.is_window c.requires.sight.form c.as_slice.ensures.value none)) c.try_rule.ensures.none
+    none_tried c.args.sight.now.lookup.now.rules.now c.args.number (family_of (slice_index_or c.args.sight.now.lookup.now.rules.now.families.now c.args.number c.index-sight-number.result)) (rule_of c.entry_raised-entry.result.now) k c.as_slice.result.now c.in-Some.instance c.in-Some.ensures _ (lines_seen c.args.sight.now.lookup.now) (number_seen c.args.sight.now.lookup.now) c.args.sight.now.window.now c.args.sight.now.form.now c.requires.sight.lookup.ready c.requires.sight.stands.is_window c.requires.sight.form c.as_slice.ensures.value none)) c.try_rule.ensures.none
 
 pub returns-in-Some-clause-cost : goal.returns-in-Some-clause-cost
 returns-in-Some-clause-cost g c =
-    let k = known c.args.sight.now.look.now.rules.now c.args.number c.index-sight-number.result c.entry_raised-entry.result.now c.requires.sight.look.ready c.requires.number c.index-sight-number.is c.entry_raised-entry.ensures in
+    let k = known c.args.sight.now.lookup.now.rules.now c.args.number c.index-sight-number.result c.entry_raised-entry.result.now c.requires.sight.lookup.ready c.requires.number c.index-sight-number.is c.entry_raised-entry.ensures in
     let long = sym c.len.ensures.value ∙ c.if-len-sight.false in
-    let own = family_length c.args.sight.now.look.now.rules.now c.args.number (family_of (slice_index_or c.args.sight.now.look.now.rules.now.families.now c.args.number c.index-sight-number.result)) (rule_of c.entry_raised-entry.result.now) k in
+    let own = family_length c.args.sight.now.lookup.now.rules.now c.args.number (family_of (slice_index_or c.args.sight.now.lookup.now.rules.now.families.now c.args.number c.index-sight-number.result)) (rule_of c.entry_raised-entry.result.now) k in
     counted _ _ c.args.steps.now c.try_rule.new.steps (own ∙ long) c.try_rule.ensures.cost

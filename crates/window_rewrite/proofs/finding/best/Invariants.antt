@@ -7,11 +7,11 @@ use Rattle.window_rewrite.proofs.finding.best.Given as goal
 
 abbrev pub invariant-loop-count : goal.invariant-loop-count
 invariant-loop-count g l = record {
-  within : l.count ≤ length l.look.site.now.run.instrs;
-  none : NoneLonger l.refused (setting_of l.look.rules.now) (lines_seen l.look) (number_seen l.look) l.count;
+  within : l.count ≤ length l.lookup.site.now.run.instrs;
+  none : NoneLonger l.refused (setting_of l.lookup.rules.now) (lines_seen l.lookup) (number_seen l.lookup) l.count;
   stays : l.initial.refused ≡ true → l.refused ≡ true;
   rises : RisesByAtLeast l.initial.steps l.steps 0;
-  cost : l.steps ≤ l.initial.steps + longer l.count (sides_of l.look.rules.now);
+  cost : l.steps ≤ l.initial.steps + longer l.count (sides_of l.lookup.rules.now);
 }
 
 abbrev pub decreases-loop-count : goal.decreases-loop-count

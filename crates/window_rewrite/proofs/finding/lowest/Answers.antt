@@ -8,18 +8,18 @@ use Rattle.window_rewrite.proofs.finding.lowest.Goals as goal
 
 pub returns-then-not-may_stand-clause-none : goal.returns-then-not-may_stand-clause-none
 returns-then-not-may_stand-clause-none g c =
-    none_in _ c.args.look.now.rules.now.costs.now c.args.look.now.rules.now.base c.args.look.now.rules.now.longest (table_in c.args.look.now.rules.now) (lines_seen c.args.look.now) (number_seen c.args.look.now) c.args.window.now c.requires.look.ready.fit c.requires.stands.is_window (c.may_stand.ensures c.if-not-may_stand.true)
+    none_in _ c.args.lookup.now.rules.now.costs.now c.args.lookup.now.rules.now.base c.args.lookup.now.rules.now.longest (table_in c.args.lookup.now.rules.now) (lines_seen c.args.lookup.now) (number_seen c.args.lookup.now) c.args.window.now c.requires.lookup.ready.fit c.requires.stands.is_window (c.may_stand.ensures c.if-not-may_stand.true)
 
 pub of-requires : goal.of-requires
 of-requires g c = c.requires.stands.is_window.in_window
 
 pub returns-in-None-clause-none : goal.returns-in-None-clause-none
-returns-in-None-clause-none g c = none_formed _ c.args.look.now.rules.now.costs.now c.args.look.now.rules.now.base c.args.look.now.rules.now.longest (table_in c.args.look.now.rules.now) (lines_seen c.args.look.now) (number_seen c.args.look.now) c.args.window.now c.requires.look.ready.fit c.requires.stands.is_window c.in-None.ensures.none
+returns-in-None-clause-none g c = none_formed _ c.args.lookup.now.rules.now.costs.now c.args.lookup.now.rules.now.base c.args.lookup.now.rules.now.longest (table_in c.args.lookup.now.rules.now) (lines_seen c.args.lookup.now) (number_seen c.args.lookup.now) c.args.window.now c.requires.lookup.ready.fit c.requires.stands.is_window c.in-None.ensures.none
 
 pub lowest_in-requires : goal.lowest_in-requires
 lowest_in-requires g c = record {
-  look = c.requires.look;
-  stands = subst (λ (i : Items). StandsThere (lines_seen c.args.look.now) (number_seen c.args.look.now) c.args.window.now i.bits) (sym c.in-Some.ensures.live) c.requires.stands;
+  lookup = c.requires.lookup;
+  stands = subst (λ (i : Items). StandsThere (lines_seen c.args.lookup.now) (number_seen c.args.lookup.now) c.args.window.now i.bits) (sym c.in-Some.ensures.live) c.requires.stands;
   within = c.requires.within;
   form = c.in-Some.ensures.some;
 }

@@ -7,10 +7,10 @@ use Rattle.window_rewrite.proofs.finding.lowest_by.Given as goal
 
 abbrev pub invariant-loop-at : goal.invariant-loop-at
 invariant-loop-at g l = record {
-  search : IsSearch l.refused l.sight.look.now.rules.now.costs.now l.sight.look.now.rules.now.base (rules_in l.sight.look.now.rules.now.entries.now) l.sight.look.now.rules.now.index.now.entries.kept.items (lines_seen l.sight.look.now) (number_seen l.sight.look.now) l.sight.window.now l.at l.initial.steps l.steps;
+  search : IsSearch l.refused l.sight.lookup.now.rules.now.costs.now l.sight.lookup.now.rules.now.base (rules_in l.sight.lookup.now.rules.now.entries.now) l.sight.lookup.now.rules.now.index.now.entries.kept.items (lines_seen l.sight.lookup.now) (number_seen l.sight.lookup.now) l.sight.window.now l.at l.initial.steps l.steps;
   stays : l.initial.refused ≡ true → l.refused ≡ true;
   rises : RisesByAtLeast l.initial.steps l.steps 0;
 }
 
 abbrev pub decreases-loop-at : goal.decreases-loop-at
-decreases-loop-at g l = left_of (rules_in l.sight.look.now.rules.now.entries.now) l.at
+decreases-loop-at g l = left_of (rules_in l.sight.lookup.now.rules.now.entries.now) l.at

@@ -14,27 +14,27 @@ use Rattle.window_rewrite.proofs.Results.{both_ok, if_none}
 use Rattle.window_rewrite.proofs.finding.lowest_in.Goals as goal
 
 pub returns-in-Some-clause-some : goal.returns-in-Some-clause-some
-returns-in-Some-clause-some g c = lowest_entry c.args.sight.now.look.now.rules.now (lines_seen c.args.sight.now.look.now) (number_seen c.args.sight.now.look.now) (length c.args.sight.now.window.now) c.in-Some.choice (rw c.in-Some.is at c.in_ok-choice.ensures.some)
+returns-in-Some-clause-some g c = lowest_entry c.args.sight.now.lookup.now.rules.now (lines_seen c.args.sight.now.lookup.now) (number_seen c.args.sight.now.lookup.now) (length c.args.sight.now.window.now) c.in-Some.choice (rw c.in-Some.is at c.in_ok-choice.ensures.some)
 
 pub returns-in-Some-clause-cost : goal.returns-in-Some-clause-cost
-returns-in-Some-clause-cost g c = let both = of_length_both (length c.args.sight.now.window.now) (rules_in c.args.sight.now.look.now.rules.now.entries.now) (families_sides c.args.sight.now.look.now.rules.now) in omega (arith, both, c.lowest_by.ensures.cost)
+returns-in-Some-clause-cost g c = let both = of_length_both (length c.args.sight.now.window.now) (rules_in c.args.sight.now.lookup.now.rules.now.entries.now) (families_sides c.args.sight.now.lookup.now.rules.now) in omega (arith, both, c.lowest_by.ensures.cost)
 
 pub returns-in_err-choice-clause-cost : goal.returns-in_err-choice-clause-cost
-returns-in_err-choice-clause-cost g c = let both = of_length_both (length c.args.sight.now.window.now) (rules_in c.args.sight.now.look.now.rules.now.entries.now) (families_sides c.args.sight.now.look.now.rules.now) in omega (arith, both, c.lowest_by.ensures.cost)
+returns-in_err-choice-clause-cost g c = let both = of_length_both (length c.args.sight.now.window.now) (rules_in c.args.sight.now.lookup.now.rules.now.entries.now) (families_sides c.args.sight.now.lookup.now.rules.now) in omega (arith, both, c.lowest_by.ensures.cost)
 
 pub returns-clause-cost : goal.returns-clause-cost
-returns-clause-cost g c = let both = of_length_both (length c.args.sight.now.window.now) (rules_in c.args.sight.now.look.now.rules.now.entries.now) (families_sides c.args.sight.now.look.now.rules.now) in omega (arith, both, c.lowest_by.ensures.cost, c.lowest_family.ensures.cost)
+returns-clause-cost g c = let both = of_length_both (length c.args.sight.now.window.now) (rules_in c.args.sight.now.lookup.now.rules.now.entries.now) (families_sides c.args.sight.now.lookup.now.rules.now) in omega (arith, both, c.lowest_by.ensures.cost, c.lowest_family.ensures.cost)
 
 pub returns-clause-some : goal.returns-clause-some
 returns-clause-some g c =
     let none = rw c.in_default.is at c.in_ok-choice.ensures.none in
-    IfOk-weaker c.lowest_family.result _ _ (λ o h. IfSome_then o h (λ x l. lowest_behind c.args.sight.now.look.now.rules.now _ (lines_seen c.args.sight.now.look.now) (number_seen c.args.sight.now.look.now) (length c.args.sight.now.window.now) x none l)) c.lowest_family.ensures.some
+    IfOk-weaker c.lowest_family.result _ _ (λ o h. IfSome_then o h (λ x l. lowest_behind c.args.sight.now.lookup.now.rules.now _ (lines_seen c.args.sight.now.lookup.now) (number_seen c.args.sight.now.lookup.now) (length c.args.sight.now.window.now) x none l)) c.lowest_family.ensures.some
 
 pub returns-clause-none : goal.returns-clause-none
 returns-clause-none g c =
     let none = rw c.in_default.is at c.in_ok-choice.ensures.none in
     both_ok c.lowest_family.result _ _ c.lowest_family.ensures.none c.lowest_family.ensures.stays (λ o h stays. if_none o h (λ families.
-    none_of_both c.args.sight.now.look.now.rules.now _ (lines_seen c.args.sight.now.look.now) (number_seen c.args.sight.now.look.now) (length c.args.sight.now.window.now) (λ r m. none r (meets_less _ _ (entries_setting c.args.sight.now.look.now.rules.now) r (lines_seen c.args.sight.now.look.now) stays m)) families))
+    none_of_both c.args.sight.now.lookup.now.rules.now _ (lines_seen c.args.sight.now.lookup.now) (number_seen c.args.sight.now.lookup.now) (length c.args.sight.now.window.now) (λ r m. none r (meets_less _ _ (entries_setting c.args.sight.now.lookup.now.rules.now) r (lines_seen c.args.sight.now.lookup.now) stays m)) families))
 
 pub returns-clause-stays : goal.returns-clause-stays
 returns-clause-stays g c = IfOk-weaker c.lowest_family.result _ _ (λ o stays e. stays (c.in_ok-choice.ensures.stays e)) c.lowest_family.ensures.stays

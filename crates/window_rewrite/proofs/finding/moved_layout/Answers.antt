@@ -24,8 +24,8 @@ pub returns-then-new-window-clause-allowed : goal.returns-then-new-window-clause
 returns-then-new-window-clause-allowed c = (
   λ _. record {
     few = c.has_room.ensures.0 c.if-not-has_room.false;
-    layable = λ f. unmoved_layable c.args.look.now.scene.now.layout c.args.look.now.rules.now.base (lines_seen c.args.look.now) (number_seen c.args.look.now) c.args.window.now c.args.new.now
-        f c.requires.look.over.over.layout c.requires.look.near c.requires.window c.requires.some c.if-new-window.true c.requires.in_window;
+    layable = λ f. unmoved_layable c.args.lookup.now.scene.now.layout c.args.lookup.now.rules.now.base (lines_seen c.args.lookup.now) (number_seen c.args.lookup.now) c.args.window.now c.args.new.now
+        f c.requires.lookup.over.over.layout c.requires.lookup.near c.requires.window c.requires.some c.if-new-window.true c.requires.in_window;
   },
   λ _. refl,
 )
@@ -42,21 +42,21 @@ told b steady base other left f e h = (λ t _. subst (λ k. Layable k left) e (h
 
 pub may_give_way-requires-clause-stands : goal.may_give_way-requires-clause-stands
 may_give_way-requires-clause-stands c =
-    let laid : (c.in-Some.kept.base ≡ c.args.look.now.rules.now.base) × Lays c.in-Some.kept (lines_seen c.args.look.now) = rw c.in-Some.is at c.requires.look.over.over.layout in
-    let near : IsNear c.in-Some.kept (number_seen c.args.look.now) = rw c.in-Some.is at c.requires.look.near in
-    record { lines = lines_seen c.args.look.now; place = number_seen c.args.look.now; lays = laid.1; near = near; is_window = c.requires.window }
+    let laid : (c.in-Some.kept.base ≡ c.args.lookup.now.rules.now.base) × Lays c.in-Some.kept (lines_seen c.args.lookup.now) = rw c.in-Some.is at c.requires.lookup.over.over.layout in
+    let near : IsNear c.in-Some.kept (number_seen c.args.lookup.now) = rw c.in-Some.is at c.requires.lookup.near in
+    record { lines = lines_seen c.args.lookup.now; place = number_seen c.args.lookup.now; lays = laid.1; near = near; is_window = c.requires.window }
 
 pub returns-in-Some-clause-allowed : goal.returns-in-Some-clause-allowed
 returns-in-Some-clause-allowed c =
-    let lines : List ListingLine = lines_seen c.args.look.now in
-    let place : ℕ = number_seen c.args.look.now in
-    let laid : (c.in-Some.kept.base ≡ c.args.look.now.rules.now.base) × Lays c.in-Some.kept lines = rw c.in-Some.is at c.requires.look.over.over.layout in
-    let near : IsNear c.in-Some.kept place = rw c.in-Some.is at c.requires.look.near in
+    let lines : List ListingLine = lines_seen c.args.lookup.now in
+    let place : ℕ = number_seen c.args.lookup.now in
+    let laid : (c.in-Some.kept.base ≡ c.args.lookup.now.rules.now.base) × Lays c.in-Some.kept lines = rw c.in-Some.is at c.requires.lookup.over.over.layout in
+    let near : IsNear c.in-Some.kept place = rw c.in-Some.is at c.requires.lookup.near in
     let left : List ListingLine = replaced_lines own_line place (length c.args.window.now) c.args.new.now lines in
     let few = c.has_room.ensures.0 c.if-not-has_room.false in
     IfOk-weaker _ _ _
     (λ (o : Option Move) (t : (ls : List ListingLine) (p : ℕ) → Lays c.in-Some.kept ls → IsNear c.in-Some.kept p → IsWindow ls p c.args.window.now → (is_some o ≡ true) ↔ Layable c.in-Some.kept.base (replaced_lines own_line p (length c.args.window.now) c.args.new.now ls)).
-    let own = told (is_some o) (is_steady c.args.look.now.scene.now.layout) c.in-Some.kept.base c.args.look.now.rules.now.base left (ap (λ k. not (is_some k)) c.in-Some.is) laid.0 (t lines place laid.1 near c.requires.window) in
+    let own = told (is_some o) (is_steady c.args.lookup.now.scene.now.layout) c.in-Some.kept.base c.args.lookup.now.rules.now.base left (ap (λ k. not (is_some k)) c.in-Some.is) laid.0 (t lines place laid.1 near c.requires.window) in
     (λ b. record { few = few; layable = own.0 b }, λ m. own.1 m.layable))
     c.may_give_way.ensures.layable
 

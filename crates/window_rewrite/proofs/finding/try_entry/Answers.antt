@@ -46,33 +46,33 @@ as_long entries number count window read within is e f = long entries number rea
 
 pub returns-then-len-sight-clause-none : goal.returns-then-len-sight-clause-none
 returns-then-len-sight-clause-none g c = λ is registers a.
-    let was = long c.args.sight.now.look.now.rules.now.entries.now c.args.number c.index-sight-number.result c.requires.number c.index-sight-number.is in
+    let was = long c.args.sight.now.lookup.now.rules.now.entries.now c.args.number c.index-sight-number.result c.requires.number c.index-sight-number.is in
     absurd (c.if-len-sight.true (c.len.ensures.value ∙ sym was ∙ is))
 
 pub try_rule-requires-clause-fit : goal.try_rule-requires-clause-fit
-try_rule-requires-clause-fit g c = (entry c.args.sight.now.look.now.rules.now c.args.number c.len.result c.args.sight.now.window.now c.index-sight-number.result c.requires.sight.look.ready c.requires.number c.index-sight-number.is c.len.ensures.value c.if-len-sight.false).fit
+try_rule-requires-clause-fit g c = (entry c.args.sight.now.lookup.now.rules.now c.args.number c.len.result c.args.sight.now.window.now c.index-sight-number.result c.requires.sight.lookup.ready c.requires.number c.index-sight-number.is c.len.ensures.value c.if-len-sight.false).fit
 
 pub try_rule-requires-clause-long : goal.try_rule-requires-clause-long
-try_rule-requires-clause-long g c = (entry c.args.sight.now.look.now.rules.now c.args.number c.len.result c.args.sight.now.window.now c.index-sight-number.result c.requires.sight.look.ready c.requires.number c.index-sight-number.is c.len.ensures.value c.if-len-sight.false).long
+try_rule-requires-clause-long g c = (entry c.args.sight.now.lookup.now.rules.now c.args.number c.len.result c.args.sight.now.window.now c.index-sight-number.result c.requires.sight.lookup.ready c.requires.number c.index-sight-number.is c.len.ensures.value c.if-len-sight.false).long
 
 pub returns-clause-some : goal.returns-clause-some
 returns-clause-some g c =
-    let rule : Rule = entry_rule (slice_index_or c.args.sight.now.look.now.rules.now.entries.now c.args.number c.index-sight-number.result) in
-    let e = entry c.args.sight.now.look.now.rules.now c.args.number c.len.result c.args.sight.now.window.now c.index-sight-number.result c.requires.sight.look.ready c.requires.number c.index-sight-number.is c.len.ensures.value c.if-len-sight.false in
-    let rules : List Rule = rules_in c.args.sight.now.look.now.rules.now.entries.now in
+    let rule : Rule = entry_rule (slice_index_or c.args.sight.now.lookup.now.rules.now.entries.now c.args.number c.index-sight-number.result) in
+    let e = entry c.args.sight.now.lookup.now.rules.now c.args.number c.len.result c.args.sight.now.window.now c.index-sight-number.result c.requires.sight.lookup.ready c.requires.number c.index-sight-number.is c.len.ensures.value c.if-len-sight.false in
+    let rules : List Rule = rules_in c.args.sight.now.lookup.now.rules.now.entries.now in
     let number : c.args.number ≡ c.args.number + 1 - 1 = omega arith in
     let used : rule_at (alone rules) (c.args.number + 1 - 1) 0 ≡ Some rule = ap (λ k. rule_at (alone rules) k 0) (sym number) ∙ alone_at rules c.args.number rule e.at in
     IfOk-weaker c.try_rule.result _ _ (λ o h. IfSome_then o h (λ x by. (by.is (alone rules) rule.open_numbers used, by.at, by.entry_is ∙ sym number))) c.try_rule.ensures.some
 
 pub returns-clause-none : goal.returns-clause-none
 returns-clause-none g c =
-    let rule : Rule = entry_rule (slice_index_or c.args.sight.now.look.now.rules.now.entries.now c.args.number c.index-sight-number.result) in
-    let e = entry c.args.sight.now.look.now.rules.now c.args.number c.len.result c.args.sight.now.window.now c.index-sight-number.result c.requires.sight.look.ready c.requires.number c.index-sight-number.is c.len.ensures.value c.if-len-sight.false in
-    let rules : List Rule = rules_in c.args.sight.now.look.now.rules.now.entries.now in
-    IfOk-weaker c.try_rule.result _ _ (λ o h. if_none o h (λ none is registers m. none (alone rules) rule.open_numbers (made (number_seen c.args.sight.now.look.now) c.args.number registers) (alone_at rules c.args.number rule e.at) refl m)) c.try_rule.ensures.none
+    let rule : Rule = entry_rule (slice_index_or c.args.sight.now.lookup.now.rules.now.entries.now c.args.number c.index-sight-number.result) in
+    let e = entry c.args.sight.now.lookup.now.rules.now c.args.number c.len.result c.args.sight.now.window.now c.index-sight-number.result c.requires.sight.lookup.ready c.requires.number c.index-sight-number.is c.len.ensures.value c.if-len-sight.false in
+    let rules : List Rule = rules_in c.args.sight.now.lookup.now.rules.now.entries.now in
+    IfOk-weaker c.try_rule.result _ _ (λ o h. if_none o h (λ none is registers m. none (alone rules) rule.open_numbers (made (number_seen c.args.sight.now.lookup.now) c.args.number registers) (alone_at rules c.args.number rule e.at) refl m)) c.try_rule.ensures.none
 
 pub returns-clause-cost : goal.returns-clause-cost
-returns-clause-cost g c = counted _ _ c.args.steps.now c.try_rule.new.steps (as_long c.args.sight.now.look.now.rules.now.entries.now c.args.number c.len.result c.args.sight.now.window.now c.index-sight-number.result c.requires.number c.index-sight-number.is c.len.ensures.value c.if-len-sight.false) c.try_rule.ensures.cost
+returns-clause-cost g c = counted _ _ c.args.steps.now c.try_rule.new.steps (as_long c.args.sight.now.lookup.now.rules.now.entries.now c.args.number c.len.result c.args.sight.now.window.now c.index-sight-number.result c.requires.number c.index-sight-number.is c.len.ensures.value c.if-len-sight.false) c.try_rule.ensures.cost
 
 pub returns-clause-long : goal.returns-clause-long
-returns-clause-long g c = any_ok c.try_rule.result _ (λ o. any_some o (as_long c.args.sight.now.look.now.rules.now.entries.now c.args.number c.len.result c.args.sight.now.window.now c.index-sight-number.result c.requires.number c.index-sight-number.is c.len.ensures.value c.if-len-sight.false))
+returns-clause-long g c = any_ok c.try_rule.result _ (λ o. any_some o (as_long c.args.sight.now.lookup.now.rules.now.entries.now c.args.number c.len.result c.args.sight.now.window.now c.index-sight-number.result c.requires.number c.index-sight-number.is c.len.ensures.value c.if-len-sight.false))
