@@ -6,7 +6,7 @@ use Rattle.std.specs.Char.{to_ascii_lowercase}
 use Rattle.std.proofs.lemmas.Bool.{cases_Bool, lt-leb}
 use Rattle.std.proofs.lemmas.List.{length-map}
 use Rattle.std.proofs.lemmas.Slice.Eq.{bytes_eq-Decides}
-use Rattle.ascii_scan.specs.Names.{is_register, is_spelled, registers}
+use Rattle.ascii_scan.specs.Names.{is_register, is_spelled, register_names}
 
 same_length : (w n : List ℕ) → is_spelled w n ≡ true → length w ≡ length n
 same_length w n e =
@@ -24,9 +24,9 @@ none_longer w (n ∷ ns) all long = elim (cases_Bool (is_spelled w n)) [
   ]
 ]
 
-all_short : list_all (λ n. nat_le (length n) 3) registers ≡ true
-unfolding registers
+all_short : list_all (λ n. nat_le (length n) 3) register_names ≡ true
+unfolding register_names
 all_short = refl
 
 pub no_long_register : (w : List ℕ) → 3 < length w → is_register w ≡ false
-no_long_register w long = none_longer w registers all_short (lt-leb (length w) 3 long)
+no_long_register w long = none_longer w register_names all_short (lt-leb (length w) 3 long)

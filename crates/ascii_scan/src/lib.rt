@@ -6,7 +6,7 @@ mod numerals;
 mod source;
 mod words;
 
-pub use naming::{is_name_byte, name};
+pub use naming::{is_name_byte, is_spelled, name};
 pub use numerals::{hex_digit, number};
 pub use source::{Lines, SourceLine, lines_are_slices, lines_join_to_the_text};
 pub use words::{Token, next_token};

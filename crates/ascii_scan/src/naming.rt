@@ -2,29 +2,29 @@
 ghost use Rattle.std.specs.Prelude.{◌≡◌, map};
 ghost use Rattle.std.specs.List.{list_any, prefix_len};
 ghost use Rattle.ascii_scan.specs.Tokens.{front};
-ghost use Rattle.ascii_scan.specs.Names.{is_name_byte, is_opening, is_register, is_spelled, name_length, registers};
+ghost use Rattle.ascii_scan.specs.Names.{is_name_byte, is_opening, is_register, is_spelled, name_length, register_names};
 
 /// The names of registers, in lower case.
 static REGISTERS: [&[u8]; 22] = [
     b"r0", b"r1", b"r2", b"r3", b"r4", b"r5", b"r6", b"r7", b"r8", b"r9", b"r10", b"r11", b"r12",
-    b"r13", b"r14", b"sp", b"lr", b"pc", b"ip", b"fp", b"sl", b"sb",
+    b"r13", b"r14", b"sb", b"sl", b"fp", b"ip", b"sp", b"lr", b"pc",
 ];
 
-#[tactic(auto, unfolding(crate::specs::Names::registers))]
+#[tactic(auto, unfolding(crate::specs::Names::register_names))]
 fn registers() -> &'static [&'static [u8]]
-    ensures { map (λ name. name.now) result.now ≡ registers }
+    ensures { map (λ name. name.now) result.now ≡ register_names }
 {
     &REGISTERS
 }
 
-/// Whether the two are equal, ignoring the case of letters.
-fn is_spelled(word: &[u8], name: &[u8]) -> bool
+/// Whether the word is the name, ignoring the case of letters.
+pub fn is_spelled(word: &[u8], name: &[u8]) -> bool
     ensures { result ≡ is_spelled word.now name.now }
 {
     word.eq_ignore_ascii_case(name)
 }
 
-/// Whether the word is one of the names, but for the case of letters.
+/// Whether the word is one of the names, ignoring the case of letters.
 fn is_among(word: &[u8], names: &[&[u8]]) -> bool
     ensures { result ≡ list_any (λ name. is_spelled word.now name.now) names.now }
 {

@@ -8,7 +8,7 @@ use Rattle.std.proofs.lemmas.Fmt.{decimal_digit, decimal_step}
 use Rattle.std.proofs.lemmas.List.{length-map}
 use Rattle.std.proofs.lemmas.List.Folds.{list_all-append}
 use Rattle.ascii_scan.specs.Lines.{content_of, is_ended, placed, placed_from, whole}
-use Rattle.ascii_scan.specs.Names.{registers}
+use Rattle.ascii_scan.specs.Names.{register_names}
 use Rattle.thumb_instr.specs.declared.instr.Instr.{Instr}
 use Rattle.thumb_instr.specs.declared.instr.Instr.TheVariants as instr
 use Rattle.thumb_instr.specs.declared.operation.Right.TheVariants as right
@@ -242,7 +242,7 @@ own_are (i ∷ is) e =
 -- ---- the label's line ----
 
 label_name : is_name (codes "demo") ≡ true
-unfolding registers
+unfolding register_names
 label_name = refl
 
 abbrev read_label : Read

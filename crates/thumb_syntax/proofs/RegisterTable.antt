@@ -5,9 +5,9 @@ use Rattle.std.specs.List.{filter}
 use Rattle.std.specs.Char.{to_ascii_lowercase}
 use Rattle.std.proofs.lemmas.Bool.{cases_Bool}
 use Rattle.std.proofs.lemmas.List.FromFn.{get_or-map-range_with_len}
-use Rattle.ascii_scan.specs.Names.{is_spelled}
+use Rattle.ascii_scan.specs.Names.{is_spelled, registers}
 use Rattle.thumb_syntax.specs.declared.registers.Register.{Register}
-use Rattle.thumb_syntax.specs.Operands.{register_named, register_in, registers}
+use Rattle.thumb_syntax.specs.Operands.{register_named, register_in}
 use Rattle.thumb_syntax.specs.RegisterView.{named}
 use Rattle.thumb_syntax.specs.RegisterPlaces.{named_at, registers_at, registers_by_place, second_place}
 use Rattle.thumb_syntax.proofs.Spelled.{lowered_alike, lowered_place}

@@ -4,7 +4,7 @@ use Rattle.std.specs.Prelude.{nat_lt, nat_le, codes, option_map, option_and_then
 use Rattle.std.proofs.Math.Nat.{mul-mod_left}
 use Rattle.std.proofs.lemmas.List.{append-nil}
 use Rattle.std.proofs.lemmas.Bool.{cases_Bool, and_parts, or_cases, ltb-true, leb-true, le-ltb, ne_eqb, not-true}
-use Rattle.ascii_scan.specs.Names.{registers}
+use Rattle.ascii_scan.specs.Names.{register_names}
 use Rattle.ascii_scan.specs.Tokens.{Token, mark, tokens, begins_inner, is_mark, is_blank, is_inner}
 use Rattle.ascii_scan.proofs.TokenLemmas.{tokens_mark, tokens_blank, tokens_nil}
 use Rattle.thumb_syntax.specs.declared.form.OperandPosition.{OperandPosition}
@@ -157,19 +157,19 @@ mark_from g m bs e = ap (λ (ts : List Token). taken (slot.Mark m) g (map operan
 
 -- the words that are options
 sy_name : is_name (codes "sy") ≡ true
-unfolding registers
+unfolding register_names
 sy_name = refl
 
 i_name : is_name (codes "i") ≡ true
-unfolding registers
+unfolding register_names
 i_name = refl
 
 primask_name : is_name (codes "primask") ≡ true
-unfolding registers
+unfolding register_names
 primask_name = refl
 
 ipsr_name : is_name (codes "ipsr") ≡ true
-unfolding registers
+unfolding register_names
 ipsr_name = refl
 
 sy_from : (g : Fields) (bs : List ℕ) → begins_inner bs ≡ false → from_text slot.Sy g (codes "sy" ++ bs) ≡ and_rest g bs

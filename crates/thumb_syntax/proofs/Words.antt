@@ -2,19 +2,17 @@
 use Rattle.std.proofs.Common.{◌≡◌, ◌∙◌, inl, inr, ℕ, zero, suc, ◌<◌, ◌≤◌, ◌^◌, ◌++◌, ◌&&◌, ◌||◌, ◌==◌, Bool, true, false, not, List, [], ◌∷◌, map, length, None, refl, sym, ap, subst, arith, true≢false, eqb-true}
 use Rattle.std.specs.Prelude.{if◌then◌else◌, nat_le, codes}
 use Rattle.std.specs.List.{list_all, list_any}
-use Rattle.std.specs.Str.{bytes_eq}
 use Rattle.std.specs.Char.{digit_value}
 use Rattle.std.specs.Str.Parse.{AllDigits}
 use Rattle.std.specs.Fmt.{decimal}
 use Rattle.std.proofs.lemmas.Bool.{cases_Bool, and_parts, or_parts, or_cases, not-true, leb-true}
 use Rattle.std.proofs.lemmas.Fmt.{decimal_digit, decimal_step, decimal_is_IsNumeral}
-use Rattle.std.proofs.lemmas.Slice.Eq.{bytes_eq-Decides}
 use Rattle.ascii_scan.specs.Names as names
-use Rattle.ascii_scan.specs.Names.{is_name_byte, is_opening, is_register, is_spelled}
+use Rattle.ascii_scan.specs.Names.{is_name_byte, is_opening, is_register, is_spelled, register_names, registers}
 use Rattle.ascii_scan.specs.Tokens.{word, tokens, is_inner, begins_inner, front, rest}
 use Rattle.ascii_scan.proofs.TokenLemmas.{tokens_written}
 use Rattle.ascii_scan.proofs.NumeralLemmas.{numeral_decimal}
-use Rattle.thumb_syntax.specs.Operands.{register_named, register_in, registers, Operand, register, base, number, name, sum, operand, or_stray, sum_of, is_plain, is_name}
+use Rattle.thumb_syntax.specs.Operands.{register_named, register_in, Operand, register, base, number, name, sum, operand, or_stray, sum_of, is_plain, is_name}
 use Rattle.thumb_syntax.specs.Spelling.{register_text, number_text, sum_text}
 
 -- a text is one word, which is read as this operand
@@ -187,29 +185,15 @@ name_of (b ∷ bs) e = elim (cases_Bool (is_opening b && not (is_register (front
   | inr no' ↦ absurd (let out : false ≡ true = rw no' at e in true≢false (sym out))
 ]
 
--- a word that is different from each of the names is spelled like none of them
-spelled_none : (w n : List ℕ) (ns : List (List ℕ)) → list_any (bytes_eq n) ns ≡ true → list_any (is_spelled w) ns ≡ false → is_spelled w n ≡ false
-spelled_none w n [] a b = absurd (true≢false (sym a))
-spelled_none w n (x ∷ xs) a b =
-    let parts = or_parts (is_spelled w x) (list_any (is_spelled w) xs) b in
-    elim (or_cases (bytes_eq n x) (list_any (bytes_eq n) xs) a) [
-      | inl same ↦ ap (is_spelled w) ((bytes_eq-Decides n x).0 same) ∙ parts.0
-      | inr later ↦ spelled_none w n xs later parts.1
-    ]
-
-named_none : (w : List ℕ) (rs : List (List ℕ × ℕ)) (ns : List (List ℕ)) → list_all (λ r. list_any (bytes_eq r.0) ns) rs ≡ true → list_any (is_spelled w) ns ≡ false → register_in rs w ≡ None
-named_none w [] ns a b = refl
-named_none w (r ∷ rs) ns a b =
-    let parts = and_parts (list_any (bytes_eq r.0) ns) (list_all (λ q. list_any (bytes_eq q.0) ns) rs) a in
-    rw (spelled_none w r.0 ns parts.0 b) (named_none w rs ns parts.1 b)
-
-all_named : list_all (λ r. list_any (bytes_eq r.0) names.registers) registers ≡ true
-unfolding names.registers
-all_named = refl
+named_none : (w : List ℕ) (rs : List (List ℕ × ℕ)) → list_any (is_spelled w) (map (λ r. r.0) rs) ≡ false → register_in rs w ≡ None
+named_none w [] none = refl
+named_none w (r ∷ rs) none =
+    let parts = or_parts (is_spelled w r.0) (list_any (is_spelled w) (map (λ q. q.0) rs)) none in
+    rw parts.0 (named_none w rs parts.1)
 
 no_register : (w : List ℕ) → is_register w ≡ false → register_named w ≡ None
-unfolding register_named
-no_register w free = named_none w registers names.registers all_named free
+unfolding register_named register_names
+no_register w free = named_none w registers free
 
 name_reads : (w : List ℕ) → is_name w ≡ true → operand (word w) ≡ name w
 unfolding operand

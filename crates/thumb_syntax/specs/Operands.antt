@@ -1,15 +1,8 @@
--- What the words and marks of an instruction's operands are, and the names of registers.
-use Rattle.std.specs.Prelude.{ℕ, List, [], ◌∷◌, Option, Some, None, codes, if◌then◌else◌, ◌==◌, ◌||◌, not, Bool, false, length}
-use Rattle.ascii_scan.specs.Names.{is_spelled, name_length}
+-- What the words and marks of an instruction's operands are, and which register a word names.
+use Rattle.std.specs.Prelude.{ℕ, List, [], ◌∷◌, Option, Some, None, if◌then◌else◌, ◌==◌, ◌||◌, not, Bool, false, length}
+use Rattle.ascii_scan.specs.Names.{is_spelled, name_length, registers}
 use Rattle.ascii_scan.specs.Tokens.{Token, word, mark, front, rest}
 use Rattle.ascii_scan.specs.Numeral.{numeral}
-
--- each name, in lower case, with the register's number
-abbrev pub registers : List (List ℕ × ℕ)
-registers =
-    (codes "r0", 0) ∷ (codes "r1", 1) ∷ (codes "r2", 2) ∷ (codes "r3", 3) ∷ (codes "r4", 4) ∷ (codes "r5", 5) ∷ (codes "r6", 6) ∷ (codes "r7", 7)
-    ∷ (codes "r8", 8) ∷ (codes "r9", 9) ∷ (codes "r10", 10) ∷ (codes "r11", 11) ∷ (codes "r12", 12) ∷ (codes "r13", 13) ∷ (codes "r14", 14)
-    ∷ (codes "sb", 9) ∷ (codes "sl", 10) ∷ (codes "fp", 11) ∷ (codes "ip", 12) ∷ (codes "sp", 13) ∷ (codes "lr", 14) ∷ (codes "pc", 15) ∷ []
 
 abbrev pub or_else : {B : Type 0} → Option B → Option B → Option B
 or_else None next = next

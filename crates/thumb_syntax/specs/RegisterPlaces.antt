@@ -3,7 +3,7 @@ use Rattle.std.specs.Prelude.{ℕ, ◌%◌, ◌==◌, List, [], ◌∷◌, map}
 use Rattle.std.specs.List.{filter, range_with_len}
 use Rattle.std.specs.Borrow.{Bor}
 use Rattle.thumb_syntax.specs.declared.registers.Register.{Register}
-use Rattle.thumb_syntax.specs.Operands.{registers}
+use Rattle.ascii_scan.specs.Names.{registers}
 use Rattle.thumb_syntax.specs.RegisterView.{named}
 
 -- the index of a word in the table of registers: its second byte modulo 32, the same in either case

@@ -10,7 +10,7 @@ use crate::form::{OperandPosition, Slot};
 use crate::left::Left;
 use crate::lists::listed;
 use crate::operands::Operand;
-use crate::registers::is_spelled;
+use ascii_scan::is_spelled;
 
 /// A label that an instruction names, and the number that is added to it.
 #[derive(Clone, Copy)]

@@ -11,9 +11,8 @@ ghost use Rattle.thumb_syntax.specs.Mnemonics.{row_of, group_of, place_of, rows_
 use crate::fields::{Fields, Label, filled};
 use crate::form::{Form, Mnemonic};
 use crate::left::{Left, read_ahead};
-use crate::registers::is_spelled;
 use crate::table::mnemonics;
-use ascii_scan::{Token, next_token};
+use ascii_scan::{Token, is_spelled, next_token};
 use thumb_instr::{Instr, Kind, made};
 
 /// An instruction that was read, and the label that it names. Where it names a label, the instruction's distance is 0.

@@ -1,9 +1,10 @@
 //! The names of registers, in either case, with the calling standard's second names. The second byte of a name selects the few that are searched.
 ghost use Rattle.std.specs.Prelude.{◌≡◌, ◌<◌, map, length};
-ghost use Rattle.ascii_scan.specs.Names.{is_spelled};
 ghost use Rattle.thumb_syntax.specs.Operands.{register_named, register_in};
 ghost use Rattle.thumb_syntax.specs.RegisterPlaces.{named_at, registers_by_place, second_place};
 ghost use Rattle.thumb_syntax.specs.RegisterView.{named};
+
+use ascii_scan::is_spelled;
 
 /// A name of a register, in lower case, and the register's number.
 pub struct Register {
@@ -84,13 +85,6 @@ fn place_of(word: &[u8]) -> usize
         [_, second, ..] => (*second % 32) as usize,
         _ => 0,
     }
-}
-
-/// Whether the word is the name, in either case.
-pub fn is_spelled(word: &[u8], name: &[u8]) -> bool
-    ensures { result ≡ is_spelled word.now name.now }
-{
-    word.eq_ignore_ascii_case(name)
 }
 
 /// The number of the first register with this name.
