@@ -8,5 +8,5 @@ mod words;
 
 pub use naming::{is_name_byte, is_spelled, name};
 pub use numerals::{hex_digit, number};
-pub use source::{Lines, SourceLine, lines_are_slices, lines_join_to_the_text};
+pub use source::{Lines, SourceLine, TEXT_LIMIT, lines_are_slices, lines_join_to_the_text};
 pub use words::{Token, next_token};

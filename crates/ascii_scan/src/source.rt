@@ -1,9 +1,12 @@
-//! An iterator over the lines of a text, each with its number and offset, which copies no byte.
+//! The longest text, and an iterator over the lines of a text, each with its number and offset, which copies no byte.
 ghost use Rattle.std.specs.Prelude.{◌≡◌, ◌+◌, ◌<◌, ◌≤◌, ◌^◌, ◌∷◌, [], length, IfSome, MatchOption};
 ghost use Rattle.std.specs.List.{prefix_len};
 ghost use Rattle.ascii_scan.specs.Lines.{content_of, is_ended, lines_of, LinesJoinToText, LinesAreSlices};
 ghost use Rattle.ascii_scan.specs.Tokens.{front, rest};
 ghost use Rattle.ascii_scan.specs.FirstLine.{is_inside, first_line, after_first};
+
+/// The most bytes of a text that is read, and of a table's text that is made.
+pub const TEXT_LIMIT: usize = 67_108_864;
 
 /// A line of a source.
 #[derive(Clone, Copy)]

@@ -2,9 +2,10 @@
 use Rattle.std.proofs.Common.{◌≡◌, ◌≤◌, ◌<◌, inl, inr, ℕ, Bool, true, false, List, [], ◌∷◌, Option, Some, None, length, refl, subst, arith}
 use Rattle.std.specs.Prelude.{All}
 use Rattle.std.specs.Str.{IsUtf8}
+use Rattle.ascii_scan.specs.Lines.{text_limit}
 use Rattle.command_line.specs.CommandLine.{Request, AskFor}
 use Rattle.command_line.proofs.Usage.{asks_once}
-use Rattle.outer_store.specs.Outside.{Seen, Sunk, Shows, IsTooBig, MissedAt, TooBigAt, limit}
+use Rattle.outer_store.specs.Outside.{Seen, Sunk, Shows, IsTooBig, MissedAt, TooBigAt}
 use Rattle.command_runs.specs.declared.status.Status.{Status}
 use Rattle.command_runs.specs.declared.status.Status.TheVariants as status
 use Rattle.command_runs.specs.Plans.{Refuses, StopsAt}
@@ -17,7 +18,7 @@ not_both a b l g = omega arith
 
 pub within_not_big : (o : Option (List ℕ)) → IsWithin o → IsTooBig o → ⊥
 within_not_big None w g = w
-within_not_big (Some t) w g = not_both (length t) limit w g
+within_not_big (Some t) w g = not_both (length t) text_limit w g
 
 -- a cause can't be both shown and excluded, be it by content or by counts
 pub clash : (tells : Bool) (told risen told_not risen_not : Type 0) → (told → told_not → ⊥) → (risen → risen_not → ⊥) → Shows tells told risen → Shows tells told_not risen_not → ⊥

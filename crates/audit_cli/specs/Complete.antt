@@ -1,8 +1,9 @@
 -- If nothing hinders a command, it is carried out, unless memory runs out.
 use Rattle.std.specs.Prelude.{◌≡◌, ◌≤◌, ◌⊎◌, ℕ, All, List, [], ◌∷◌, Option, Some, None, length}
 use Rattle.std.specs.Str.{IsUtf8}
+use Rattle.ascii_scan.specs.Lines.{text_limit}
 use Rattle.command_line.specs.CommandLine.{Request, AskFor}
-use Rattle.outer_store.specs.Outside.{Seen, Sunk, Rose, Shows, Wrote, limit}
+use Rattle.outer_store.specs.Outside.{Seen, Sunk, Rose, Shows, Wrote}
 use Rattle.command_runs.specs.declared.status.Status.{Status}
 use Rattle.command_runs.specs.declared.status.Status.TheVariants as status
 use Rattle.command_runs.specs.Plans.{Plan, Refuses}
@@ -16,7 +17,7 @@ use Rattle.audit_cli.specs.Peep.{plan_of, Peeps}
 -- there is a text, and it is within the limit
 abbrev pub IsWithin : Option (List ℕ) → Type 0
 IsWithin None = ⊥
-IsWithin (Some text) = length text ≤ limit
+IsWithin (Some text) = length text ≤ text_limit
 
 -- the name can be fetched: a store that shows its content holds such a text; of any other, the counts of missing names and of too long texts didn't rise
 abbrev pub CanBeFetched : Seen → Seen → List ℕ → Type 0

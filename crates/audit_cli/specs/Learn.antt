@@ -6,7 +6,8 @@ use Rattle.seq_enum.specs.Costs.{IsCostText, IsRefusedCosts}
 use Rattle.window_harvest.specs.Harvest.{Pair, Limits, AreHarvest}
 use Rattle.rule_table.specs.Table.{Table, IsTable}
 use Rattle.rule_table.specs.Text.{text_of}
-use Rattle.table_learn.specs.Learnt.{Settings, Window, Learnt, IsFull, text_length, text_limit}
+use Rattle.ascii_scan.specs.Lines.{text_limit}
+use Rattle.table_learn.specs.Learnt.{Settings, Window, Learnt, IsFull, text_length}
 use Rattle.table_audit.specs.Acceptance.{widest, width_of}
 use Rattle.command_runs.specs.Plans.{Outcome, Refuses, Does}
 use Rattle.audit_cli.specs.declared.refusal.Refusal.{Refusal}

@@ -2,7 +2,8 @@
 use Rattle.std.specs.Prelude.{◌≡◌, ◌<◌, ◌≤◌, ℕ, List, [], ◌∷◌, length, max}
 use Rattle.rule_table.specs.Table.{Table}
 use Rattle.rule_table.specs.Text.{text_of}
-use Rattle.table_learn.specs.Learnt.{text_length, text_limit}
+use Rattle.ascii_scan.specs.Lines.{text_limit}
+use Rattle.table_learn.specs.Learnt.{text_length}
 use Rattle.command_runs.specs.Plans.{Outcome, Refuses, Does}
 use Rattle.audit_cli.specs.declared.refusal.Refusal.{Refusal}
 use Rattle.audit_cli.specs.declared.refusal.Refusal.TheVariants as refusal

@@ -36,7 +36,7 @@ pub(crate) enum Refusal {
     Address { line: u64 },
     /// This line sets an address that lies inside the image.
     Inside { line: u64 },
-    /// The text of the table to be kept would have this many bytes, which are more than 67,108,864.
+    /// The text of the table to be kept would have this many bytes, which are more than `ascii_scan::TEXT_LIMIT`.
     Full { bytes: u64 },
     /// This line is the first such that no text of costs begins with the lines up to it.
     Costs { line: u64 },

@@ -8,11 +8,11 @@ use crate::audit::audited_report;
 use crate::printing::keeps_text;
 use crate::refusal::{Refusal, refused};
 use crate::steps::read_audited;
+use ascii_scan::TEXT_LIMIT;
 use command_runs::Outcome;
 use rule_table::{Table, write_table};
 use std::alloc::{AllocError, Global};
 use step_ledger::{Ledger, Steps};
-use table_learn::TEXT_LIMIT;
 
 /// The command `upgrade`, with the name that the table is kept under.
 #[derive(Drop)]
@@ -39,7 +39,7 @@ pub(crate) fn kept(
 {
     let text = write_table(alloc, table)?;
     let bytes = text.len() as u64;
-    if bytes > TEXT_LIMIT {
+    if bytes > TEXT_LIMIT as u64 {
         return refused(alloc, Refusal::Full { bytes });
     }
     keeps_text(alloc, out, text, lines)

@@ -10,7 +10,8 @@ use Rattle.lrat_check.specs.Text.{Content}
 use Rattle.table_audit.specs.Acceptance.{IsAccepted}
 use Rattle.table_audit.specs.Shorter.{SidesFit}
 use Rattle.table_audit.specs.Soundness.{items_in}
-use Rattle.table_learn.specs.Learnt.{Settings, text_length, text_limit}
+use Rattle.ascii_scan.specs.Lines.{text_limit}
+use Rattle.table_learn.specs.Learnt.{Settings, text_length}
 use Rattle.table_audit.specs.Acceptance.{widest, width_of}
 use Rattle.seq_enum.specs.Costs.{IsCostText}
 use Rattle.thumb_assembler.specs.Bytes.{first_flaw}

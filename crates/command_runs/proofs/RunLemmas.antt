@@ -5,10 +5,11 @@ use Rattle.std.specs.Prelude.{if◌then◌else◌, All}
 use Rattle.std.specs.Str.{bytes_eq}
 use Rattle.std.proofs.lemmas.Bool.{cases_Bool}
 use Rattle.std.proofs.lemmas.Slice.Eq.{bytes_eq-Decides}
+use Rattle.ascii_scan.specs.Lines.{text_limit}
 use Rattle.command_runs.specs.declared.status.Status.{Status}
 use Rattle.command_runs.specs.declared.status.Status.TheVariants as status
 use Rattle.outer_store.specs.declared.StoreError.TheVariants as store
-use Rattle.outer_store.specs.Outside.{Event, Keeping, Sunk, Seen, Held, SameHeld, SameCounts, Rose, MissedAt, TooBigAt, IsTooBig, limit}
+use Rattle.outer_store.specs.Outside.{Event, Keeping, Sunk, Seen, Held, SameHeld, SameCounts, Rose, MissedAt, TooBigAt, IsTooBig}
 use Rattle.outer_store.specs.Answers.{Grows}
 use Rattle.command_runs.specs.Plans.{Keep, Outcome, Refuses, Does, Plan, keeps_of, AreTexts, StopsAt, ReadsSome, with_text, kept, Kept, FailsAfter, ShortAfter, fetchings, keepings}
 use Rattle.command_runs.specs.Runs.{ComesTo, Runs, at_fetch, at_keep, at_put}
@@ -185,7 +186,7 @@ kept_elsewhere (k ∷ ks) held n a = kept_elsewhere ks (with_text held k) n (λ 
 -- each name is held, with a text within the limit
 pub AreHeld : Seen → List (List ℕ) → Type 0
 AreHeld old [] = Unit {0}
-AreHeld old (n ∷ ns) = ((t : List ℕ) × (old.held n ≡ Some t) × (length t ≤ limit)) × AreHeld old ns
+AreHeld old (n ∷ ns) = ((t : List ℕ) × (old.held n ≡ Some t) × (length t ≤ text_limit)) × AreHeld old ns
 
 -- the statuses that are possible without a fault and without a name that can't be fetched
 pub IsFaultless : Status → Type 0

@@ -1,9 +1,10 @@
 -- What a command is to do (its plan), and how far a run got with it, call by call: the fetches, then the keeps.
 use Rattle.std.specs.Prelude.{◌≡◌, ◌≢◌, ◌≤◌, ◌⊎◌, ℕ, List, [], ◌∷◌, ◌++◌, take, length, Some, Ok, Err, slice_get, if◌then◌else◌}
 use Rattle.std.specs.Str.{bytes_eq}
+use Rattle.ascii_scan.specs.Lines.{text_limit}
 use Rattle.outer_store.specs.declared.StoreError.{StoreError}
 use Rattle.outer_store.specs.declared.StoreError.TheVariants as store
-use Rattle.outer_store.specs.Outside.{limit, Event, Fetching, Keeping, WhereTold, Held, Seen, Gave}
+use Rattle.outer_store.specs.Outside.{Event, Fetching, Keeping, WhereTold, Held, Seen, Gave}
 
 -- a name, and the bytes to be kept under it
 abbrev pub Keep : Type 0
@@ -39,7 +40,7 @@ fetchings (n ∷ ns) (t ∷ ts) = Fetching n (Ok t) ∷ fetchings ns ts
 
 -- the text that the run used for a name: it is within the limit, and the one held there, if the store shows its content
 abbrev pub IsText : Seen → List ℕ → List ℕ → Type 0
-IsText old name text = (length text ≤ limit) × Gave old name text
+IsText old name text = (length text ≤ text_limit) × Gave old name text
 
 -- the texts that the run used, one for each name
 abbrev pub AreTexts : Seen → List (List ℕ) → List (List ℕ) → Type 0

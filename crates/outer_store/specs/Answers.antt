@@ -4,7 +4,8 @@ use Rattle.outer_store.specs.declared.StoreError.{StoreError}
 use Rattle.outer_store.specs.declared.StoreError.TheVariants as store
 use Rattle.outer_store.specs.declared.SinkError.{SinkError}
 use Rattle.outer_store.specs.declared.SinkError.TheVariants as sink
-use Rattle.outer_store.specs.Outside.{limit, Rose, WhereTold, Held, SameHeld, Seen, SameCounts, MissedAt, TooBigAt, Gave, Sunk, Wrote, WrotePart, WroteNone}
+use Rattle.ascii_scan.specs.Lines.{text_limit}
+use Rattle.outer_store.specs.Outside.{Rose, WhereTold, Held, SameHeld, Seen, SameCounts, MissedAt, TooBigAt, Gave, Sunk, Wrote, WrotePart, WroteNone}
 
 -- ---- stores ----
 
@@ -23,7 +24,7 @@ pub record Grows (old new : Seen) : Type 0 where
 
 -- what each answer of a fetch says
 abbrev pub Fetches : Seen → Seen → List ℕ → Result (List ℕ) StoreError → Type 0
-Fetches old new name (Ok bytes) = SameCounts old new × (length bytes ≤ limit) × Gave old name bytes
+Fetches old new name (Ok bytes) = SameCounts old new × (length bytes ≤ text_limit) × Gave old name bytes
 Fetches old new name (Err store.Failed) = Rose old.faults new.faults
 Fetches old new name (Err store.Missing) = (new.faults ≡ old.faults) × MissedAt old new name
 Fetches old new name (Err store.TooBig) = (new.faults ≡ old.faults) × TooBigAt old new name

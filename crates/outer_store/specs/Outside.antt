@@ -1,5 +1,6 @@
 -- What contracts know of a store and a sink: their content, if they show it (`tells`), their counts of failures, and the calls that were made so far.
 use Rattle.std.specs.Prelude.{◌≡◌, ◌≤◌, ◌<◌, ◌+◌, ◌-◌, ◌^◌, ℕ, Bool, true, false, List, ◌++◌, take, Option, Some, None, Result, min, length}
+use Rattle.ascii_scan.specs.Lines.{text_limit}
 use Rattle.outer_store.specs.declared.StoreError.{StoreError}
 use Rattle.outer_store.specs.declared.SinkError.{SinkError}
 
@@ -12,10 +13,6 @@ pub data Event : Type 0 where
   Putting : (bytes : List ℕ) (answer : Result (Unit {0}) SinkError) → Event
 
 -- ---- counts ----
-
--- the most bytes of a text that can be fetched
-abbrev pub limit : ℕ
-limit = 67108864
 
 -- a count increased by one, saturating at the greatest u64
 abbrev pub counted : ℕ → ℕ
@@ -64,7 +61,7 @@ Shows false told risen = risen
 -- there is a text, and it is over the limit
 abbrev pub IsTooBig : Option (List ℕ) → Type 0
 IsTooBig None = ⊥
-IsTooBig (Some bytes) = limit < length bytes
+IsTooBig (Some bytes) = text_limit < length bytes
 
 -- a name was not found
 abbrev pub MissedAt : Seen → Seen → List ℕ → Type 0

@@ -25,9 +25,6 @@ pub use real_store::RealStore;
 use std::alloc::Global;
 use thiserror::Error;
 
-/// The most bytes of a text that can be fetched.
-pub const TEXT_LIMIT: usize = 67_108_864;
-
 /// Why a store did not do what was asked.
 #[derive(Clone, Copy, Debug, PartialEq, Eq, Error)]
 pub enum StoreError {
@@ -37,7 +34,7 @@ pub enum StoreError {
     /// Only of a fetch: there is no text under the name.
     #[error("no such name")]
     Missing,
-    /// Only of a fetch: the text under the name is longer than `TEXT_LIMIT`.
+    /// Only of a fetch: the text under the name is longer than `ascii_scan::TEXT_LIMIT`.
     #[error("the text is too big")]
     TooBig,
     /// Memory ran out.
@@ -60,7 +57,7 @@ pub enum SinkError {
 pub trait Store {
     ghost seen: { Self → Seen };
 
-    /// The text under a name, of at most `TEXT_LIMIT` bytes.
+    /// The text under a name, of at most `ascii_scan::TEXT_LIMIT` bytes.
     fn fetch(&mut self, alloc: Global, name: &str) -> Result<Vec<u8>, StoreError>
         ensures fetches { Fetches (seen self.old) (seen self.new) name.now (result_map_both (λ v. v.items) (λ e. e) result) }
         ensures held { SameHeld (seen self.old).held (seen self.new).held }

@@ -11,7 +11,8 @@ ghost use Rattle.outer_store.specs.Scripts.{Texts, IsCalled, FailsNext, RaisesTe
 
 use crate::calls::Calls;
 use crate::history::History;
-use crate::{Store, StoreError, TEXT_LIMIT};
+use crate::{Store, StoreError};
+use ascii_scan::TEXT_LIMIT;
 use std::alloc::{AllocError, Global};
 use std::marker::Model;
 

@@ -2,9 +2,10 @@
 ghost use Rattle.std.specs.Prelude.{◌≡◌, ◌≢◌, ◌<◌, ◌≤◌, ℕ, IfOk, IfSome, IsErrOf, Err, length, take};
 ghost use Rattle.std.specs.Bool.{OnTrue};
 ghost use Rattle.std.specs.Io.KnownBytes.{Appends};
-ghost use Rattle.outer_store.specs.Outside.{limit};
+ghost use Rattle.ascii_scan.specs.Lines.{text_limit};
 
-use crate::{StoreError, TEXT_LIMIT};
+use crate::StoreError;
+use ascii_scan::TEXT_LIMIT;
 use std::alloc::Global;
 use std::io::{Read, Write};
 
@@ -13,9 +14,9 @@ const CHUNK: usize = 4096;
 
 /// All bytes up to the end, of which at most `TEXT_LIMIT` + 1 are read. Errors are `Failed`, `TooBig` and `Memory`.
 pub(crate) fn read_all<R: Read>(alloc: Global, reader: &mut R) -> Result<Vec<u8>, StoreError>
-    ensures small { IfOk result (λ v. length v.items ≤ limit) }
+    ensures small { IfOk result (λ v. length v.items ≤ text_limit) }
     ensures bytes { IfOk result (λ v. IfSome (R.remaining reader.old) (λ xs. v.items ≡ xs)) }
-    ensures too_big { IsErrOf result StoreError.TooBig → IfSome (R.remaining reader.old) (λ xs. limit < length xs) }
+    ensures too_big { IsErrOf result StoreError.TooBig → IfSome (R.remaining reader.old) (λ xs. text_limit < length xs) }
     ensures found { result ≢ Err StoreError.Missing }
 {
     let mut bytes = Vec::new(alloc);

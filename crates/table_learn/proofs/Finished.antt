@@ -11,7 +11,8 @@ use Rattle.rule_table.specs.Views.{rule_of}
 use Rattle.table_audit.specs.Acceptance.{width_of}
 use Rattle.table_learn.specs.declared.window.Window as code
 use Rattle.table_learn.specs.declared.learning.Learner.{Learner}
-use Rattle.table_learn.specs.Learnt.{Settings, Window, Learnt, IsFull, learnt_from, text_length, text_limit}
+use Rattle.ascii_scan.specs.Lines.{text_limit}
+use Rattle.table_learn.specs.Learnt.{Settings, Window, Learnt, IsFull, learnt_from, text_length}
 use Rattle.table_learn.specs.Given.{window_of, IsWindow, AreWindows}
 use Rattle.table_learn.specs.Found.{window_in}
 use Rattle.table_learn.specs.Failing.{learn_cost}

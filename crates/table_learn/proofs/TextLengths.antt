@@ -7,6 +7,7 @@ use Rattle.std.proofs.lemmas.Fmt.{length-decimal-le}
 use Rattle.std.proofs.lemmas.List.Concat.{flat_map-append}
 use Rattle.std.proofs.lemmas.List.Elements.{All-nil, All-cons, All-head, All-tail, All-weaker}
 use Rattle.std.proofs.lemmas.List.Sums.{sum_by-cons}
+use Rattle.ascii_scan.specs.Lines.{text_limit}
 use Rattle.thumb_instr.specs.declared.instr.Instr.{Instr}
 use Rattle.thumb_instr.specs.Items.{has}
 use Rattle.std.proofs.lemmas.List.{map_push, take_more}
@@ -265,7 +266,7 @@ pub short_header : (s : Settings) → IsHeader s → lines_length (header_items 
 short_header s is = (let few = heads_short s is heads in omega (arith, few))
 
 -- before the first window
-pub text_begins : (s : Settings) (states : List Seen) → IsHeader s → All IsState states → length states ≡ 64 → text_length (table_with s states []) ≤ 67108864
+pub text_begins : (s : Settings) (states : List Seen) → IsHeader s → All IsState states → length states ≡ 64 → text_length (table_with s states []) ≤ text_limit
 text_begins s states is valid many =
     let a = whole_lines s states [] valid in
     let b = short_header s is in

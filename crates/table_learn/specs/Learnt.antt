@@ -1,5 +1,6 @@
 -- What a learnt table is: the learner's main theorem.
 use Rattle.std.specs.Prelude.{ℕ, List, ◌≡◌, ◌<◌, ◌≤◌, ◌⊎◌, Some, All, Vec, length, map, slice_get, take}
+use Rattle.ascii_scan.specs.Lines.{text_limit}
 use Rattle.thumb_instr.specs.declared.instr.Instr.{Instr}
 use Rattle.rule_table.specs.Header.{Header}
 use Rattle.std.specs.Global.{Global}
@@ -92,10 +93,6 @@ pub record Learnt (s : Settings) (windows : List Window) (t : Table) : Type 0 wh
   pub logs : All (λ e. All (IsOpenBySolver t.header e) e.opens) t.rules
 
 -- ---- refusals ----
-
--- the most bytes of a table's text
-abbrev pub text_limit : ℕ
-text_limit = 67108864
 
 abbrev pub text_length : Table → ℕ
 text_length t = length (text_of t)

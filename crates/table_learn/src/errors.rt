@@ -12,7 +12,7 @@ pub enum LearnError {
     /// A window of the most instructions and registers may have to be distinguished from this many sequences, which are more than 5,000,000.
     #[error("{0} sequences are too many")]
     Wide(u64),
-    /// The text of this table, of the windows so far, has this many bytes, which are more than 67,108,864.
+    /// The text of this table, of the windows so far, has this many bytes, which are more than `ascii_scan::TEXT_LIMIT`.
     #[error("the table's text has {bytes} bytes")]
     Full { table: Table, bytes: u64 },
     /// Memory ran out.

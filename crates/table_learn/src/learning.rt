@@ -1,11 +1,12 @@
 //! The learner's one call: it learns an entry for each window in turn, and keeps the states that the solver finds, until the table's text is too long.
 ghost use Rattle.std.specs.Prelude.{◌≡◌, ◌<◌, ◌≤◌, ◌+◌, ◌-◌, ◌∷◌, ◌++◌, [], List, IfErr, IfOk, drop, length, map};
+ghost use Rattle.ascii_scan.specs.Lines.{text_limit};
 ghost use Rattle.rule_table.specs.Table.{IsTable};
 ghost use Rattle.window_exec.specs.State.{seen};
 ghost use Rattle.rule_table.specs.Views.{rule_of, table_of};
 ghost use Rattle.table_audit.specs.Shorter.{alphabet_registers};
 ghost use Rattle.table_audit.specs.Acceptance.{widest, width_of};
-ghost use Rattle.table_learn.specs.Learnt.{Window as Model, Learnt, text_limit, text_length};
+ghost use Rattle.table_learn.specs.Learnt.{Window as Model, Learnt, text_length};
 ghost use Rattle.table_learn.specs.Given.{settings_of, window_of, AreInLimits, AreWindows, IsWindow};
 ghost use Rattle.table_learn.specs.Found.{window_in};
 ghost use Rattle.table_learn.specs.Failing.{FailsAs, SpendsAs, learn_cost};
@@ -18,6 +19,7 @@ use crate::lengths::{entry_length, plus, times};
 use crate::searching::search;
 use crate::settings::Settings;
 use crate::window::Window;
+use ascii_scan::TEXT_LIMIT;
 use fingerprints::{Tables, seeded};
 use rule_table::{Entry, Table, write_table};
 use std::alloc::{AllocError, Global};
@@ -25,9 +27,6 @@ use step_ledger::{Ledger, Steps};
 use table_audit::{WIDEST, width, with_scratch};
 use thumb_instr::{Mask, Seq};
 use window_exec::{States, WState};
-
-/// The greatest number of bytes of a table's text.
-pub const TEXT_LIMIT: u64 = 67_108_864;
 
 /// How many bytes the line of a state has, with its newline.
 const STATE_LINE: u64 = 44;
@@ -134,7 +133,7 @@ fn learn_window<L: Ledger>(
 /// state listed later distinguishes them.
 ///
 /// `Wide` is returned if more than 5,000,000 sequences are shorter than the longest windows, or with costs no longer than these; `Full` at the first
-/// window after which the table's text has more than 67,108,864 bytes. A step is an instruction that is run on a listed state, a sequence whose
+/// window after which the table's text has more than `ascii_scan::TEXT_LIMIT` bytes. A step is an instruction that is run on a listed state, a sequence whose
 /// outcome is worked out, or a decision or a conflict of the solver.
 pub fn learn<L: Ledger>(
     alloc: Global,
@@ -160,7 +159,7 @@ pub fn learn<L: Ledger>(
     for (left, mask) in &windows {
         let window = Window::new(left, *mask, &settings);
         learner = learn_window(alloc, &settings, learner, window, steps)?;
-        if learner.bytes > TEXT_LIMIT {
+        if learner.bytes > TEXT_LIMIT as u64 {
             let bytes = learner.bytes;
             let table = table_of(alloc, settings, learner.states, learner.entries);
             return Err(LearnError::Full { table, bytes });

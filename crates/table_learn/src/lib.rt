@@ -14,5 +14,5 @@ mod trying;
 mod window;
 
 pub use errors::LearnError;
-pub use learning::{TEXT_LIMIT, learn};
+pub use learning::learn;
 pub use settings::Settings;

@@ -1,6 +1,6 @@
 use Rattle.std.proofs.Common.{◌≤◌, ◌+◌, ◌*◌, ◌-◌, length, map, take}
 use Rattle.table_learn.specs.Given.{settings_of, window_of}
-use Rattle.table_learn.specs.Learnt.{text_limit}
+use Rattle.ascii_scan.specs.Lines.{text_limit}
 use Rattle.table_learn.specs.Progress.{HasLearnt, search_cost, drop_cost}
 use Rattle.table_learn.proofs.learning.learn.Given as goal
 
