@@ -1,5 +1,6 @@
 -- Lines of a text: taking the first line off, that they are slices of the text, and that joined they are the text.
-use Rattle.std.proofs.Common.{◌≡◌, ◌∙◌, ◌⊎◌, inl, inr, ℕ, suc, ◌+◌, ◌-◌, ◌<◌, ◌≤◌, ◌==◌, Bool, true, false, List, [], ◌∷◌, ◌++◌, length, take, drop, cond, refl, sym, ap, arith, subst, append_assoc, length-append, map, eqb-true}
+use Rattle.std.proofs.Common.{◌≡◌, ◌∙◌, inl, inr, ℕ, suc, ◌+◌, ◌-◌, ◌<◌, ◌≤◌, ◌==◌, true, false, List, [], ◌∷◌, ◌++◌, length, take, drop, cond, refl, sym, ap, arith, subst, append_assoc, length-append, map, eqb-true}
+use Rattle.std.proofs.lemmas.Bool.{cases_Bool}
 use Rattle.std.proofs.lemmas.List.{drop_at}
 use Rattle.std.proofs.lemmas.List.Elements.{All-nil, All-cons}
 use Rattle.std.specs.List.{concat, flat_map, All}
@@ -19,16 +20,12 @@ pub lines_other : (b : ℕ) (bs : List ℕ) → (b == 10) ≡ false → lines_of
 unfolding lines_of
 lines_other b bs e = rw e refl
 
-pub either : (b : Bool) → (b ≡ true) ⊎ (b ≡ false)
-either true = inl refl
-either false = inr refl
-
 pub lines_front : (b : ℕ) (bs : List ℕ) → lines_of (b ∷ bs) ≡ first_line (b ∷ bs) ∷ lines_of (after_first (b ∷ bs))
-lines_front b [] = elim (either (b == 10)) [
+lines_front b [] = elim (cases_Bool (b == 10)) [
   | inl e ↦ lines_newline b [] e ∙ rw e refl
   | inr e ↦ lines_other b [] e ∙ rw (e, lines_nil) refl
 ]
-lines_front b (c ∷ cs) = elim (either (b == 10)) [
+lines_front b (c ∷ cs) = elim (cases_Bool (b == 10)) [
   | inl e ↦ lines_newline b (c ∷ cs) e ∙ rw e refl
   | inr e ↦ lines_other b (c ∷ cs) e ∙ rw e (ap (onto_first b) (lines_front c cs))
 ]
@@ -44,7 +41,7 @@ lines_at (b ∷ bs) h = lines_front b bs
 
 pub content_first : (bs : List ℕ) → content_of (first_line bs) ≡ front is_inside bs
 content_first [] = refl
-content_first (b ∷ bs) = elim (either (b == 10)) [
+content_first (b ∷ bs) = elim (cases_Bool (b == 10)) [
   | inl e ↦ rw e (rw e refl)
   | inr e ↦ rw e (rw e (ap (λ w. b ∷ w) (content_first bs)))
 ]
@@ -52,28 +49,28 @@ content_first (b ∷ bs) = elim (either (b == 10)) [
 -- in a text without a newline the first line isn't ended, and nothing follows it
 pub open_line : (bs : List ℕ) → rest is_inside bs ≡ [] → (is_ended (first_line bs) ≡ false) × (after_first bs ≡ [])
 open_line [] e = (refl, refl)
-open_line (b ∷ bs) e = elim (either (b == 10)) [
+open_line (b ∷ bs) e = elim (cases_Bool (b == 10)) [
   | inl is ↦ absurd (let bad : b ∷ bs ≡ [] = rw is at e in cc)
   | inr is ↦ let next = open_line bs (rw is at e) in (rw is (rw is next.0), rw is next.1)
 ]
 
 pub ended_line : (bs : List ℕ) (b : ℕ) (after : List ℕ) → rest is_inside bs ≡ b ∷ after → (is_ended (first_line bs) ≡ true) × (after_first bs ≡ after)
 ended_line [] b after e = absurd (let bad : [] ≡ b ∷ after = e in cc)
-ended_line (x ∷ xs) b after e = elim (either (x == 10)) [
+ended_line (x ∷ xs) b after e = elim (cases_Bool (x == 10)) [
   | inl is ↦ (rw is (rw is refl), rw is (let same : x ∷ xs ≡ b ∷ after = rw is at e in let tail : xs ≡ after = cc in tail))
   | inr is ↦ let next = ended_line xs b after (rw is at e) in (rw is (rw is next.0), rw is next.1)
 ]
 
 pub length_first : (bs : List ℕ) → length (first_line bs) + length (after_first bs) ≡ length bs
 length_first [] = refl
-length_first (b ∷ bs) = elim (either (b == 10)) [
+length_first (b ∷ bs) = elim (cases_Bool (b == 10)) [
   | inl e ↦ rw e (omega arith)
   | inr e ↦ rw e (omega (arith, length_first bs))
 ]
 
 pub first_some : (bs : List ℕ) → 0 < length bs → 0 < length (first_line bs)
 first_some [] h = absurd (omega arith)
-first_some (b ∷ bs) h = elim (either (b == 10)) [ inl e ↦ rw e (omega arith) | inr e ↦ rw e (omega arith) ]
+first_some (b ∷ bs) h = elim (cases_Bool (b == 10)) [ inl e ↦ rw e (omega arith) | inr e ↦ rw e (omega arith) ]
 
 -- ---- all lines ----
 
@@ -83,7 +80,7 @@ concat_onto b (l ∷ ls) = refl
 
 pub lines_join : (bytes : List ℕ) → concat (lines_of bytes) ≡ bytes
 lines_join [] = ap concat lines_nil
-lines_join (b ∷ bs) = elim (either (b == 10)) [
+lines_join (b ∷ bs) = elim (cases_Bool (b == 10)) [
   | inl e ↦ ap concat (lines_newline b bs e) ∙ ap (λ w. b ∷ w) (lines_join bs)
   | inr e ↦ ap concat (lines_other b bs e) ∙ concat_onto b (lines_of bs) ∙ ap (λ w. b ∷ w) (lines_join bs)
 ]
@@ -91,7 +88,7 @@ lines_join (b ∷ bs) = elim (either (b == 10)) [
 -- a line's content is its prefix
 content_front : (line after : List ℕ) → take (length (content_of line)) (line ++ after) ≡ content_of line
 content_front [] after = refl
-content_front (b ∷ bs) after = elim (either (b == 10)) [
+content_front (b ∷ bs) after = elim (cases_Bool (b == 10)) [
   | inl e ↦ rw e refl
   | inr e ↦ rw e (ap (λ w. b ∷ w) (content_front bs after))
 ]
@@ -124,7 +121,7 @@ lines_slices bytes =
 -- a line's content is no longer than the line
 pub content_short : (line : List ℕ) → length (content_of line) ≤ length line
 content_short [] = omega arith
-content_short (b ∷ bs) = elim (either (b == 10)) [
+content_short (b ∷ bs) = elim (cases_Bool (b == 10)) [
   | inl e ↦ rw e (omega arith)
   | inr e ↦ rw e (omega (arith, content_short bs))
 ]
@@ -154,7 +151,7 @@ wholes_first b (l ∷ ls) e all n start =
 pub map-whole : (bytes : List ℕ) (n start : ℕ) → map whole (placed_from n start (lines_of bytes)) ≡ lines_of bytes
 unfolding AreWhole
 map-whole [] n start = ap (λ ls. map whole (placed_from n start ls)) lines_nil ∙ sym lines_nil
-map-whole (b ∷ bs) n start = elim (either (b == 10)) [
+map-whole (b ∷ bs) n start = elim (cases_Bool (b == 10)) [
   | inl e ↦ ap (λ ls. map whole (placed_from n start ls)) (lines_newline b bs e)
       ∙ (let newline : b ≡ 10 = eqb-true b 10 e in rw (e, map-whole bs (n + 1) (start + 1)) (ap (λ x. (x ∷ []) ∷ lines_of bs) (sym newline)))
       ∙ sym (lines_newline b bs e)
@@ -180,7 +177,7 @@ length-onto_first b (l ∷ ls) = omega arith
 
 length-lines_of : (bytes : List ℕ) → length (lines_of bytes) ≤ length bytes
 length-lines_of [] = omega (arith, ap length lines_nil)
-length-lines_of (b ∷ bs) = elim (either (b == 10)) [
+length-lines_of (b ∷ bs) = elim (cases_Bool (b == 10)) [
   | inl e ↦ omega (arith, ap length (lines_newline b bs e), length-lines_of bs)
   | inr e ↦ omega (arith, ap length (lines_other b bs e), length-onto_first b (lines_of bs), length-lines_of bs)
 ]

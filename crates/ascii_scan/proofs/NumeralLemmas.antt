@@ -1,5 +1,5 @@
 -- Parsing a text of digits in a base of at most 16 with the standard library gives the specification's value, and a number's own text is read back.
-use Rattle.std.proofs.Common.{◌≡◌, ◌∙◌, ℕ, zero, suc, ◌^◌, ◌<◌, ◌≤◌, ◌&&◌, Bool, true, false, List, [], ◌∷◌, length, get_or, Some, None, Result, Ok, Err, refl, sym, ap, arith, rules, cond, true≢false, lt-ltb, le-ltb, ne_eqb}
+use Rattle.std.proofs.Common.{◌≡◌, ◌∙◌, ℕ, zero, suc, ◌^◌, ◌<◌, ◌≤◌, ◌&&◌, Bool, true, false, List, [], ◌∷◌, length, get_or, Some, None, Result, Ok, Err, refl, sym, ap, arith, rules, cond, lt-ltb, le-ltb, ne_eqb}
 use Rattle.std.specs.Prelude.{nat_lt}
 use Rattle.std.specs.List.{list_all}
 use Rattle.std.specs.Result.{result_ok}
@@ -8,28 +8,25 @@ use Rattle.std.specs.Str.{IsAscii}
 use Rattle.std.specs.Str.Parse.{digits_value, without_leading_plus, AllDigits, ParsesUnsigned}
 use Rattle.std.specs.Prelude.{nat_eq}
 use Rattle.std.specs.Fmt.{decimal}
+use Rattle.std.proofs.lemmas.Bool.{and_parts}
 use Rattle.std.proofs.lemmas.Fmt.{decimal_digit, decimal_is_IsNumeral, first_decimal}
 use Rattle.ascii_scan.specs.Numeral.{in_base, numeral}
 
 digit_small : (r d : ℕ) → r ≤ 16 → is_digit d r ≡ true → (d < 128) × (48 ≤ d)
 digit_small r d high is = grind arith
 
-pub both : (a b : Bool) → (a && b) ≡ true → (a ≡ true) × (b ≡ true)
-both true b e = (refl, e)
-both false b e = absurd (true≢false (sym e))
-
 pub digits_ascii : (r : ℕ) (ds : List ℕ) → r ≤ 16 → list_all (λ d. is_digit d r) ds ≡ true → IsAscii ds
 digits_ascii r [] high all i = omega arith
-digits_ascii r (d ∷ ds) high all zero = (digit_small r d high (both _ _ all).0).0
-digits_ascii r (d ∷ ds) high all (suc i) = digits_ascii r ds high (both (is_digit d r) _ all).1 i
+digits_ascii r (d ∷ ds) high all zero = (digit_small r d high (and_parts _ _ all).0).0
+digits_ascii r (d ∷ ds) high all (suc i) = digits_ascii r ds high (and_parts (is_digit d r) _ all).1 i
 
 no_plus : (r : ℕ) (ds : List ℕ) → r ≤ 16 → list_all (λ d. is_digit d r) ds ≡ true → without_leading_plus ds ≡ ds
 no_plus r [] high all = refl
-no_plus r (d ∷ ds) high all = let ge : 48 ≤ d = (digit_small r d high (both _ _ all).0).1 in grind arith
+no_plus r (d ∷ ds) high all = let ge : 48 ≤ d = (digit_small r d high (and_parts _ _ all).0).1 in grind arith
 
 digits_are : (r : ℕ) (ds : List ℕ) → list_all (λ d. is_digit d r) ds ≡ true → AllDigits r ds
 digits_are r [] all = tt
-digits_are r (d ∷ ds) all = (search rules, digits_are r ds (both (is_digit d r) _ all).1)
+digits_are r (d ∷ ds) all = (search rules, digits_are r ds (and_parts (is_digit d r) _ all).1)
 
 -- digits are a numeral exactly where there is at least one and their value is below 2 ^ 32
 is_small : (r : ℕ) (ds : List ℕ) → list_all (λ d. is_digit d r) ds ≡ true → 0 < length ds → digits_value r ds < 2 ^ 32 → in_base r ds ≡ Some (digits_value r ds)

@@ -2,7 +2,7 @@
 use Rattle.std.proofs.Common.{◌≡◌, ◌∙◌, inl, inr, ℕ, suc, ◌+◌, ◌&&◌, Bool, true, false, not, List, [], ◌∷◌, ◌++◌, drop, take, refl, sym, ap, arith, cond, true≢false}
 use Rattle.std.specs.List.{prefix_len, list_all}
 use Rattle.ascii_scan.specs.Tokens.{word, mark, is_blank, is_mark, is_inner, begins_blank, begins_inner, tokens, grown, front, rest}
-use Rattle.ascii_scan.proofs.LineLemmas.{either}
+use Rattle.std.proofs.lemmas.Bool.{cases_Bool}
 
 pub tokens_nil : tokens [] ≡ []
 unfolding tokens
@@ -56,21 +56,21 @@ rest_is p (b ∷ bs) = elim (p b) as (λ v. drop (cond v (1 + prefix_len p bs) 0
 -- a text that begins with a byte of a word begins with the word up to the first blank or mark
 pub tokens_word : (b : ℕ) (bs : List ℕ) → is_blank b ≡ false → is_mark b ≡ false → tokens (b ∷ bs) ≡ word (b ∷ front is_inner bs) ∷ tokens (rest is_inner bs)
 tokens_word b [] blank marked = tokens_last b [] blank marked refl
-tokens_word b (x ∷ xs) blank marked = elim (either (is_inner x)) [
+tokens_word b (x ∷ xs) blank marked = elim (cases_Bool (is_inner x)) [
   | inl more ↦ tokens_more b (x ∷ xs) blank marked more ∙ rw (tokens_word x xs (no_blank x more) (no_mark x more), more) refl
   | inr last ↦ tokens_last b (x ∷ xs) blank marked last ∙ rw last refl
 ]
 
 pub tokens_after_blanks : (bs : List ℕ) → tokens (rest is_blank bs) ≡ tokens bs
 tokens_after_blanks [] = refl
-tokens_after_blanks (b ∷ bs) = elim (either (is_blank b)) [
+tokens_after_blanks (b ∷ bs) = elim (cases_Bool (is_blank b)) [
   | inl blank ↦ rw (blank, tokens_blank b bs blank) (tokens_after_blanks bs)
   | inr none ↦ rw none refl
 ]
 
 pub no_blank_after : (bs : List ℕ) → begins_blank (rest is_blank bs) ≡ false
 no_blank_after [] = refl
-no_blank_after (b ∷ bs) = elim (either (is_blank b)) [
+no_blank_after (b ∷ bs) = elim (cases_Bool (is_blank b)) [
   | inl blank ↦ rw blank (no_blank_after bs)
   | inr none ↦ rw none none
 ]
@@ -101,13 +101,13 @@ next_word bs f after e marked =
 front_written : (w rest' : List ℕ) → list_all is_inner w ≡ true → begins_inner rest' ≡ false → (front is_inner (w ++ rest') ≡ w) × (rest is_inner (w ++ rest') ≡ rest')
 front_written [] [] all ends = (refl, refl)
 front_written [] (b ∷ bs) all ends = (rw ends refl, rw ends refl)
-front_written (x ∷ xs) bs all ends = elim (either (is_inner x)) [
+front_written (x ∷ xs) bs all ends = elim (cases_Bool (is_inner x)) [
   | inl yes' ↦ let next = front_written xs bs (rw yes' at all) ends in (rw yes' (ap (λ w. x ∷ w) next.0), rw yes' next.1)
   | inr no' ↦ absurd (true≢false (sym (rw no' at all)))
 ]
 
 pub tokens_written : (x : ℕ) (xs rest' : List ℕ) → list_all is_inner (x ∷ xs) ≡ true → begins_inner rest' ≡ false → tokens (x ∷ xs ++ rest') ≡ word (x ∷ xs) ∷ tokens rest'
-tokens_written x xs bs all ends = elim (either (is_inner x)) [
+tokens_written x xs bs all ends = elim (cases_Bool (is_inner x)) [
   | inl yes' ↦ let next = front_written xs bs (rw yes' at all) ends in tokens_word x (xs ++ bs) (no_blank x yes') (no_mark x yes') ∙ rw (next.0, next.1) refl
   | inr no' ↦ absurd (true≢false (sym (rw no' at all)))
 ]

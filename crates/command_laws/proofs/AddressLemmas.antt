@@ -5,7 +5,7 @@ use Rattle.std.specs.Prelude.{is_some, nat_le, nat_lt}
 use Rattle.std.specs.Str.{bytes_eq}
 use Rattle.std.proofs.Math.Nat.{zero-mul, mod-add-div', mod-lt, mod-eq_of_lt, mod_self, mod-zero, suc-mul}
 use Rattle.std.proofs.lemmas.Nat.{mod-mul-add}
-use Rattle.std.proofs.lemmas.Bool.{cases_Bool, leb-true, leb-false, le-leb, ltb-false, le-ltb}
+use Rattle.std.proofs.lemmas.Bool.{and_parts, cases_Bool, leb-true, leb-false, le-leb, ltb-false, le-ltb}
 use Rattle.thumb_instr.specs.declared.instr.Instr.{Instr}
 use Rattle.thumb_instr.specs.Window.{Low, renamed}
 use Rattle.thumb_instr.proofs.RenamingLemmas.{window_renamed}
@@ -237,14 +237,10 @@ sets_replaced name write p count is [] = refl
 sets_replaced name write p count is (l ∷ ls) = elim (cases_Bool (is_op l.statement && (p == 0))) [
   | inl here ↦ rw here (
       labels_set_none name l l.names (map (new_line write) is ++ without (count - 1) ls)
-      ∙ (new_set_none name write is (without (count - 1) ls) ∙ (without_sets name (count - 1) ls ∙ sym (op_sets_none name l.statement (set_address name ls) (op_here (is_op l.statement) (p == 0) here))))
+      ∙ (new_set_none name write is (without (count - 1) ls) ∙ (without_sets name (count - 1) ls ∙ sym (op_sets_none name l.statement (set_address name ls) (and_parts (is_op l.statement) (p == 0) here).0)))
       )
   | inr here ↦ rw here (ap (set_in name l.statement) (sets_replaced name write (p - length (places_in l.statement)) count is ls))
 ]
-  where
-    op_here : (a b : Bool) → (a && b) ≡ true → a ≡ true
-    op_here true b e = refl
-    op_here false b e = absurd (true≢false (sym e))
 
 sets_after : (name : Name) (s : Setting) (o : Option Rule) (r : Replacement) (ls : List ListingLine) → set_address name (lines_after_rule s o r ls) ≡ set_address name ls
 sets_after name s None r ls = refl

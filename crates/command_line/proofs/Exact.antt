@@ -6,12 +6,12 @@ use Rattle.command_line.specs.Words.{Text, Given, IsCommand, are_distinct, is_on
 use Rattle.command_line.proofs.Reading.{free, uses, once_after}
 use Rattle.command_line.proofs.Law.{Each, verdict_by}
 use Rattle.command_line.proofs.Lookup.{at_from, lacks}
-use Rattle.command_line.proofs.BoolLemmas.{either}
+use Rattle.std.proofs.lemmas.Bool.{cases_Bool}
 use Rattle.command_line.proofs.Items.{is_name, item_uses, line_of, line_uses, sound}
 use Rattle.command_line.proofs.NamedValues.{are_apart, distinct_uses, full_has_none, has_none, item_values, lacks_values, once_distinct, option_values, options_of, padded, padded_full, padded_length, uses_fit, values, words_fit, words_of}
 
 other_place : (k j : ℕ) → (k == k + suc j) ≡ false
-other_place k j = elim (either (k == k + suc j)) [
+other_place k j = elim (cases_Bool (k == k + suc j)) [
   | inl same ↦ absurd (let e : k ≡ k + suc j = eqb-true k (k + suc j) same in omega arith)
   | inr other ↦ other
 ]

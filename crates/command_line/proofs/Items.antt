@@ -8,8 +8,7 @@ use Rattle.command_line.specs.Words.{Text, Given, Item, word, joined, apart, spe
 use Rattle.command_line.proofs.Reading.{Mode, free, opened, tail, plain, word_of, use_word, uses, more, to_positional, at_end}
 use Rattle.command_line.proofs.Law.{is_dashes, is_joined, is_apart, is_unknown, is_short, is_plain, Each}
 use Rattle.command_line.proofs.Bytes.{same_text, joined_text, joined_word, apart_word, plain_word, joined_is, apart_is, dashes_is, plain_is}
-use Rattle.command_line.proofs.BoolLemmas.{both, either}
-use Rattle.std.proofs.lemmas.Bool.{not-true}
+use Rattle.std.proofs.lemmas.Bool.{and_parts, cases_Bool, not-true}
 
 -- the uses by which each of these words goes to the next name
 abbrev pub tail_uses : List Text → List Text → Option (List Given)
@@ -35,8 +34,8 @@ is_name n = not (bytes_eq n []) && not (has_byte 61 n)
 
 name_of : (opts : List Text) → list_all is_name opts ≡ true → (n : Text) → is_one_of opts n ≡ true → (bytes_eq n [] ≡ false) × (has_byte 61 n ≡ false)
 name_of [] names n e = absurd (true≢false (sym e))
-name_of (o ∷ os) names n e = let p = both (is_name o) (list_all is_name os) names in elim (either (bytes_eq o n)) [
-  | inl same ↦ let q = both (not (bytes_eq o [])) (not (has_byte 61 o)) p.0 in
+name_of (o ∷ os) names n e = let p = and_parts (is_name o) (list_all is_name os) names in elim (cases_Bool (bytes_eq o n)) [
+  | inl same ↦ let q = and_parts (not (bytes_eq o [])) (not (has_byte 61 o)) p.0 in
       subst (λ (t : Text). (bytes_eq t [] ≡ false) × (has_byte 61 t ≡ false)) (same_text o n same) (not-true _ q.0, not-true _ q.1)
   | inr other ↦ name_of os p.1 n (rw other at e)
 ]
@@ -74,20 +73,20 @@ module _ (opts : List Text) (names : list_all is_name opts ≡ true) (at : ℕ �
       → uses at (is_one_of opts) (line_of items rest) free i ≡ item_uses ids items rest
   line_uses [] None ids i left fine = use_end free i
   line_uses [] (Some ws) ids i left fine = use_at (codes "--") ws free i ∙ tail_is ws ids i left
-  line_uses (word w ∷ is) rest [] i left fine = let p = both (not (is_dashed w)) (list_all (is_allowed opts) is) fine in
+  line_uses (word w ∷ is) rest [] i left fine = let p = and_parts (not (is_dashed w)) (list_all (is_allowed opts) is) fine in
       use_at w (line_of is rest) free i
       ∙ ap₂ (λ k o. use_word k free i w o (uses at (is_one_of opts) (line_of is rest))) (plain_word (is_one_of opts) w (not-true _ p.0)) (here i [] left)
-  line_uses (word w ∷ is) rest (id ∷ ids) i left fine = let p = both (not (is_dashed w)) (list_all (is_allowed opts) is) fine in
+  line_uses (word w ∷ is) rest (id ∷ ids) i left fine = let p = and_parts (not (is_dashed w)) (list_all (is_allowed opts) is) fine in
       use_at w (line_of is rest) free i
       ∙ ap₂ (λ k o. use_word k free i w o (uses at (is_one_of opts) (line_of is rest))) (plain_word (is_one_of opts) w (not-true _ p.0)) (here i (id ∷ ids) left)
       ∙ ap (more (id, w)) (line_uses is rest ids (i + 1) (after i id ids left) p.1)
-  line_uses (joined n v ∷ is) rest ids i left fine = let p = both (is_one_of opts n) (list_all (is_allowed opts) is) fine in
+  line_uses (joined n v ∷ is) rest ids i left fine = let p = and_parts (is_one_of opts n) (list_all (is_allowed opts) is) fine in
       use_at (joined_text n v) (line_of is rest) free i
       ∙ ap (λ k. use_word k free i (joined_text n v) (at i) (uses at (is_one_of opts) (line_of is rest))) (joined_word (is_one_of opts) n v (name_of opts names n p.0).1 p.0)
       ∙ ap (more (n, v)) (line_uses is rest ids i left p.1)
   line_uses (apart n v ∷ is) rest ids i left fine =
-      let p = both (is_one_of opts n && not (is_dashed v)) (list_all (is_allowed opts) is) fine in
-      let q = both (is_one_of opts n) (not (is_dashed v)) p.0 in
+      let p = and_parts (is_one_of opts n && not (is_dashed v)) (list_all (is_allowed opts) is) fine in
+      let q = and_parts (is_one_of opts n) (not (is_dashed v)) p.0 in
       let name = name_of opts names n q.0 in
       use_at (codes "--" ++ n) (v ∷ line_of is rest) free i
       ∙ ap (λ k. use_word k free i (codes "--" ++ n) (at i) (uses at (is_one_of opts) (v ∷ line_of is rest))) (apart_word (is_one_of opts) n name.1 name.0 q.0)

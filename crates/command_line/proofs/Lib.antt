@@ -1,4 +1,3 @@
-pub mod BoolLemmas
 pub mod Reading
 pub mod Level
 pub mod Law

@@ -17,7 +17,7 @@ use Rattle.command_line.specs.Words.{Text, Given, is_named, is_one_of}
 use Rattle.command_line.proofs.Reading.{once_after, uses, free}
 use Rattle.command_line.proofs.Level.{word_rule, option_rule, leaf, between}
 use Rattle.command_line.proofs.Law.{Acts, word_acts, option_acts, rows, clean, Each, reads, reads_rows, verdict_by, outcome}
-use Rattle.command_line.proofs.BoolLemmas.{either}
+use Rattle.std.proofs.lemmas.Bool.{cases_Bool}
 use Rattle.command_line.proofs.Bytes.{same_text, text_self}
 use Rattle.common_lemmas.proofs.Booleans.{or_true}
 
@@ -38,14 +38,14 @@ no_index (o ∷ os) i = no_index os i
 
 pub by_index : (k : ℕ) (ids opts : List Text) (i : ℕ) → arg_by_index (words_from k ids (options opts)) i ≡ option_map (word_rule i) (at_from k ids i)
 by_index k [] opts i = no_index opts i
-by_index k (id ∷ ids) opts i = elim (either (k == i)) [
+by_index k (id ∷ ids) opts i = elim (cases_Bool (k == i)) [
   | inl same ↦ rw same (ap (λ (j : ℕ). Some (word_rule j id)) (eqb-true k i same))
   | inr other ↦ rw other (by_index (k + 1) ids opts i)
 ]
 
 long_option : (opts : List Text) (n : Text) → arg_by_long (options opts) n ≡ cond (is_one_of opts n) (Some (option_rule n)) None
 long_option [] n = refl
-long_option (o ∷ os) n = elim (either (bytes_eq o n)) [
+long_option (o ∷ os) n = elim (cases_Bool (bytes_eq o n)) [
   | inl same ↦ rw same (ap (λ (m : Text). Some (option_rule m)) (same_text o n same))
   | inr other ↦ rw other (long_option os n)
 ]
@@ -63,14 +63,14 @@ by_short k (id ∷ ids) opts x = by_short (k + 1) ids opts x
 
 found_option : (opts : List Text) (id : Text) → is_one_of opts id ≡ true → (a : Rule) × (arg_by_id (options opts) id ≡ Some a) × Acts a id
 found_option [] id e = absurd (true≢false (sym e))
-found_option (o ∷ os) id e = elim (either (bytes_eq o id)) [
+found_option (o ∷ os) id e = elim (cases_Bool (bytes_eq o id)) [
   | inl same ↦ (option_rule o, rw same refl, subst (λ (n : Text). Acts (option_rule o) n) (same_text o id same) (option_acts o))
   | inr other ↦ let next = found_option os id (rw other at e) in (next.0, rw other next.1, next.2)
 ]
 
 pub by_id : (k : ℕ) (ids opts : List Text) (id : Text) → is_one_of (ids ++ opts) id ≡ true → (a : Rule) × (arg_by_id (words_from k ids (options opts)) id ≡ Some a) × Acts a id
 by_id k [] opts id e = found_option opts id e
-by_id k (i ∷ ids) opts id e = elim (either (bytes_eq i id)) [
+by_id k (i ∷ ids) opts id e = elim (cases_Bool (bytes_eq i id)) [
   | inl same ↦ (word_rule k i, rw same refl, subst (λ (n : Text). Acts (word_rule k i) n) (same_text i id same) (word_acts k i))
   | inr other ↦ let next = by_id (k + 1) ids opts id (rw other at e) in (next.0, rw other next.1, next.2)
 ]
@@ -95,7 +95,7 @@ defaults_words k (o ∷ os) opts rs = let next = defaults_words (k + 1) os opts 
 
 given_use : (id : Text) (us : List Given) → is_given id (rows us) ≡ is_named id us
 given_use id [] = refl
-given_use id (u ∷ us) = elim (either (bytes_eq u.0 id)) [ inl same ↦ rw same refl | inr other ↦ rw other (given_use id us) ]
+given_use id (u ∷ us) = elim (cases_Bool (bytes_eq u.0 id)) [ inl same ↦ rw same refl | inr other ↦ rw other (given_use id us) ]
 
 -- one of the positional words wasn't given
 abbrev pub lacks : List Text → List Given → Bool
@@ -118,14 +118,14 @@ any_append (x ∷ xs) ys n e = rw (any_append xs ys n e) (or_true (bytes_eq x n)
 
 at_one : (k : ℕ) (ids opts : List Text) (i : ℕ) (id : Text) → at_from k ids i ≡ Some id → is_one_of (ids ++ opts) id ≡ true
 at_one k [] opts i id e = absurd (let bad : None ≡ Some id = e in cc)
-at_one k (x ∷ xs) opts i id e = elim (either (k == i)) [
+at_one k (x ∷ xs) opts i id e = elim (cases_Bool (k == i)) [
   | inl same ↦ let here : Some x ≡ Some id = rw same at e in let one : x ≡ id = cc in rw (ap (λ (n : Text). bytes_eq x n) (sym one) ∙ text_self x) refl
   | inr other ↦ rw (at_one (k + 1) xs opts i id (rw other at e)) (or_true (bytes_eq x id))
 ]
 
 at_small : (k : ℕ) (ids : List Text) (i : ℕ) (id : Text) → at_from k ids i ≡ Some id → i < k + length ids
 at_small k [] i id e = absurd (let bad : None ≡ Some id = e in cc)
-at_small k (x ∷ xs) i id e = elim (either (k == i)) [
+at_small k (x ∷ xs) i id e = elim (cases_Bool (k == i)) [
   | inl same ↦ let is : k ≡ i = eqb-true k i same in omega arith
   | inr other ↦ let next : i < k + 1 + length xs = at_small (k + 1) xs i id (rw other at e) in omega arith
 ]

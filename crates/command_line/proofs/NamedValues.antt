@@ -11,8 +11,7 @@ use Rattle.command_line.proofs.Law.{rows}
 use Rattle.command_line.proofs.Lookup.{lacks}
 use Rattle.command_line.proofs.Bytes.{same_text, text_self, text_sym}
 use Rattle.command_line.proofs.Items.{item_uses, tail_uses}
-use Rattle.command_line.proofs.BoolLemmas.{both, either}
-use Rattle.std.proofs.lemmas.Bool.{not-true, or_parts}
+use Rattle.std.proofs.lemmas.Bool.{and_parts, cases_Bool, not-true, or_parts}
 use Rattle.common_lemmas.proofs.Booleans.{or_false}
 
 -- the names of the positional words are different from each other and from every option
@@ -22,11 +21,11 @@ are_apart (id ∷ ids) opts = not (is_one_of (ids ++ opts) id) && are_apart ids 
 
 pub first_row : (id : Text) (us : List Given) → first_of id (rows us) ≡ value_of id us
 first_row id [] = refl
-first_row id (u ∷ us) = elim (either (bytes_eq u.0 id)) [ inl same ↦ rw same refl | inr other ↦ rw other (first_row id us) ]
+first_row id (u ∷ us) = elim (cases_Bool (bytes_eq u.0 id)) [ inl same ↦ rw same refl | inr other ↦ rw other (first_row id us) ]
 
 named_value : (id : Text) (us : List Given) → is_named id us ≡ is_some (value_of id us)
 named_value id [] = refl
-named_value id (u ∷ us) = elim (either (bytes_eq u.0 id)) [ inl same ↦ rw same refl | inr other ↦ rw other (named_value id us) ]
+named_value id (u ∷ us) = elim (cases_Bool (bytes_eq u.0 id)) [ inl same ↦ rw same refl | inr other ↦ rw other (named_value id us) ]
 
 -- the words in order, and none for the names after them
 abbrev pub padded : List Text → List Text → List (Option Text)
@@ -49,8 +48,8 @@ one_of_front xs ys n e = or_parts (is_one_of xs n) (is_one_of ys n) (sym (list_a
 -- an option is none of the positional words
 option_apart : (ids opts : List Text) (n : Text) → are_apart ids opts ≡ true → is_one_of opts n ≡ true → is_one_of ids n ≡ false
 option_apart [] opts n ap_ e = refl
-option_apart (id ∷ ids) opts n apart_ e = let p = both (not (is_one_of (ids ++ opts) id)) (are_apart ids opts) apart_ in
-    elim (either (bytes_eq id n)) [
+option_apart (id ∷ ids) opts n apart_ e = let p = and_parts (not (is_one_of (ids ++ opts) id)) (are_apart ids opts) apart_ in
+    elim (cases_Bool (bytes_eq id n)) [
       | inl same ↦ absurd (true≢false (sym e ∙ ap (is_one_of opts) (sym (same_text id n same)) ∙ (one_of_front ids opts id (not-true _ p.0)).1))
       | inr other ↦ rw other (option_apart ids opts n p.1 e)
     ]
@@ -69,7 +68,7 @@ nothing : (us : List Given) → Some [] ≡ Some us → us ≡ []
 nothing us e = cc
 
 value_more : (m v n : Text) (us vs : List Given) → value_of n us ≡ value_of n vs → value_of n ((m, v) ∷ us) ≡ value_of n ((m, v) ∷ vs)
-value_more m v n us vs e = elim (either (bytes_eq m n)) [ inl same ↦ rw same refl | inr other ↦ rw other e ]
+value_more m v n us vs e = elim (cases_Bool (bytes_eq m n)) [ inl same ↦ rw same refl | inr other ↦ rw other e ]
 
 module _ (opts : List Text) where
   -- ---- the positional words
@@ -81,7 +80,7 @@ module _ (opts : List Text) where
     none_left [] = refl
     none_left (k ∷ ks) = ap (λ l. None ∷ l) (none_left ks)
   tail_values (id ∷ ids) (w ∷ ws) us e made =
-      let p = both (not (is_one_of (ids ++ opts) id)) (are_apart ids opts) e in
+      let p = and_parts (not (is_one_of (ids ++ opts) id)) (are_apart ids opts) e in
       let q = more_is (id, w) us (tail_uses ids ws) made in
       ap (values (id ∷ ids)) q.2 ∙ ap₂ (λ (b : Bool) l. option_map (λ (g : Given). g.1) (cond b (Some (id, w)) (find (λ (g : Given). bytes_eq g.0 id) q.0)) ∷ l)
       (text_self id) (values_after ids id w q.0 (one_of_front ids opts id (not-true _ p.0)).0 ∙ tail_values ids ws q.0 p.1 q.1)
@@ -92,18 +91,18 @@ module _ (opts : List Text) where
   item_values [] (Some ws) ids us e fine made = tail_values ids ws us e made
   item_values (word w ∷ is) rest [] us e fine made = refl
   item_values (word w ∷ is) rest (id ∷ ids) us e fine made =
-      let p = both (not (is_one_of (ids ++ opts) id)) (are_apart ids opts) e in
-      let f = both (not (is_dashed w)) (list_all (is_allowed opts) is) fine in
+      let p = and_parts (not (is_one_of (ids ++ opts) id)) (are_apart ids opts) e in
+      let f = and_parts (not (is_dashed w)) (list_all (is_allowed opts) is) fine in
       let q = more_is (id, w) us (item_uses ids is rest) made in
       ap (values (id ∷ ids)) q.2 ∙ ap₂ (λ (b : Bool) l. option_map (λ (g : Given). g.1) (cond b (Some (id, w)) (find (λ (g : Given). bytes_eq g.0 id) q.0)) ∷ l)
       (text_self id) (values_after ids id w q.0 (one_of_front ids opts id (not-true _ p.0)).0 ∙ item_values is rest ids q.0 p.1 f.1 q.1)
   item_values (joined n v ∷ is) rest ids us e fine made =
-      let f = both (is_one_of opts n) (list_all (is_allowed opts) is) fine in
+      let f = and_parts (is_one_of opts n) (list_all (is_allowed opts) is) fine in
       let q = more_is (n, v) us (item_uses ids is rest) made in
       ap (values ids) q.2 ∙ values_after ids n v q.0 (option_apart ids opts n e f.0) ∙ item_values is rest ids q.0 e f.1 q.1
   item_values (apart n v ∷ is) rest ids us e fine made =
-      let f = both (is_one_of opts n && not (is_dashed v)) (list_all (is_allowed opts) is) fine in
-      let g = both (is_one_of opts n) (not (is_dashed v)) f.0 in
+      let f = and_parts (is_one_of opts n && not (is_dashed v)) (list_all (is_allowed opts) is) fine in
+      let g = and_parts (is_one_of opts n) (not (is_dashed v)) f.0 in
       let q = more_is (n, v) us (item_uses ids is rest) made in
       ap (values ids) q.2 ∙ values_after ids n v q.0 (option_apart ids opts n e g.0) ∙ item_values is rest ids q.0 e f.1 q.1
 
@@ -113,7 +112,7 @@ module _ (opts : List Text) where
   one_of_more id ids n e = or_parts (bytes_eq id n) (is_one_of (ids ++ opts) n) e
 
   other_name : (ids : List Text) (n id : Text) → is_one_of (ids ++ opts) id ≡ false → is_one_of opts n ≡ true → bytes_eq n id ≡ false
-  other_name ids n id e ours = elim (either (bytes_eq n id)) [
+  other_name ids n id e ours = elim (cases_Bool (bytes_eq n id)) [
     | inl same ↦ absurd (true≢false (sym ours ∙ ap (is_one_of opts) (same_text n id same) ∙ (one_of_front ids opts id e).1))
     | inr other ↦ other
   ]
@@ -134,16 +133,16 @@ module _ (opts : List Text) where
   unnamed (word w ∷ is) rest [] us n fine e made = absurd (let bad : None ≡ Some us = made in cc)
   unnamed (word w ∷ is) rest (id ∷ ids) us n fine e made =
       let p = one_of_more id ids n e in
-      let f = both (not (is_dashed w)) (list_all (is_allowed opts) is) fine in
+      let f = and_parts (not (is_dashed w)) (list_all (is_allowed opts) is) fine in
       let q = more_is (id, w) us (item_uses ids is rest) made in
       rw (q.2, p.0) (unnamed is rest ids q.0 n f.1 p.1 q.1)
   unnamed (joined m v ∷ is) rest ids us n fine e made =
-      let f = both (is_one_of opts m) (list_all (is_allowed opts) is) fine in
+      let f = and_parts (is_one_of opts m) (list_all (is_allowed opts) is) fine in
       let q = more_is (m, v) us (item_uses ids is rest) made in
       rw (q.2, other_name ids m n e f.0) (unnamed is rest ids q.0 n f.1 e q.1)
   unnamed (apart m v ∷ is) rest ids us n fine e made =
-      let f = both (is_one_of opts m && not (is_dashed v)) (list_all (is_allowed opts) is) fine in
-      let g = both (is_one_of opts m) (not (is_dashed v)) f.0 in
+      let f = and_parts (is_one_of opts m && not (is_dashed v)) (list_all (is_allowed opts) is) fine in
+      let g = and_parts (is_one_of opts m) (not (is_dashed v)) f.0 in
       let q = more_is (m, v) us (item_uses ids is rest) made in
       rw (q.2, other_name ids m n e g.0) (unnamed is rest ids q.0 n f.1 e q.1)
 
@@ -152,7 +151,7 @@ module _ (opts : List Text) where
   tail_options ids [] us n e ours made = rw (nothing us made) refl
   tail_options [] (w ∷ ws) us n e ours made = absurd (let bad : None ≡ Some us = made in cc)
   tail_options (id ∷ ids) (w ∷ ws) us n e ours made =
-      let p = both (not (is_one_of (ids ++ opts) id)) (are_apart ids opts) e in
+      let p = and_parts (not (is_one_of (ids ++ opts) id)) (are_apart ids opts) e in
       let q = more_is (id, w) us (tail_uses ids ws) made in
       let other = (or_parts (bytes_eq id n) (is_one_of ids n) (option_apart (id ∷ ids) opts n e ours)).0 in
       rw (q.2, other) (tail_options ids ws q.0 n p.1 ours q.1)
@@ -163,7 +162,7 @@ module _ (opts : List Text) where
   option_values [] (Some ws) ids us n e ours made = tail_options ids ws us n e ours made
   option_values (word w ∷ is) rest [] us n e ours made = absurd (let bad : None ≡ Some us = made in cc)
   option_values (word w ∷ is) rest (id ∷ ids) us n e ours made =
-      let p = both (not (is_one_of (ids ++ opts) id)) (are_apart ids opts) e in
+      let p = and_parts (not (is_one_of (ids ++ opts) id)) (are_apart ids opts) e in
       let q = more_is (id, w) us (item_uses ids is rest) made in
       let other = (or_parts (bytes_eq id n) (is_one_of ids n) (option_apart (id ∷ ids) opts n e ours)).0 in
       rw (q.2, other) (option_values is rest ids q.0 n p.1 ours q.1)
@@ -179,7 +178,7 @@ module _ (opts : List Text) where
   tail_distinct ids [] us e made = rw (nothing us made) refl
   tail_distinct [] (w ∷ ws) us e made = absurd (let bad : None ≡ Some us = made in cc)
   tail_distinct (id ∷ ids) (w ∷ ws) us e made =
-      let p = both (not (is_one_of (ids ++ opts) id)) (are_apart ids opts) e in
+      let p = and_parts (not (is_one_of (ids ++ opts) id)) (are_apart ids opts) e in
       let q = more_is (id, w) us (tail_uses ids ws) made in
       rw (q.2, tail_unnamed ids ws q.0 id (not-true _ p.0) q.1) (tail_distinct ids ws q.0 p.1 q.1)
 
@@ -192,17 +191,17 @@ module _ (opts : List Text) where
   distinct_uses [] (Some ws) ids us e fine made = tail_distinct ids ws us e made
   distinct_uses (word w ∷ is) rest [] us e fine made = absurd (let bad : None ≡ Some us = made in cc)
   distinct_uses (word w ∷ is) rest (id ∷ ids) us e fine made =
-      let p = both (not (is_one_of (ids ++ opts) id)) (are_apart ids opts) e in
-      let f = both (not (is_dashed w)) (list_all (is_allowed opts) is) fine in
+      let p = and_parts (not (is_one_of (ids ++ opts) id)) (are_apart ids opts) e in
+      let f = and_parts (not (is_dashed w)) (list_all (is_allowed opts) is) fine in
       let q = more_is (id, w) us (item_uses ids is rest) made in
       rw (q.2, unnamed is rest ids q.0 id f.1 (not-true _ p.0) q.1) (distinct_uses is rest ids q.0 p.1 f.1 q.1)
   distinct_uses (joined m v ∷ is) rest ids us e fine made =
-      let f = both (is_one_of opts m) (list_all (is_allowed opts) is) fine in
+      let f = and_parts (is_one_of opts m) (list_all (is_allowed opts) is) fine in
       let q = more_is (m, v) us (item_uses ids is rest) made in
       ap are_distinct q.2 ∙ ap₂ (λ a b. not a && b) (same_named m q.0 (options_of is) (option_values is rest ids q.0 m e f.0 q.1)) (distinct_uses is rest ids q.0 e f.1 q.1)
   distinct_uses (apart m v ∷ is) rest ids us e fine made =
-      let f = both (is_one_of opts m && not (is_dashed v)) (list_all (is_allowed opts) is) fine in
-      let g = both (is_one_of opts m) (not (is_dashed v)) f.0 in
+      let f = and_parts (is_one_of opts m && not (is_dashed v)) (list_all (is_allowed opts) is) fine in
+      let g = and_parts (is_one_of opts m) (not (is_dashed v)) f.0 in
       let q = more_is (m, v) us (item_uses ids is rest) made in
       ap are_distinct q.2 ∙ ap₂ (λ a b. not a && b) (same_named m q.0 (options_of is) (option_values is rest ids q.0 m e g.0 q.1)) (distinct_uses is rest ids q.0 e f.1 q.1)
 
@@ -264,7 +263,7 @@ abbrev all_new : List Given → List Given → Bool
 all_new before us = list_all (λ (u : Given). not (is_named u.0 before)) us
 
 text_sym_eq : (a b : Text) → bytes_eq a b ≡ bytes_eq b a
-text_sym_eq a b = elim (either (bytes_eq a b)) [
+text_sym_eq a b = elim (cases_Bool (bytes_eq a b)) [
   | inl same ↦ ap₂ bytes_eq (same_text a b same) (sym (same_text a b same))
   | inr other ↦ other ∙ sym (text_sym a b other)
 ]

@@ -8,7 +8,7 @@ use Rattle.seq_enum.proofs.Bounds.{bounds}
 use Rattle.ascii_scan.specs.Numeral.{decimal}
 use Rattle.command_line.specs.Words.{Text}
 use Rattle.command_line.specs.CommandLine.{all_given, between_commas, pool_of}
-use Rattle.command_line.proofs.BoolLemmas.{either, both}
+use Rattle.std.proofs.lemmas.Bool.{and_parts, cases_Bool}
 use Rattle.rule_table.proofs.ListTexts.{inside_most as small}
 
 -- ---- bytes ----
@@ -27,7 +27,7 @@ no_byte ns ds i d lt here none all e =
 all_small : (ns : List ℕ) → list_all (inside 0 256) ns ≡ true → All (λ n. n ≤ 255) ns
 all_small [] e = λ k d lt. absurd (omega arith)
 all_small (n ∷ ns) e =
-    let parts = both (inside 0 256 n) (list_all (inside 0 256) ns) e in
+    let parts = and_parts (inside 0 256 n) (list_all (inside 0 256) ns) e in
     All-cons (λ m. m ≤ 255) n ns (small n parts.0) (all_small ns parts.1)
 
 -- ---- values that are all there ----
@@ -49,7 +49,7 @@ some_all (Some x ∷ os) xs e = let f = onto x (all_given os) xs e in ap (map (�
 
 -- the pool of some numbers, where they are one
 pub made : (r : Option (List ℕ)) (ns : List ℕ) → (IsSome r ↔ IsTrue (is_pool ns)) → IfSome r (λ p. p ≡ ns) → option_map (λ p. p) r ≡ (if is_pool ns then Some ns else None)
-made None ns valid value = go (either (is_pool ns)) where
+made None ns valid value = go (cases_Bool (is_pool ns)) where
   go : (is_pool ns ≡ true) ⊎ (is_pool ns ≡ false) → None ≡ (if is_pool ns then Some ns else None)
   go (inl is) = absurd (true≢false (sym (valid.1 is)))
   go (inr other) = rw other refl
@@ -78,7 +78,7 @@ pub text_lost : (v : Text) (bs : List (Bor Text)) → map (λ w. w.now) bs ≡ b
     → ((ns : List ℕ) → length ns ≤ 16 → All (λ n. n ≤ 255) ns → map (λ n. Some n) ns ≡ map (λ w. decimal w.now) bs → ⊥) → (o : Option Text) → o ≡ Some v → None ≡ pool_of o
 text_lost v bs parts none o is = go (all_given (map decimal (between_commas v))) refl ∙ ap pool_of (sym is) where
   no_pool : (ns : List ℕ) → all_given (map decimal (between_commas v)) ≡ Some ns → is_pool ns ≡ false
-  no_pool ns e = elim (either (is_pool ns)) [
+  no_pool ns e = elim (cases_Bool (is_pool ns)) [
     | inr other ↦ other
     | inl is ↦ let b = bounds ns is in absurd (none ns b.few (all_small ns b.bytes) (some_all (map decimal (between_commas v)) ns e ∙ sym (cut v bs parts)))
   ]

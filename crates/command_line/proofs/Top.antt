@@ -16,7 +16,7 @@ use Rattle.command_line.proofs.Level.{leaf, or_else_nil}
 use Rattle.command_line.proofs.Law.{Is, is_dashes, is_joined, is_apart, is_unknown, is_short, is_plain, clean}
 use Rattle.command_line.proofs.Lookup.{options, words_from}
 use Rattle.command_line.proofs.Bytes.{same_text}
-use Rattle.command_line.proofs.BoolLemmas.{either}
+use Rattle.std.proofs.lemmas.Bool.{cases_Bool}
 
 -- after a command was found, the words go to it
 stopped_walk : (c : List Rule) (names : Names) (w : Walk) (name : Text) (rest words : List Text)
@@ -118,7 +118,7 @@ plain_first names w none dd long short = rw (none, dd, long, short) refl
 -- a word names one of the commands, or none
 pub named_or_none : (fs : List Form) (w : Text) → ((form : Form) × (bytes_eq (name_of form) w ≡ true)) ⊎ NamesNone (names_for fs) w
 named_or_none [] w = inr refl
-named_or_none (f ∷ fs) w = elim (either (bytes_eq (name_of f) w)) [
+named_or_none (f ∷ fs) w = elim (cases_Bool (bytes_eq (name_of f) w)) [
   | inl same ↦ inl (f, same)
   | inr other ↦ elim (named_or_none fs w) [ inl form ↦ inl form | inr none ↦ inr (rw other none) ]
 ]

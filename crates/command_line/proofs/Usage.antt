@@ -74,9 +74,3 @@ pub asked_met : (form : Form) (m : ArgMatches) (f : Found) (n : Text) → Some n
     → option_and_then asked (subcommand_rows_of m) ≡ asked_by form (first_value f)
 asked_met form m f n en er is =
     ap (option_and_then asked) (met_is m n (rows_of f) en er) ∙ ap (λ (k : Text). asked (k, rows_of f)) is ∙ asked_named form (rows_of f) ∙ sym (found_asked form f)
-
-pub at_some : {X : Type 0} (o : Option X) (x : X) (P : Type 0) (Q : X → Type 0) → o ≡ Some x → MatchOption o P Q → Q x
-at_some {X} o x P Q e h = subst (λ (p : Option X). MatchOption p P Q) e h
-
-pub at_none : {X : Type 0} (o : Option X) (P : Type 0) (Q : X → Type 0) → o ≡ None → MatchOption o P Q → P
-at_none {X} o P Q e h = subst (λ (p : Option X). MatchOption p P Q) e h

@@ -7,7 +7,7 @@ use Rattle.std.proofs.lemmas.Str.{encodes-chars}
 use Rattle.clap.specs.Lexer.{long_of, name_and_value}
 use Rattle.command_line.specs.Words.{Text}
 use Rattle.command_line.proofs.Law.{Is, is_dashes, is_joined, is_apart, is_unknown, is_short, is_plain, Each}
-use Rattle.command_line.proofs.BoolLemmas.{either}
+use Rattle.std.proofs.lemmas.Bool.{cases_Bool}
 
 chars_step : (b : ℕ) (cs : List ℕ) → chars (45 ∷ b ∷ cs) ≡ 45 ∷ chars (b ∷ cs)
 unfolding chars
@@ -24,8 +24,8 @@ first_char b cs text = go (chars (b ∷ cs)) refl where
   go (c ∷ xs) e = (c, rw e refl)
 
 of_long : (is_option : Text → Bool) (x n : Text) (v : Option Text) → bytes_eq x (45 ∷ 45 ∷ []) ≡ false → long_of x ≡ Some (n, v) → Is is_option x
-of_long is_option x n None dd long = elim (either (is_option n)) [ inl ours ↦ is_apart n dd long ours | inr other ↦ is_unknown n None dd long other ]
-of_long is_option x n (Some v) dd long = elim (either (is_option n)) [ inl ours ↦ is_joined n v dd long ours | inr other ↦ is_unknown n (Some v) dd long other ]
+of_long is_option x n None dd long = elim (cases_Bool (is_option n)) [ inl ours ↦ is_apart n dd long ours | inr other ↦ is_unknown n None dd long other ]
+of_long is_option x n (Some v) dd long = elim (cases_Bool (is_option n)) [ inl ours ↦ is_joined n v dd long ours | inr other ↦ is_unknown n (Some v) dd long other ]
 
 two_dashes : (is_option : Text → Bool) (b c : ℕ) (cs : List ℕ) → (b == 45) ≡ true → (c == 45) ≡ true → Is is_option (b ∷ c ∷ cs)
 two_dashes is_option b c [] one two = is_dashes (rw (one, two) refl)
@@ -34,13 +34,13 @@ two_dashes is_option b c (d ∷ ds) one two =
 
 pub word_is : (is_option : Text → Bool) (x : Text) → IsUtf8 x → Is is_option x
 word_is is_option [] text = is_plain refl refl refl
-word_is is_option (b ∷ []) text = elim (either (b == 45)) [
+word_is is_option (b ∷ []) text = elim (cases_Bool (b == 45)) [
   | inl dash ↦ is_plain (rw dash refl) (rw dash refl) (rw dash refl)
   | inr other ↦ is_plain (rw other refl) (rw other refl) (rw other refl)
 ]
-word_is is_option (b ∷ c ∷ cs) text = elim (either (b == 45)) [
+word_is is_option (b ∷ c ∷ cs) text = elim (cases_Bool (b == 45)) [
   | inr other ↦ is_plain (rw other refl) (rw other refl) (rw other refl)
-  | inl one ↦ elim (either (c == 45)) [
+  | inl one ↦ elim (cases_Bool (c == 45)) [
     | inl two ↦ two_dashes is_option b c cs one two
     | inr name ↦ let first = first_char c cs (subst (λ (k : ℕ). IsUtf8 (k ∷ c ∷ cs)) (eqb-true b 45 one) text) in
         is_short c first.0 cs (rw (one, name) refl) (rw (one, name) refl) (rw (one, name) refl) first.1

@@ -5,6 +5,7 @@ use Rattle.std.specs.List.{list_all, All}
 use Rattle.std.proofs.Math.Seq.{take-suc, take-append_seam, drop-append_seam}
 use Rattle.std.proofs.Math.Nat.{pow-suc, pow-zero}
 use Rattle.std.proofs.lemmas.Nat.{div-mul-add, mod-mul-add, mod_below}
+use Rattle.std.proofs.lemmas.List.{same_from_push}
 use Rattle.std.proofs.lemmas.List.Folds.{list_all-append, list_all_at}
 use Rattle.std.proofs.lemmas.List.Elements.{All-head, All-tail}
 use Rattle.ascii_scan.specs.Numeral.{hex_digit}
@@ -78,18 +79,11 @@ same_front xs ys us vs n e = (
   sym (drop-append_seam xs us) ∙ ap (drop (length xs)) e ∙ ap (λ m. drop m (ys ++ vs)) n ∙ drop-append_seam ys vs,
 )
 
-same_push : (xs ys : List ℕ) (x y : ℕ) → length xs ≡ length ys → xs ++ x ∷ [] ≡ ys ++ y ∷ [] → (xs ≡ ys) × (x ≡ y)
-same_push xs ys x y n e = let split = same_front xs ys (x ∷ []) (y ∷ []) n e in (split.0, first split.1)
-  where
-    first : x ∷ [] ≡ y ∷ [] → x ≡ y
-    first h = cc
-
 pub hex_tells : (n v w : ℕ) → v < 16 ^ n → w < 16 ^ n → hex_of n v ≡ hex_of n w → v ≡ w
 unfolding hex_of
 hex_tells zero v w h k e = omega (arith, pow-zero 16)
 hex_tells (suc n) v w h k e =
-    let size : length (hex_of n (v / 16)) ≡ length (hex_of n (w / 16)) = length-hex n (v / 16) ∙ sym (length-hex n (w / 16)) in
-    let parts = same_push (hex_of n (v / 16)) (hex_of n (w / 16)) (hex_digit (v % 16)) (hex_digit (w % 16)) size e in
+    let parts = same_from_push (hex_of n (v / 16)) (hex_of n (w / 16)) (hex_digit (v % 16)) (hex_digit (w % 16)) e in
     let power = pow-suc 16 n in
     let high : v / 16 ≡ w / 16 = hex_tells n (v / 16) (w / 16) (omega (arith, power)) (omega (arith, power)) parts.0 in
     let low : v % 16 ≡ w % 16 = digit_tells (v % 16) (w % 16) (mod_below v 16 (omega arith)) (mod_below w 16 (omega arith)) parts.1 in

@@ -5,7 +5,7 @@ use Rattle.std.specs.Option.{option_and_then}
 use Rattle.std.specs.List.{flat_map, All, concat}
 use Rattle.std.proofs.lemmas.Bool.{cases_Bool}
 use Rattle.std.proofs.lemmas.Option.{same_Some}
-use Rattle.std.proofs.lemmas.List.{map-append, length-map}
+use Rattle.std.proofs.lemmas.List.{append_cancel_right, map-append, length-map}
 use Rattle.std.proofs.lemmas.List.Elements.{All-nil, All-cons, All-head, All-tail, All-append, All-map, All-push}
 use Rattle.ascii_scan.specs.Refused.{Begins}
 use Rattle.ascii_scan.proofs.Refusals as refusals
@@ -26,7 +26,6 @@ use Rattle.rule_table.specs.Refused.{IsText, IsSomeTable, IsRefused}
 use Rattle.rule_table.specs.Reading.{OneTable, NotBoth, RefusedOnce, WrittenReadsBack}
 use Rattle.rule_table.proofs.ReadBack.{run-append, reads}
 use Rattle.rule_table.proofs.Beginnings.{Opens, read_opens, read_whole}
-use Rattle.rule_table.proofs.HexTexts.{same_front}
 use Rattle.rule_table.proofs.LinesTell.{line_inside, lines_tell}
 use Rattle.ascii_scan.proofs.EndedLines.{line_first, content_ended, is_ended_last, open_content, whole_ended, whole_open}
 
@@ -178,11 +177,6 @@ goes is line all b = from (split (items_of b.text.table) is (line ∷ b.rest) it
 
 -- ---- the loop
 
-same_last : (xs ys : List ℕ) → xs ++ 10 ∷ [] ≡ ys ++ 10 ∷ [] → xs ≡ ys
-same_last xs ys e =
-    let size : length xs ≡ length ys = omega (arith, ap length e, length-append xs (10 ∷ []), length-append ys (10 ∷ [])) in
-    (same_front xs ys (10 ∷ []) (10 ∷ []) size e).0
-
 -- items were read, and lines are left
 pub record Progress (bytes : List ℕ) (left : List Placed) (s : Stage) (number : ℕ) : Type 0 where
   pub items : List Item
@@ -249,7 +243,7 @@ bad bytes p left s n g a none = record {
   where
     stops : Goes g.items (whole p) → ⊥
     stops o = elim (cases_Bool p.is_ended) [
-      | inl e ↦ (let line : line_of o.item ≡ p.text = same_last (line_of o.item) p.text (o.is_line ∙ whole_ended p e) in
+      | inl e ↦ (let line : line_of o.item ≡ p.text = append_cancel_right (line_of o.item) p.text (10 ∷ []) (o.is_line ∙ whole_ended p e) in
           run_none g.items o.item o.rest s o.table g.ran (none o.item e o.is_item line) (ap (run Start) (sym o.whole) ∙ reads o.table o.valid))
       | inr e ↦ true≢false (sym (is_ended_last (line_of o.item)) ∙ ap is_ended o.is_line ∙ open_line p left a e)
     ]

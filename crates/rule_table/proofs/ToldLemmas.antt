@@ -1,6 +1,5 @@
 -- What a line says, from its first word and what the rest says.
-use Rattle.std.proofs.Common.{◌≡◌, ◌∙◌, List, ℕ, sym, ap, Option, Some, None, Result, Ok, Err}
-use Rattle.std.specs.Prelude.{IfOk}
+use Rattle.std.proofs.Common.{◌≡◌, ◌∙◌, List, ℕ, sym, ap, Option, Some, None}
 use Rattle.rule_table.specs.declared.item.Item.{Item as Code}
 use Rattle.rule_table.specs.declared.words.FirstWord.{FirstWord}
 use Rattle.rule_table.specs.Text.{line_of}
@@ -27,6 +26,3 @@ says line w tail (Some x) f told =
     (told.0, front_sound (line_of i) w tail whole ∙ sym (front_sound line w tail f))
 
 -- a property of a result's value may be weakened
-pub also : {X E : Type 0} (P Q : X → Type 0) → ((x : X) → P x → Q x) → (r : Result X E) → IfOk r P → IfOk r Q
-also P Q each (Ok x) h = each x h
-also P Q each (Err e) h = h

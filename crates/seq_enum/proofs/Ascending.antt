@@ -1,13 +1,12 @@
 -- Consecutive numbers, with and without one of them.
 use Rattle.std.proofs.Common.{◌≡◌, ℕ, zero, suc, ◌+◌, ◌-◌, ◌<◌, ◌≤◌, ◌==◌, ◌⊎◌, inl, inr, not, filter, List, [], ◌∷◌, ◌++◌, length, refl, sym, ◌∙◌, ap, arith, Option, Some, None, slice_get, length-append, true, false, Bool, cond, nat_le, leb, eq-eqb, leb-true, le-leb}
 use Rattle.std.specs.Option.{option_map}
-use Rattle.std.proofs.lemmas.Bool.{ne_eqb}
+use Rattle.std.proofs.lemmas.Bool.{and_parts, ne_eqb}
 use Rattle.std.proofs.lemmas.Bool.Decides.{eqb_tells, leb_tells}
 use Rattle.std.proofs.lemmas.Option.{slice_get_past, same_Some}
 use Rattle.seq_enum.specs.Alphabet.{numbers_from, ascends_from, IsPlace}
 use Rattle.seq_enum.specs.Places.{place_of}
 use Rattle.seq_enum.proofs.Numbered.{numbers_at, number_here, number_past, get_back}
-pub use Rattle.ascii_scan.proofs.NumeralLemmas.{both}
 use Rattle.common_lemmas.proofs.Lists.{get_front}
 use Rattle.seq_enum.proofs.CostLines.{length-from}
 
@@ -104,7 +103,7 @@ pub ascends_lower : (low m : ℕ) (xs : List ℕ) → low ≤ m → ascends_from
 unfolding ascends_from
 ascends_lower low m [] h up = refl
 ascends_lower low m (x ∷ xs) h up =
-    let parts = both (nat_le m x) (ascends_from (suc x) xs) up in
+    let parts = and_parts (nat_le m x) (ascends_from (suc x) xs) up in
     let first : low ≤ x = omega (arith, leb-true m x parts.0) in
     rw (le-leb low x first) parts.1
 
@@ -117,7 +116,7 @@ pub ascends_filter : (p : ℕ → Bool) (low : ℕ) (xs : List ℕ) → ascends_
 unfolding ascends_from
 ascends_filter p low [] up = refl
 ascends_filter p low (x ∷ xs) up =
-    let parts = both (nat_le low x) (ascends_from (suc x) xs) up in
+    let parts = and_parts (nat_le low x) (ascends_from (suc x) xs) up in
     let rest : ascends_from (suc x) (filter p xs) ≡ true = ascends_filter p (suc x) xs parts.1 in
     let lower : ascends_from low (filter p xs) ≡ true =
     ascends_lower low (suc x) (filter p xs) (omega (arith, leb-true low x parts.0)) rest in
@@ -127,10 +126,10 @@ pub ascends_least : (low : ℕ) (xs : List ℕ) → ascends_from low xs ≡ true
 unfolding ascends_from
 ascends_least low [] up i x e = cc
 ascends_least low (y ∷ xs) up zero x e =
-    let parts = both (nat_le low y) (ascends_from (suc y) xs) up in
+    let parts = and_parts (nat_le low y) (ascends_from (suc y) xs) up in
     omega (arith, leb-true low y parts.0, same_Some y x e)
 ascends_least low (y ∷ xs) up (suc i) x e =
-    let parts = both (nat_le low y) (ascends_from (suc y) xs) up in
+    let parts = and_parts (nat_le low y) (ascends_from (suc y) xs) up in
     omega (arith, leb-true low y parts.0, ascends_least (suc y) xs parts.1 i x e)
 
 -- in an ascending list each number has one place
@@ -139,7 +138,7 @@ unfolding ascends_from place_of
 place_found low [] up i x e = cc
 place_found low (y ∷ xs) up zero x e = rw (eq-eqb y x (same_Some y x e)) refl
 place_found low (y ∷ xs) up (suc i) x e =
-    let parts = both (nat_le low y) (ascends_from (suc y) xs) up in
+    let parts = and_parts (nat_le low y) (ascends_from (suc y) xs) up in
     let above : y < x = ascends_least (suc y) xs parts.1 i x e in
     let ne : (y ≡ x → ⊥) = λ q. omega arith in
     rw (ne_eqb y x ne) (ap (option_map (λ k. k + 1)) (place_found (suc y) xs parts.1 i x e) ∙ ap Some (omega arith))

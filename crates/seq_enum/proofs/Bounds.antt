@@ -5,7 +5,7 @@ use Rattle.std.proofs.lemmas.Bool.{lt-leb}
 use Rattle.std.proofs.Math.Facts.{Fits-lt-pow}
 use Rattle.seq_enum.specs.Alphabet.{ascends_from, those_within, IsPlace, inside, is_pool}
 use Rattle.seq_enum.specs.Places.{place_of}
-use Rattle.seq_enum.proofs.Ascending.{both, ascends_filter, IsPlace-ascending}
+use Rattle.seq_enum.proofs.Ascending.{ascends_filter, IsPlace-ascending}
 use Rattle.seq_enum.proofs.Fields.{within_length}
 use Rattle.std.proofs.Common.{Option, Some, None, IfSome, cond}
 
@@ -41,14 +41,14 @@ pub record Bounds (xs : List ℕ) : Type 0 where
 pub bounds : (xs : List ℕ) → is_pool xs ≡ true → Bounds xs
 unfolding is_pool
 bounds xs h =
-    let c = both (nat_lt 0 (length xs) && nat_le (length xs) 16 && list_all (inside 0 256) xs) (ascends_from 0 xs) h in
-    let b = both (nat_lt 0 (length xs) && nat_le (length xs) 16) (list_all (inside 0 256) xs) c.0 in
-    let a = both (nat_lt 0 (length xs)) (nat_le (length xs) 16) b.0 in
+    let c = and_parts (nat_lt 0 (length xs) && nat_le (length xs) 16 && list_all (inside 0 256) xs) (ascends_from 0 xs) h in
+    let b = and_parts (nat_lt 0 (length xs) && nat_le (length xs) 16) (list_all (inside 0 256) xs) c.0 in
+    let a = and_parts (nat_lt 0 (length xs)) (nat_le (length xs) 16) b.0 in
     record { some = ltb-true 0 (length xs) a.0; few = leb-true (length xs) 16 a.1; bytes = b.1; ascends = c.1 }
 
 all_kept : (p : ℕ → Bool) (xs : List ℕ) → list_all p xs ≡ true → filter p xs ≡ xs
 all_kept p [] h = refl
-all_kept p (x ∷ xs) h = let parts = both (p x) (list_all p xs) h in rw parts.0 (ap (λ ys. x ∷ ys) (all_kept p xs parts.1))
+all_kept p (x ∷ xs) h = let parts = and_parts (p x) (list_all p xs) h in rw parts.0 (ap (λ ys. x ∷ ys) (all_kept p xs parts.1))
 
 -- every number of a pool is a byte
 pub whole_pool : (xs : List ℕ) → is_pool xs ≡ true → length (those_within 0 256 xs) ≡ length xs

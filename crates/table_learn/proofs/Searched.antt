@@ -2,9 +2,8 @@
 use Rattle.std.specs.Global.{Global}
 use Rattle.std.proofs.Common.{◌≡◌, ℕ, ◌+◌, ◌<◌, ◌≤◌, List, [], ◌∷◌, ◌++◌, All, filter, length, map, get_or, take, drop, sym, ◌∙◌, ap, subst, append-nil}
 use Rattle.std.specs.Prelude.{Vec}
-use Rattle.std.proofs.lemmas.List.{take_more, take_all, drop_all, take-append-drop}
+use Rattle.std.proofs.lemmas.List.{take_more, take_all, drop_all, drop_more, take-append-drop}
 use Rattle.std.proofs.lemmas.List.Elements.{All-nil}
-use Rattle.std.proofs.lemmas.Option.{slice_get-get_or}
 use Rattle.thumb_instr.specs.declared.instr.Instr.{Instr}
 use Rattle.thumb_model.specs.Effect.{AreOver}
 use Rattle.window_exec.specs.State.{Seen}
@@ -22,10 +21,6 @@ use Rattle.table_learn.specs.Tried.{IsRightSide}
 use Rattle.table_learn.proofs.Certificates.{nothing_refutes}
 use Rattle.table_learn.proofs.Rounds.{side_over}
 use Rattle.table_learn.proofs.Steps.{search_proves, search_ends}
-use Rattle.cnf_gates.proofs.Text.{drop_from}
-
-split_at : (candidates : List ℕ) (i d : ℕ) → i < length candidates → drop i candidates ≡ get_or candidates i d ∷ drop (i + 1) candidates
-split_at candidates i d low = drop_from candidates i (get_or candidates i d) (slice_get-get_or candidates i d low)
 
 -- the candidate at an index was tried, and the search goes on
 pub search_next : (s : Settings) (w : Window) (old states later : List Seen) (opens more : List Opened) (candidates : List ℕ) (i d : ℕ) → i < length candidates
@@ -33,7 +28,7 @@ pub search_next : (s : Settings) (w : Window) (old states later : List Seen) (op
     → IsSearching s w old states opens (take i candidates) (drop i candidates) → IsSearching s w old later more (take (i + 1) candidates) (drop (i + 1) candidates)
 search_next s w old states later opens more candidates i d low tried g =
     subst (λ ps. IsSearching s w old later more ps (drop (i + 1) candidates)) (sym (take_more candidates i d low))
-    (tried old (take i candidates) (drop (i + 1) candidates) (subst (λ rs. IsSearching s w old states opens (take i candidates) rs) (split_at candidates i d low) g))
+    (tried old (take i candidates) (drop (i + 1) candidates) (subst (λ rs. IsSearching s w old states opens (take i candidates) rs) (drop_more candidates i d low) g))
 
 -- the candidate at an index is the right side
 pub right_found : (s : Settings) (w : Window) (e : Rule) (old states later : List Seen) (opens more : List Opened) (candidates : List ℕ) (i d : ℕ) (right : List Instr × Vec Line Global) → learnt_from e ≡ w → IsWindow s w → IsMask w.mask → i < length candidates
@@ -44,9 +39,9 @@ right_found s w e old states later opens more candidates i d right same window m
     (search_proves s e old states opens (take i candidates) (drop (i + 1) candidates) candidates (get_or candidates i d)
     (subst (IsWindow s) (sym same) window)
     (subst (λ (v : Window). IsMask v.mask) (sym same) mask)
-    (subst (λ (v : Window). IsSearching s v old states opens (take i candidates) (get_or candidates i d ∷ drop (i + 1) candidates)) (sym same) (subst (λ rs. IsSearching s w old states opens (take i candidates) rs) (split_at candidates i d low) g))
+    (subst (λ (v : Window). IsSearching s v old states opens (take i candidates) (get_or candidates i d ∷ drop (i + 1) candidates)) (sym same) (subst (λ rs. IsSearching s w old states opens (take i candidates) rs) (drop_more candidates i d low) g))
     (subst (λ (v : Window). AreCandidates s old v candidates) (sym same) are)
-    (sym (take-append-drop i candidates) ∙ ap (λ rs. take i candidates ++ rs) (split_at candidates i d low))
+    (sym (take-append-drop i candidates) ∙ ap (λ rs. take i candidates ++ rs) (drop_more candidates i d low))
     (subst (λ (v : Window). IsBelow s v.seq v.seq (get_or candidates i d) e.right) (sym same) (subst (λ z. IsBelow s w.seq w.seq (get_or candidates i d) z) (sym r) tried.2.below))
     (o ∙ ap (λ os. filter (is_below s w.seq right.0) os) tried.1 ∙ ap (λ z. filter (is_below s w.seq z) opens) (sym r) ∙ ap (λ (v : Window). filter (is_below s v.seq e.right) opens) (sym same))
     (subst (λ (v : Window). IsRefutation s.budget (sides_formula v.seq e.right v.mask (alphabet_registers s v.seq)) e.proof) (sym same) (subst (λ z. IsRefutation s.budget (sides_formula w.seq z w.mask (alphabet_registers s w.seq)) e.proof) (sym r) (subst (λ ls. IsRefutation s.budget (sides_formula w.seq right.0 w.mask (alphabet_registers s w.seq)) ls) (sym p) tried.2.proof)))

@@ -1,7 +1,7 @@
 -- The tests of `Tellings` decide the propositions that they stand for.
 use Rattle.std.proofs.Common.{◌≡◌, ℕ, ◌↔◌, ◌==◌, ◌||◌, inl, inr, Bool, true, false, not, IsTrue, List, [], ◌∷◌, ◌++◌, refl, sym, ◌∙◌, ap, subst, eq-eqb, eqb-true}
 use Rattle.std.specs.List.{list_any}
-use Rattle.std.proofs.lemmas.Bool.{cases_Bool, or_cases, or_left, or_right, true≢false, or_from as or_neither}
+use Rattle.std.proofs.lemmas.Bool.{cases_Bool, or_cases, or_parts, or_left, or_right, true≢false, or_from as or_neither}
 use Rattle.std.proofs.lemmas.List.Folds.{Any-from_list_any, list_any-from_Any, list_any-append}
 use Rattle.thumb_instr.specs.declared.instr.Instr.{Instr}
 use Rattle.thumb_model.specs.Effect.{Values, one_of, after_all}
@@ -76,12 +76,8 @@ told-append xs ys left right mask = list_any-append (tells_apart left right mask
 pub told_more : (xs ys : List Seen) (left right : List Instr) (mask : ℕ) → told xs left right mask ≡ true → told (xs ++ ys) left right mask ≡ true
 told_more xs ys left right mask h = told-append xs ys left right mask ∙ or_left _ _ h
 
-or_first : (a b : Bool) → (a || b) ≡ false → a ≡ false
-or_first true b h = h
-or_first false b h = refl
-
 pub untold_before : (xs ys : List Seen) (left right : List Instr) (mask : ℕ) → told (xs ++ ys) left right mask ≡ false → told xs left right mask ≡ false
-untold_before xs ys left right mask h = or_first (told xs left right mask) (told ys left right mask) (sym (told-append xs ys left right mask) ∙ h)
+untold_before xs ys left right mask h = (or_parts (told xs left right mask) (told ys left right mask) (sym (told-append xs ys left right mask) ∙ h)).0
 
 pub untold_both : (xs ys : List Seen) (left right : List Instr) (mask : ℕ) → told xs left right mask ≡ false → told ys left right mask ≡ false → told (xs ++ ys) left right mask ≡ false
 untold_both xs ys left right mask p q = told-append xs ys left right mask ∙ or_neither _ _ p q

@@ -6,6 +6,7 @@ use Rattle.thumb_syntax.specs.declared.form.Mnemonic.{Mnemonic}
 use Rattle.std.specs.List.{filter, list_all}
 use Rattle.std.specs.Char.{to_ascii_lowercase}
 use Rattle.std.proofs.lemmas.Bool.{cases_Bool, lt-ltb, le-leb}
+use Rattle.std.proofs.lemmas.List.Elements.{filter_agree}
 use Rattle.ascii_scan.specs.Names.{is_spelled}
 use Rattle.thumb_syntax.specs.Operands.{first_some, or_else, Operand}
 use Rattle.thumb_syntax.specs.Rows.{Row, Shown, read_as, read_all}
@@ -26,15 +27,8 @@ same_place (b ∷ bs) (c ∷ cs) e =
 
 -- ---- the forms that are found
 
-filter_alike : {A : Type 0} → (p q : A → Bool) → ((x : A) → p x ≡ q x) → (xs : List A) → filter p xs ≡ filter q xs
-filter_alike p q same [] = refl
-filter_alike p q same (x ∷ xs) = elim (cases_Bool (q x)) [
-  | inl yes' ↦ rw (same x, yes') (ap (λ ys. x ∷ ys) (filter_alike p q same xs))
-  | inr no' ↦ rw (same x, no') (filter_alike p q same xs)
-]
-
 pub rows_alike : (w n : List ℕ) → is_spelled w n ≡ true → rows_of w ≡ rows_of n
-rows_alike w n e = filter_alike (λ r. is_spelled w r.mnemonic) (λ r. is_spelled n r.mnemonic) (λ r. spelled_alike w n r.mnemonic e) rows
+rows_alike w n e = filter_agree (λ r. is_spelled w r.mnemonic) (λ r. is_spelled n r.mnemonic) (λ r. spelled_alike w n r.mnemonic e) rows
 
 rows_found : (w : List ℕ) (gs : List Group) → map forms_of gs ≡ map named_forms gs → is_named w gs ≡ true → rows_in gs w ≡ rows_of w
 rows_found w [] same e = absurd (true≢false (sym e))
