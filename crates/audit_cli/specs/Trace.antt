@@ -10,7 +10,7 @@ use Rattle.thumb_model.specs.Same.{has_ended, begun}
 use Rattle.thumb_machine.specs.declared.world.End.{End}
 use Rattle.thumb_machine.specs.declared.position.Stage.{Stage}
 use Rattle.thumb_machine.specs.declared.position.Stage.TheVariants as stage
-use Rattle.thumb_machine.specs.Stages.{end_of, next_at, stage_of}
+use Rattle.thumb_machine.specs.Stages.{end_of, next_at, stage_of, stage_word}
 use Rattle.std.specs.List.{flat_map}
 use Rattle.audit_cli.specs.Printed.{printed, and_number, refusal_line, IsUnread, IsUnlaid}
 use Rattle.thumb_model.specs.Layout.{Layable}
@@ -90,14 +90,6 @@ abbrev pub event_lines : List Event → List ℕ
 event_lines es = flat_map event_line es
 
 -- ---- the end of a run ----
-
-abbrev pub stage_word : Stage → List ℕ
-stage_word stage.Going = codes "going"
-stage_word stage.Left = codes "left"
-stage_word stage.Fault = codes "fault"
-stage_word stage.Astray = codes "astray"
-stage_word stage.Fell = codes "fell"
-stage_word stage.Wants = codes "wants"
 
 -- `steps N STAGE`
 abbrev pub steps_line : ℕ → Stage → List ℕ

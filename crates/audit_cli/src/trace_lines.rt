@@ -2,11 +2,11 @@
 ghost use Rattle.std.specs.Prelude.{◌≡◌, ◌++◌, codes, IfOk, OnOk};
 ghost use Rattle.thumb_machine.specs.Outside.{event_of, events_of};
 ghost use Rattle.audit_cli.specs.Printed.{printed, and_number};
-ghost use Rattle.audit_cli.specs.Trace.{word_text as word_text_of, and_word, and_words, event_line, event_lines as event_lines_of, stage_word as stage_word_of, steps_line as steps_line_of};
+ghost use Rattle.audit_cli.specs.Trace.{word_text as word_text_of, and_word, and_words, event_line, event_lines as event_lines_of, steps_line as steps_line_of};
 
 use ascii_scan::hex_digit;
 use std::alloc::{AllocError, Global};
-use thumb_machine::{Event, Stage};
+use thumb_machine::{Event, Stage, stage_word};
 
 /// A word's eight digits, the highest first.
 fn word_text(word: u32) -> [u8; 8]
@@ -138,20 +138,6 @@ fn event_lines(alloc: Global, events: &[Event]) -> Result<Vec<u8>, AllocError>
         lines.extend_from_slice(&line)?;
     }
     Ok(lines)
-}
-
-/// The word for how a run stands.
-fn stage_word(stage: Stage) -> &'static str
-    ensures { result.now ≡ stage_word_of stage }
-{
-    match stage {
-        Stage::Going => "going",
-        Stage::Left => "left",
-        Stage::Fault => "fault",
-        Stage::Astray => "astray",
-        Stage::Fell => "fell",
-        Stage::Wants => "wants",
-    }
 }
 
 /// `steps N STAGE`

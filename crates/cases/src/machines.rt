@@ -6,7 +6,7 @@ use indexmap::IndexMap;
 use label_layout::layout;
 use listing_parser::Listing;
 use std::alloc::Global;
-use thumb_machine::{Answer, Answers, Bytes, Event, Machine, Naming, Stage, State};
+use thumb_machine::{Answer, Answers, Bytes, Event, Machine, Naming, State, stage_word};
 
 /// Whether the naming that a layout from a base gives fits the listing.
 fn is_named(alloc: Global, listing: &Listing, base: u32) -> Option<bool> {
@@ -77,17 +77,6 @@ fn start(alloc: Global) -> State {
     }
 }
 
-fn name_of(stage: Stage) -> &'static str {
-    match stage {
-        Stage::Going => "going",
-        Stage::Left => "left",
-        Stage::Fault => "fault",
-        Stage::Astray => "astray",
-        Stage::Fell => "fell",
-        Stage::Wants => "wants",
-    }
-}
-
 /// Adds a word and numbers.
 fn add_all(word: &str, numbers: &[u32], sheet: &mut Sheet) -> Option<()> {
     sheet.word(word)?;
@@ -125,7 +114,7 @@ fn add_event(event: &Event, sheet: &mut Sheet) -> Option<()> {
 fn add_step(machine: &mut Machine, answers: &mut Answers, sheet: &mut Sheet) -> Option<()> {
     let before = machine.events().len();
     let stage = machine.step(answers).ok()?;
-    sheet.word(name_of(stage))?;
+    sheet.word(stage_word(stage))?;
     for event in machine.events().iter().skip(before) {
         add_event(event, sheet)?;
     }

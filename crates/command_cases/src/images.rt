@@ -2,7 +2,7 @@
 use ascii_scan::number;
 use std::alloc::{AllocError, Global};
 use thumb_assembler::ImageMachine;
-use thumb_machine::{Answer, Answers, Bytes, Event, Stage, State};
+use thumb_machine::{Answer, Answers, Bytes, Event, Stage, State, stage_word};
 
 /// The state in which an image starts: all zero but sp, 0x20001000, and lr, 0xffffffff.
 fn start(alloc: Global) -> State {
@@ -28,18 +28,6 @@ fn answers(alloc: Global, words: &[String]) -> Option<Answers> {
         list.push(answer).ok()?;
     }
     Some(Answers::new(list))
-}
-
-/// The word for a stage.
-fn stage_word(stage: Stage) -> &'static str {
-    match stage {
-        Stage::Going => "going",
-        Stage::Left => "left",
-        Stage::Fault => "fault",
-        Stage::Astray => "astray",
-        Stage::Fell => "fell",
-        Stage::Wants => "wants",
-    }
 }
 
 /// The word for an event.

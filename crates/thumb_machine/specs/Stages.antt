@@ -1,5 +1,5 @@
--- How a step goes on, and how a run ends.
-use Rattle.std.specs.Prelude.{ℕ, Option, Some, None, slice_get}
+-- How a step goes on, how a run ends, and the words for how it stands.
+use Rattle.std.specs.Prelude.{ℕ, List, Option, Some, None, codes, slice_get}
 use Rattle.thumb_machine.specs.declared.world.End.{End}
 use Rattle.thumb_machine.specs.declared.world.End.TheVariants as end
 use Rattle.thumb_machine.specs.declared.position.Stage.{Stage}
@@ -37,3 +37,12 @@ stage_of end.Left = stage.Left
 stage_of end.Fault = stage.Fault
 stage_of end.Astray = stage.Astray
 stage_of end.Fell = stage.Fell
+
+-- the word for how a run stands
+abbrev pub stage_word : Stage → List ℕ
+stage_word stage.Going = codes "going"
+stage_word stage.Left = codes "left"
+stage_word stage.Fault = codes "fault"
+stage_word stage.Astray = codes "astray"
+stage_word stage.Fell = codes "fell"
+stage_word stage.Wants = codes "wants"
