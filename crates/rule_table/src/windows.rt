@@ -75,12 +75,13 @@ fn has(seen: &[Low], register: Low) -> bool
 
 /// Appends a register to those seen, if it isn't among them; false if there is no room.
 fn see(seen: &mut ArrayVec<Low, 4>, register: Low) -> bool
+    requires { length seen.old.items ≤ 4 }
     ensures yes { OnTrue result (numbers_of seen.new.items ≡ with_first (numbers_of seen.old.items) register.number) }
     ensures room { OnTrue result (length seen.new.items ≤ 4) }
     ensures no { OnFalse result (4 < length (with_first (numbers_of seen.old.items) register.number)) }
 {
     if has(seen, register) {
-        seen.len() <= 4
+        true
     } else {
         seen.try_push(register).is_ok()
     }
