@@ -375,24 +375,10 @@ impl Draft {
                 self.part = Part::Opening;
                 Ok(true)
             }
-            Item::Entry => {
+            Item::Entry | Item::Family { .. } | Item::End => {
                 self.keep_entry(alloc)?;
-                self.begin();
-                Ok(true)
-            }
-            Item::Family {
-                entry,
-                number,
-                low,
-                high,
-            } => {
-                self.keep_entry(alloc)?;
-                Ok(self.raise(alloc, entry, number, low, high))
-            }
-            Item::End => {
-                self.keep_entry(alloc)?;
-                self.part = Part::Done;
-                Ok(true)
+                self.part = Part::Stated;
+                self.take_stated(alloc, item)
             }
             _ => Ok(false),
         }
@@ -417,27 +403,10 @@ impl Draft {
                     Ok(false)
                 }
             }
-            Item::Entry => {
+            Item::Entry | Item::Family { .. } | Item::End => {
                 self.keep_open(alloc)?;
-                self.keep_entry(alloc)?;
-                self.begin();
-                Ok(true)
-            }
-            Item::Family {
-                entry,
-                number,
-                low,
-                high,
-            } => {
-                self.keep_open(alloc)?;
-                self.keep_entry(alloc)?;
-                Ok(self.raise(alloc, entry, number, low, high))
-            }
-            Item::End => {
-                self.keep_open(alloc)?;
-                self.keep_entry(alloc)?;
-                self.part = Part::Done;
-                Ok(true)
+                self.part = Part::Proved;
+                self.take_proved(alloc, item)
             }
             _ => Ok(false),
         }
@@ -467,19 +436,10 @@ impl Draft {
                 self.family.proof.push(line)?;
                 Ok(true)
             }
-            Item::Family {
-                entry,
-                number,
-                low,
-                high,
-            } => {
+            Item::Family { .. } | Item::End => {
                 self.keep_family(alloc)?;
-                Ok(self.raise(alloc, entry, number, low, high))
-            }
-            Item::End => {
-                self.keep_family(alloc)?;
-                self.part = Part::Done;
-                Ok(true)
+                self.part = Part::Stated;
+                self.take_stated(alloc, item)
             }
             _ => Ok(false),
         }
