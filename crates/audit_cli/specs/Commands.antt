@@ -1,4 +1,5 @@
 -- The commands' structs of the code, as the arguments of the definitions.
+use Rattle.std.specs.Prelude.{None}
 use Rattle.audit_cli.specs.declared.steps.Counts.{Counts as Counted}
 use Rattle.audit_cli.specs.declared.rewrite.Rewrite.{Rewrite}
 use Rattle.audit_cli.specs.Rewrite.{Counts, Destination}
@@ -32,7 +33,7 @@ learn_arguments_of l = record { out = l.out.now; settings = settings_for l }
 
 -- before the costs are read, the version alone says that there will be some
 abbrev pub learn_arguments_by_costs : LearnByCosts → LearnArguments
-learn_arguments_by_costs l = record { out = l.learn.out.now; settings = record (settings_for l.learn) { version = 4 } }
+learn_arguments_by_costs l = record { out = l.out.now; settings = record (learnt_by l.options.now None) { version = 4 } }
 
 abbrev pub trace_arguments_of : Trace → TraceArguments
 trace_arguments_of t = record { label = t.label.now; most = t.most }

@@ -4,7 +4,8 @@ ghost use Rattle.command_runs.specs.Outcomes.{outcome_view};
 ghost use Rattle.rule_table.specs.Table.{IsTable};
 ghost use Rattle.rule_table.specs.Views.{table_of};
 ghost use Rattle.table_learn.specs.Given.{settings_of, AreInLimits};
-ghost use Rattle.table_learn.specs.Learnt.{text_length, text_limit};
+ghost use Rattle.ascii_scan.specs.Lines.{text_limit};
+ghost use Rattle.table_learn.specs.Learnt.{text_length};
 ghost use Rattle.audit_cli.specs.Learn.{Learns, LearnsByCosts, LinesLearn, kept_table, priced};
 ghost use Rattle.audit_cli.specs.Commands.{learn_arguments_of, learn_arguments_by_costs, settings_for};
 
@@ -19,7 +20,7 @@ use std::alloc::{AllocError, Global};
 use step_ledger::{Ledger, Steps};
 use table_learn::Settings;
 
-/// The command `learn`, with the name that the table is kept under, the options, and the costs, which are present once their text is read.
+/// The command `learn`, with the name that the table is kept under, the options, and the costs, if there are any.
 #[derive(Drop)]
 pub(crate) struct Learn<'a> {
     pub(crate) out: &'a str,
@@ -27,10 +28,11 @@ pub(crate) struct Learn<'a> {
     pub(crate) costs: Option<Costs>,
 }
 
-/// The command `learn --costs`: `learn.costs` isn't used, since the costs are known only once their text is read.
+/// The command `learn --costs`, with the name that the table is kept under, and the options. The costs are known only once their text is read.
 #[derive(Drop)]
 pub(crate) struct LearnByCosts<'a> {
-    pub(crate) learn: Learn<'a>,
+    pub(crate) out: &'a str,
+    pub(crate) options: &'a LearnOptions,
 }
 
 /// The settings of the learner.
@@ -88,8 +90,8 @@ fn with_costs<'a>(to: &LearnByCosts<'a>, costs: Costs) -> Learn<'a>
     ensures { learn_arguments_of result ≡ priced costs (learn_arguments_by_costs to.now) }
 {
     Learn {
-        out: to.learn.out,
-        options: to.learn.options,
+        out: to.out,
+        options: to.options,
         costs: Some(costs),
     }
 }

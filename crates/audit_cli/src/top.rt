@@ -59,18 +59,19 @@ fn run_command<S: Store, O: Sink, L: Ledger>(
             cost_text,
             options,
         } => {
-            let learn = Learn {
-                out: out.as_str(),
-                options,
-                costs: None,
-            };
+            let out = out.as_str();
             match cost_text {
                 None => {
+                    let learn = Learn {
+                        out,
+                        options,
+                        costs: None,
+                    };
                     let names = [listing.as_str()];
                     return run(alloc, &learn, &names, store, sink, steps);
                 }
                 Some(cost_text) => {
-                    let learn = LearnByCosts { learn };
+                    let learn = LearnByCosts { out, options };
                     let names = [listing.as_str(), cost_text.as_str()];
                     return run(alloc, &learn, &names, store, sink, steps);
                 }
