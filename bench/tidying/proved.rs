@@ -2,7 +2,7 @@
 //! tidying and printing, how many changes there were, and how many instructions there were before and after; or why it is refused. In Rattle; tidying.sh builds it.
 #![tactic(auto)]
 
-use flow_tidy::{TidiedListing, tidy};
+use flow_tidy::{Tidy, tidy};
 use listing_parser::{ListingLine, Statement, parse, print};
 use std::io::{Read, Write};
 use std::time::Instant;
@@ -35,7 +35,7 @@ fn tidied<L: Ledger>(rt: &HostRuntime, text: &[u8], steps: &mut Steps<L>) -> any
     let start = Instant::now(rt)?;
     match tidy(alloc, listing, 0, steps) {
         Err(error) => eprintln!(rt; "refused {error}")?,
-        Ok(TidiedListing { listing, changes }) => {
+        Ok(Tidy { listing, changes }) => {
             let tidying = start.elapsed(rt)?.as_micros();
             let printed = print(alloc, &listing)?;
             let rest = start.elapsed(rt)?.as_micros();

@@ -2,13 +2,13 @@
 use crate::listings::{add_kind, listing_of};
 use crate::printing::Answer;
 use crate::reading::Arguments;
-use flow_tidy::{TidiedListing, TidyError, tidy};
+use flow_tidy::{Tidy, TidyError, tidy};
 use listing_parser::print;
 use std::alloc::Global;
 use step_ledger::{Counted, Steps};
 
 /// Adds how many changes were made, and the text of what is left.
-fn add_tidied(alloc: Global, tidied: &TidiedListing, answer: &mut Answer) -> Option<()> {
+fn add_tidied(alloc: Global, tidied: &Tidy, answer: &mut Answer) -> Option<()> {
     answer.number(i64::try_from(tidied.changes).ok()?)?;
     answer.bytes(&print(alloc, &tidied.listing).ok()?)
 }

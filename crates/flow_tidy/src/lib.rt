@@ -20,5 +20,5 @@ mod tidying;
 mod widest_layout;
 
 pub use errors::TidyError;
-pub use tidied::TidiedListing;
+pub use tidied::Tidy;
 pub use tidying::tidy;

@@ -3,7 +3,7 @@ use listing_parser::Listing;
 
 /// A listing that was tidied, and how many changes were made.
 #[derive(Drop)]
-pub struct TidiedListing {
+pub struct Tidy {
     pub listing: Listing,
     pub changes: u64,
 }

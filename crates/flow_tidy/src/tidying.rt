@@ -20,7 +20,7 @@ use crate::quick::{first_change as first_sure, is_sure};
 use crate::reached_places::ReachedPlaces;
 use crate::searching::first_change;
 use crate::settling::{laid_out, settle};
-use crate::tidied::TidiedListing;
+use crate::tidied::Tidy;
 use crate::widest_layout::{WidestLayout, widest_layout_of};
 use code_flow::{Reached, reached};
 use label_layout::{Layout, layout};
@@ -35,7 +35,7 @@ fn tidied(
     mut listing: Listing,
     mut laid: Layout,
     mut reached: ReachedPlaces,
-) -> Result<TidiedListing, Memory>
+) -> Result<Tidy, Memory>
     requires laid { AreAddresses listing laid }
     requires layable { Layable laid.base listing }
     requires reached { AreMarks (code_of listing) reached }
@@ -49,16 +49,11 @@ fn tidied(
         listing = settle(alloc, &listing, found, &mut laid, &mut reached, &mut due)?;
         changes += 1;
     }
-    Ok(TidiedListing { listing, changes })
+    Ok(Tidy { listing, changes })
 }
 
 /// What is left of the lines of a draft, once it isn't sure by places whether a branch may be redirected: from there on each change makes a listing.
-fn tidied_on(
-    alloc: Global,
-    draft: Draft,
-    base: u32,
-    reached: &Reached,
-) -> Result<TidiedListing, Memory>
+fn tidied_on(alloc: Global, draft: Draft, base: u32, reached: &Reached) -> Result<Tidy, Memory>
     requires layable { Layable base (lines_now draft) }
     requires all { length reached.now ≡ length draft.gone }
     requires reached { AreMarks (code_of (lines_now draft)) (left draft.gone reached.now) }
@@ -78,7 +73,7 @@ fn tidied_by_places(
     widest: &WidestLayout,
     mut due: DuePlaces,
     reached: &Reached,
-) -> Result<TidiedListing, Memory>
+) -> Result<Tidy, Memory>
     requires sure { IsSure widest.now.base listing }
     requires widest { IsWidestLayout listing widest.now }
     requires due { AreDue (code_of listing) due }
@@ -95,19 +90,14 @@ fn tidied_by_places(
             PlaceOutcome::Made => count += 1,
             PlaceOutcome::Nothing => {
                 let listing = draft.into_listing(alloc)?;
-                return Ok(TidiedListing {
+                return Ok(Tidy {
                     listing,
                     changes: count,
                 });
             }
             PlaceOutcome::Unsure => {
-                let TidiedListing { listing, changes } = tidied_on(
-                    alloc,
-                    draft,
-                    widest.base,
-                    reached,
-                )?;
-                return Ok(TidiedListing {
+                let Tidy { listing, changes } = tidied_on(alloc, draft, widest.base, reached)?;
+                return Ok(Tidy {
                     listing,
                     changes: count + changes,
                 });
@@ -126,7 +116,7 @@ pub fn tidy<L: Ledger>(
     listing: Listing,
     base: u32,
     steps: &mut Steps<L>,
-) -> Result<TidiedListing, TidyError>
+) -> Result<Tidy, TidyError>
     ensures tidied { IfOk result (λ new. AreTidiedBy base listing new.listing new.changes) }
     ensures same { IfOk result (λ new. HasLiterals (code_of listing) → Same (code_of listing) (code_of new.listing)) }
     ensures verdict { MatchResult result (λ _. Layable base listing) (IsRefusal base listing) }
