@@ -1,7 +1,7 @@
 -- The bounds of a pool.
 use Rattle.std.proofs.Common.{◌≡◌, ℕ, suc, ◌<◌, ◌≤◌, Bool, true, false, ◌&&◌, nat_le, nat_lt, List, [], ◌∷◌, length, refl, ap, ◌∙◌, arith, lt-ltb, le-leb, leb-true, ltb-true, Fits, w8, get_or, filter}
 use Rattle.std.specs.List.{list_all}
-use Rattle.std.proofs.lemmas.Bool.{lt-leb}
+use Rattle.std.proofs.lemmas.Bool.{and_parts, lt-leb}
 use Rattle.std.proofs.Math.Facts.{Fits-lt-pow}
 use Rattle.seq_enum.specs.Alphabet.{ascends_from, those_within, IsPlace, inside, is_pool}
 use Rattle.seq_enum.specs.Places.{place_of}
