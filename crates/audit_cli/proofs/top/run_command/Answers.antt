@@ -46,7 +46,7 @@ returns-in-None-clause-runs g c =
     let k = c.in-Learn in
     let settings : Settings =
     record (learnt_by k.options None) { version = 2 } in
-    let out : c.as_str-in-Learn.result.now ≡ string_bytes k.out = c.as_str-in-Learn.ensures.value in
+    let out : c.as_str-out.result.now ≡ string_bytes k.out = c.as_str-out.ensures.value in
     let listing : c.as_str-in-None.result.now ≡ string_bytes k.listing = c.as_str-in-None.ensures.value in
     let is = k.is ∙ ap (λ costs. Learn k.listing k.out costs k.options) c.in-None.is in
     asked _ (Learn k.listing k.out None k.options) c.args.command.now
@@ -58,7 +58,7 @@ returns-in-Some-clause-runs g c =
     let k = c.in-Learn in
     let settings : Settings =
     record (learnt_by k.options None) { version = 4 } in
-    let out : c.as_str-in-Learn.result.now ≡ string_bytes k.out = c.as_str-in-Learn.ensures.value in
+    let out : c.as_str-out.result.now ≡ string_bytes k.out = c.as_str-out.ensures.value in
     let listing : c.as_str-in-Some.result.now ≡ string_bytes k.listing = c.as_str-in-Some.ensures.value in
     let cost_text : c.as_str-in-Some-2.result.now ≡ string_bytes c.in-Some.cost_text = c.as_str-in-Some-2.ensures.value in
     let is = k.is ∙ ap (λ name. Learn k.listing k.out name k.options) c.in-Some.is in
