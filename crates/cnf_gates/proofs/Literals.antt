@@ -46,9 +46,9 @@ AreLiteralsOf-push n zs z h k = AreLiteralsOf-append n zs (z ∷ []) h (k, tt)
 pub AreClausesOf-push : (n : ℕ) (cs : List (List ℤ)) (c : List ℤ) → AreClausesOf n cs → AreLiteralsOf n c → AreClausesOf n (cs ++ c ∷ [])
 AreClausesOf-push n cs c h k = AreClausesOf-append n cs (c ∷ []) h (k, tt)
 
--- the numbers of the literals from a place on
-pub numbers_from : (ls : List ℕ) (i l : ℕ) → i < length ls → l ≡ get_or ls i l → map number_of (drop i ls) ≡ number_of l ∷ map number_of (drop (i + 1) ls)
-numbers_from ls i l h e = ap (map number_of) (drop-cons ls i l h) ∙ ap (λ x. number_of x ∷ map number_of (drop (suc i) ls)) (sym e) ∙ ap (λ k. number_of l ∷ map number_of (drop k ls)) (let one : suc i ≡ i + 1 = omega arith in one)
+-- what is made of the elements from a place on
+pub map_from : {A B : Type 0} (f : A → B) (xs : List A) (i : ℕ) (x : A) → i < length xs → x ≡ get_or xs i x → map f (drop i xs) ≡ f x ∷ map f (drop (i + 1) xs)
+map_from f xs i x h e = ap (map f) (drop-cons xs i x h) ∙ ap (λ y. f y ∷ map f (drop (suc i) xs)) (sym e) ∙ ap (λ k. f x ∷ map f (drop k xs)) (let one : suc i ≡ i + 1 = omega arith in one)
 
 -- a literal of n variables is one of more variables
 pub IsLiteralOf-more : (n k : ℕ) (z : ℤ) → n ≤ k → IsLiteralOf n z → IsLiteralOf k z

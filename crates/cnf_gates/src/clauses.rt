@@ -12,30 +12,38 @@ pub fn clauses_of(alloc: Global, gate: &Gate, output: Variable) -> Result<Vec<Ve
     ensures clauses { IfOk result (λ v. map (λ c. c.items) v.items ≡ clauses_of gate.now output) }
     ensures literals { IfOk result (λ v. AreClauses (map (λ c. c.items) v.items)) }
 {
-    let yes = &Signal::positive(output);
-    let no = &yes.contrary();
-    match gate {
-        Gate::And(a, b) => {
-            let first = numbers(alloc, &[*no, *a])?;
-            let second = numbers(alloc, &[*no, *b])?;
-            let third = numbers(alloc, &[*yes, a.contrary(), b.contrary()])?;
-            Ok(vec![in alloc; first, second, third]?)
-        }
+    let yes = Signal::positive(output);
+    let no = yes.contrary();
+    match *gate {
+        Gate::And(a, b) => all_numbers(
+            alloc,
+            &[&[no, a], &[no, b], &[yes, a.contrary(), b.contrary()]],
+        ),
         Gate::Xor(x, y) => {
-            let (x, y) = (&Signal::positive(*x), &Signal::positive(*y));
-            let first = numbers(alloc, &[*no, *x, *y])?;
-            let second = numbers(alloc, &[*no, x.contrary(), y.contrary()])?;
-            let third = numbers(alloc, &[*yes, x.contrary(), *y])?;
-            let fourth = numbers(alloc, &[*yes, *x, y.contrary()])?;
-            Ok(vec![in alloc; first, second, third, fourth]?)
+            let (x, y) = (Signal::positive(x), Signal::positive(y));
+            let (not_x, not_y) = (x.contrary(), y.contrary());
+            all_numbers(
+                alloc,
+                &[
+                    &[no, x, y],
+                    &[no, not_x, not_y],
+                    &[yes, not_x, y],
+                    &[yes, x, not_y],
+                ],
+            )
         }
         Gate::Ite(c, t, e) => {
-            let c = &Signal::positive(*c);
-            let first = numbers(alloc, &[*no, c.contrary(), *t])?;
-            let second = numbers(alloc, &[*no, *c, *e])?;
-            let third = numbers(alloc, &[*yes, c.contrary(), t.contrary()])?;
-            let fourth = numbers(alloc, &[*yes, *c, e.contrary()])?;
-            Ok(vec![in alloc; first, second, third, fourth]?)
+            let c = Signal::positive(c);
+            let not_c = c.contrary();
+            all_numbers(
+                alloc,
+                &[
+                    &[no, not_c, t],
+                    &[no, c, e],
+                    &[yes, not_c, t.contrary()],
+                    &[yes, c, e.contrary()],
+                ],
+            )
         }
     }
 }
@@ -112,6 +120,18 @@ fn numbers(alloc: Global, literals: &[Signal]) -> Result<Vec<i32>, AllocError>
         numbers.push(literal.number())?;
     }
     Ok(numbers)
+}
+
+/// The DIMACS numbers of the literals of each clause.
+fn all_numbers(alloc: Global, clauses: &[&[Signal]]) -> Result<Vec<Vec<i32>>, AllocError>
+    ensures numbers { IfOk result (λ v. map (λ c. c.items) v.items ≡ map (λ c. map number_of c.now) clauses.now) }
+    ensures literals { IfOk result (λ v. AreClauses (map (λ c. c.items) v.items)) }
+{
+    let mut all = Vec::with_capacity(alloc, clauses.len())?;
+    for clause in clauses {
+        all.push(numbers(alloc, clause)?)?;
+    }
+    Ok(all)
 }
 
 /// The clause that one of the bits is true, each literal once; None where it is always true.
