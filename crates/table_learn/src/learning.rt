@@ -1,8 +1,9 @@
 //! The learner's one call: it learns an entry for each window in turn, and keeps the states that the solver finds, until the table's text is too long.
-ghost use Rattle.std.specs.Prelude.{◌≡◌, ◌<◌, ◌≤◌, ◌+◌, ◌-◌, ◌∷◌, ◌++◌, [], List, IfErr, IfOk, drop, length, map};
+ghost use Rattle.std.specs.Prelude.{◌≡◌, ◌<◌, ◌≤◌, ◌+◌, ◌-◌, ◌*◌, ◌∷◌, ◌++◌, [], List, IfErr, IfOk, OnOk, drop, length, map};
 ghost use Rattle.ascii_scan.specs.Lines.{text_limit};
 ghost use Rattle.rule_table.specs.Table.{IsTable};
 ghost use Rattle.window_exec.specs.State.{seen};
+ghost use Rattle.rule_table.specs.Text.{rule_items};
 ghost use Rattle.rule_table.specs.Views.{rule_of, table_of};
 ghost use Rattle.table_audit.specs.Shorter.{alphabet_registers};
 ghost use Rattle.table_audit.specs.Acceptance.{widest, width_of};
@@ -10,6 +11,7 @@ ghost use Rattle.table_learn.specs.Learnt.{Window as Model, Learnt, text_length}
 ghost use Rattle.table_learn.specs.Given.{settings_of, window_of, AreInLimits, AreWindows, IsWindow};
 ghost use Rattle.table_learn.specs.Found.{window_in};
 ghost use Rattle.table_learn.specs.Failing.{FailsAs, SpendsAs, learn_cost};
+ghost use Rattle.table_learn.specs.Lengths.{lines_length};
 ghost use Rattle.table_learn.specs.Progress.{HasLearnt, table_with, search_cost, drop_cost};
 
 use crate::dropping::drop_all_told;
@@ -23,6 +25,7 @@ use ascii_scan::TEXT_LIMIT;
 use fingerprints::{Tables, seeded};
 use rule_table::{Entry, Table, write_table};
 use std::alloc::{AllocError, Global};
+use std::mem;
 use step_ledger::{Ledger, Steps};
 use table_audit::{WIDEST, width, with_scratch};
 use thumb_instr::{Mask, Seq};
@@ -77,50 +80,53 @@ fn behind(states: &[WState], count: usize) -> &[WState]
     rest
 }
 
-/// Learns one more window.
+/// How many bytes the lines of an entry and of `states` states have.
+fn lines_of(alloc: Global, entry: &Entry, states: u64) -> Result<u64, AllocError>
+    ensures { IfOk result (λ n. n ≡ lines_length (rule_items (rule_of entry.now)) + states * 44) }
+{
+    plus(entry_length(alloc, entry)?, times(states, STATE_LINE)?)
+}
+
+/// Learns one more window. A learner for which memory was refused is of no use.
 fn learn_window<L: Ledger>(
     alloc: Global,
     settings: &Settings,
-    learner: Learner,
+    learner: &mut Learner,
     window: Window,
     steps: &mut Steps<L>,
-) -> Result<Learner, AllocError>
+) -> Result<(), AllocError>
     requires some { 0 < window.k }
     requires few { window.k ≤ 4 }
     requires counted { window.k ≡ alphabet_registers (settings_of settings.now) window.left }
     requires limits { AreInLimits (settings_of settings.now) }
     requires window { IsWindow (settings_of settings.now) (window_in window) }
     requires narrow { width_of (settings_of settings.now) ≤ widest }
-    requires before { (windows : List Model) × HasLearnt (settings_of settings.now) windows learner }
-    ensures learnt { (windows : List Model) → HasLearnt (settings_of settings.now) windows learner → IfOk result (HasLearnt (settings_of settings.now) (windows ++ window_in window ∷ [])) }
-    ensures grown { IfOk result (λ l. length learner.states.items ≤ length l.states.items) }
-    ensures cost { IfOk result (λ l. steps.new ≤ steps.old + search_cost (settings_of settings.now) (length l.states.items)
-        + drop_cost (settings_of settings.now) (length l.entries.items) (length l.states.items - length learner.states.items)) }
+    requires before { (windows : List Model) × HasLearnt (settings_of settings.now) windows learner.old }
+    ensures learnt { (windows : List Model) → HasLearnt (settings_of settings.now) windows learner.old → OnOk result (HasLearnt (settings_of settings.now) (windows ++ window_in window ∷ []) learner.new) }
+    ensures grown { OnOk result (length learner.old.states.items ≤ length learner.new.states.items) }
+    ensures cost { OnOk result (steps.new ≤ steps.old + search_cost (settings_of settings.now) (length learner.new.states.items)
+        + drop_cost (settings_of settings.now) (length learner.new.entries.items) (length learner.new.states.items - length learner.old.states.items)) }
 {
-    let Learner {
-        mut states,
-        mut entries,
-        bytes,
-        mut tables,
-    } = learner;
-    let before = states.len();
-    let list = candidates(alloc, &mut tables, &window, settings, &states, steps)?;
-    let entry = search(alloc, settings, window, &list, &mut states, steps)?;
-    tables.put(list.outcomes);
-    let found = behind(&states, before);
-    let lines = plus(
-        entry_length(alloc, &entry)?,
-        times(found.len() as u64, STATE_LINE)?,
+    let before = learner.states.len();
+    let list = candidates(
+        alloc,
+        &mut learner.tables,
+        &window,
+        settings,
+        &learner.states,
+        steps,
     )?;
-    let whole = plus(bytes, lines)?;
-    entries.push(entry)?;
+    let entry = search(alloc, settings, window, &list, &mut learner.states, steps)?;
+    learner.tables.put(list.outcomes);
+    let found = behind(&learner.states, before);
+    let lines = lines_of(alloc, &entry, found.len() as u64)?;
+    let whole = plus(learner.bytes, lines)?;
+    learner.entries.push(entry)?;
+    let entries = mem::replace(&mut learner.entries, Vec::new(alloc));
     let (entries, freed) = drop_all_told(alloc, settings, entries, found, steps)?;
-    Ok(Learner {
-        states,
-        entries,
-        bytes: whole - freed,
-        tables,
-    })
+    learner.entries = entries;
+    learner.bytes = whole - freed;
+    Ok(())
 }
 
 /// Learns a table from windows, each with the items that may be live after it.
@@ -158,7 +164,7 @@ pub fn learn<L: Ledger>(
     let (settings, mut learner) = begin(alloc, settings)?;
     for (left, mask) in &windows {
         let window = Window::new(left, *mask, &settings);
-        learner = learn_window(alloc, &settings, learner, window, steps)?;
+        learn_window(alloc, &settings, &mut learner, window, steps)?;
         if learner.bytes > TEXT_LIMIT as u64 {
             let bytes = learner.bytes;
             let table = table_of(alloc, settings, learner.states, learner.entries);

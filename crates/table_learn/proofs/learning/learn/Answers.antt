@@ -36,13 +36,13 @@ loop-left-preserved g c =
     let ws = c.args.windows.items in
     let low : c.loop-left.left-index < length c.args.windows.items = subst (λ (vs : Pairs). c.loop-left.left-index < length vs) c.deref-left-items.ensures.value c.loop-left-test.true in
     let item : c.loop-left-item.result ≡ get_or c.args.windows.items c.loop-left.left-index c.loop-left-item.result = subst (λ (vs : Pairs). c.loop-left-item.result ≡ get_or vs c.loop-left.left-index c.loop-left-item.result) c.deref-left-items.ensures.value c.loop-left-item.is in
-    let next : HasLearnt (settings_of c.args.settings) (map window_of (take (c.loop-left.left-index + 1) c.args.windows.items)) c.in_ok-learner.learner =
-    learnt_next (settings_of c.args.settings) (settings_of c.in_ok-settings.settings) ws c.loop-left.left-index c.loop-left-item.result c.new-window.result c.loop-left.learner c.in_ok-learner.learner c.in_ok-settings.ensures.same low item
-    (same_window c.new-window.result c.loop-left-item.result c.new-window.ensures.left c.new-window.ensures.mask) c.loop-left.invariant.learnt c.in_ok-learner.ensures.learnt in
+    let next : HasLearnt (settings_of c.args.settings) (map window_of (take (c.loop-left.left-index + 1) c.args.windows.items)) c.learn_window.new.learner =
+    learnt_next (settings_of c.args.settings) (settings_of c.in_ok-settings.settings) ws c.loop-left.left-index c.loop-left-item.result c.new-window.result c.loop-left.learner c.learn_window.new.learner c.in_ok-settings.ensures.same low item
+    (same_window c.new-window.result c.loop-left-item.result c.new-window.ensures.left c.new-window.ensures.mask) c.loop-left.invariant.learnt c.in_ok-learn_window.ensures.learnt in
     record {
       learnt = next;
       short = c.if-learner.false;
-      cost = cost_next (settings_of c.args.settings) (settings_of c.in_ok-settings.settings) ws c.loop-left.left-index c.loop-left.learner c.in_ok-learner.learner c.loop-left.steps c.learn_window.new.steps c.args.steps.now c.in_ok-settings.ensures.same low c.loop-left.invariant.learnt next c.in_ok-learner.ensures.grown c.loop-left.invariant.cost c.in_ok-learner.ensures.cost;
+      cost = cost_next (settings_of c.args.settings) (settings_of c.in_ok-settings.settings) ws c.loop-left.left-index c.loop-left.learner c.learn_window.new.learner c.loop-left.steps c.learn_window.new.steps c.args.steps.now c.in_ok-settings.ensures.same low c.loop-left.invariant.learnt next c.in_ok-learn_window.ensures.grown c.loop-left.invariant.cost c.in_ok-learn_window.ensures.cost;
     }
 
 pub returns-then-learner-clause-fails : goal.returns-then-learner-clause-fails
@@ -50,24 +50,24 @@ returns-then-learner-clause-fails g c =
     let ws = c.args.windows.items in
     let low : c.loop-left.left-index < length c.args.windows.items = subst (λ (vs : Pairs). c.loop-left.left-index < length vs) c.deref-left-items.ensures.value c.loop-left-test.true in
     let item : c.loop-left-item.result ≡ get_or c.args.windows.items c.loop-left.left-index c.loop-left-item.result = subst (λ (vs : Pairs). c.loop-left-item.result ≡ get_or vs c.loop-left.left-index c.loop-left-item.result) c.deref-left-items.ensures.value c.loop-left-item.is in
-    let next : HasLearnt (settings_of c.args.settings) (map window_of (take (c.loop-left.left-index + 1) c.args.windows.items)) c.in_ok-learner.learner =
-    learnt_next (settings_of c.args.settings) (settings_of c.in_ok-settings.settings) ws c.loop-left.left-index c.loop-left-item.result c.new-window.result c.loop-left.learner c.in_ok-learner.learner c.in_ok-settings.ensures.same low item
-    (same_window c.new-window.result c.loop-left-item.result c.new-window.ensures.left c.new-window.ensures.mask) c.loop-left.invariant.learnt c.in_ok-learner.ensures.learnt in
+    let next : HasLearnt (settings_of c.args.settings) (map window_of (take (c.loop-left.left-index + 1) c.args.windows.items)) c.learn_window.new.learner =
+    learnt_next (settings_of c.args.settings) (settings_of c.in_ok-settings.settings) ws c.loop-left.left-index c.loop-left-item.result c.new-window.result c.loop-left.learner c.learn_window.new.learner c.in_ok-settings.ensures.same low item
+    (same_window c.new-window.result c.loop-left-item.result c.new-window.ensures.left c.new-window.ensures.mask) c.loop-left.invariant.learnt c.in_ok-learn_window.ensures.learnt in
     let width : c.width-width.result ≡ width_of (settings_of c.args.settings) =
     c.width-width.ensures ∙ ap (λ (k : ℕ). length (sequences_below k c.args.settings.pool (lengths_below c.args.settings.costs c.args.settings.left))) c.with_scratch-registers.ensures in
     let narrow : width_of (settings_of c.args.settings) ≤ 5000000 = omega (arith, width, c.if-width-gt-WIDEST.false) in
-    is_full (settings_of c.args.settings) (settings_of c.in_ok-settings.settings) ws (c.loop-left.left-index + 1) c.in_ok-learner.learner _ c.in_ok-settings.ensures.same c.requires.settings.header narrow (omega arith) (omega (arith, low)) next c.table_of-table.ensures c.if-learner.true
+    is_full (settings_of c.args.settings) (settings_of c.in_ok-settings.settings) ws (c.loop-left.left-index + 1) c.learn_window.new.learner _ c.in_ok-settings.ensures.same c.requires.settings.header narrow (omega arith) (omega (arith, low)) next c.table_of-table.ensures c.if-learner.true
 
 pub returns-then-learner-clause-spends : goal.returns-then-learner-clause-spends
 returns-then-learner-clause-spends g c =
     let ws = c.args.windows.items in
     let low : c.loop-left.left-index < length c.args.windows.items = subst (λ (vs : Pairs). c.loop-left.left-index < length vs) c.deref-left-items.ensures.value c.loop-left-test.true in
     let item : c.loop-left-item.result ≡ get_or c.args.windows.items c.loop-left.left-index c.loop-left-item.result = subst (λ (vs : Pairs). c.loop-left-item.result ≡ get_or vs c.loop-left.left-index c.loop-left-item.result) c.deref-left-items.ensures.value c.loop-left-item.is in
-    let next : HasLearnt (settings_of c.args.settings) (map window_of (take (c.loop-left.left-index + 1) c.args.windows.items)) c.in_ok-learner.learner =
-    learnt_next (settings_of c.args.settings) (settings_of c.in_ok-settings.settings) ws c.loop-left.left-index c.loop-left-item.result c.new-window.result c.loop-left.learner c.in_ok-learner.learner c.in_ok-settings.ensures.same low item
-    (same_window c.new-window.result c.loop-left-item.result c.new-window.ensures.left c.new-window.ensures.mask) c.loop-left.invariant.learnt c.in_ok-learner.ensures.learnt in
-    cost_all (settings_of c.args.settings) (settings_of c.in_ok-settings.settings) ws (c.loop-left.left-index + 1) c.learn_window.new.steps c.args.steps.now c.in_ok-learner.learner _ (c.requires.settings.header.numbers Left).0 next (omega (arith, low)) c.table_of-table.ensures
-    (cost_next (settings_of c.args.settings) (settings_of c.in_ok-settings.settings) ws c.loop-left.left-index c.loop-left.learner c.in_ok-learner.learner c.loop-left.steps c.learn_window.new.steps c.args.steps.now c.in_ok-settings.ensures.same low c.loop-left.invariant.learnt next c.in_ok-learner.ensures.grown c.loop-left.invariant.cost c.in_ok-learner.ensures.cost)
+    let next : HasLearnt (settings_of c.args.settings) (map window_of (take (c.loop-left.left-index + 1) c.args.windows.items)) c.learn_window.new.learner =
+    learnt_next (settings_of c.args.settings) (settings_of c.in_ok-settings.settings) ws c.loop-left.left-index c.loop-left-item.result c.new-window.result c.loop-left.learner c.learn_window.new.learner c.in_ok-settings.ensures.same low item
+    (same_window c.new-window.result c.loop-left-item.result c.new-window.ensures.left c.new-window.ensures.mask) c.loop-left.invariant.learnt c.in_ok-learn_window.ensures.learnt in
+    cost_all (settings_of c.args.settings) (settings_of c.in_ok-settings.settings) ws (c.loop-left.left-index + 1) c.learn_window.new.steps c.args.steps.now c.learn_window.new.learner _ (c.requires.settings.header.numbers Left).0 next (omega (arith, low)) c.table_of-table.ensures
+    (cost_next (settings_of c.args.settings) (settings_of c.in_ok-settings.settings) ws c.loop-left.left-index c.loop-left.learner c.learn_window.new.learner c.loop-left.steps c.learn_window.new.steps c.args.steps.now c.in_ok-settings.ensures.same low c.loop-left.invariant.learnt next c.in_ok-learn_window.ensures.grown c.loop-left.invariant.cost c.in_ok-learn_window.ensures.cost)
 
 pub returns-clause-learnt : goal.returns-clause-learnt
 returns-clause-learnt g c =
