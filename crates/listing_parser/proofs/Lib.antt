@@ -23,3 +23,4 @@ pub mod VerdictLemmas
 pub mod Literals
 pub mod Namings
 pub mod Shared
+pub mod TableLemmas

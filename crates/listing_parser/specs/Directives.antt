@@ -4,7 +4,7 @@ use Rattle.std.specs.List.{starts_with}
 use Rattle.std.specs.Str.{bytes_eq}
 use Rattle.ascii_scan.specs.Names.{is_name_byte}
 use Rattle.ascii_scan.specs.Numeral.{numeral}
-use Rattle.ascii_scan.specs.Tokens.{Token, mark, is_blank, front, rest, tokens}
+use Rattle.ascii_scan.specs.Tokens.{Token, is_blank, front, rest, tokens}
 use Rattle.thumb_syntax.specs.Operands.{is_name}
 use Rattle.thumb_syntax.specs.Rows.{Shown, reading}
 use Rattle.thumb_model.specs.Listing.{Name, Statement, Nothing, Words, Aligns, Sets}

@@ -1,7 +1,7 @@
 -- The lines of a listing by their texts, in the syntax of the GNU assembler.
 use Rattle.std.specs.Prelude.{ℕ, ◌-◌, ◌==◌, ◌&&◌, ◌||◌, not, nat_lt, Bool, true, false, List, [], ◌∷◌, ◌++◌, length, zero, suc, Option, Some, None, option_map, Result, Ok, Err, if◌then◌else◌, take}
 use Rattle.ascii_scan.specs.Lines.{Placed, whole}
-use Rattle.ascii_scan.specs.Tokens.{mark, is_blank, front, rest}
+use Rattle.ascii_scan.specs.Tokens.{is_blank, front, rest}
 use Rattle.thumb_syntax.specs.Operands.{is_name}
 use Rattle.thumb_syntax.specs.Rows.{Shown}
 use Rattle.thumb_model.specs.Listing.{Name, Statement, Nothing, Words, Aligns, Sets, Mention, Instruction, ListingLine}

@@ -1,5 +1,5 @@
 //! Tables by which places and names are found without a search.
-ghost use Rattle.std.specs.Prelude.{◌≡◌, ◌+◌, ◌<◌, ◌^◌, ◌++◌, ℕ, List, None, Some, map, length, IfOk, OnOk, if◌then◌else◌};
+ghost use Rattle.std.specs.Prelude.{◌≡◌, ◌+◌, ◌<◌, ◌^◌, ◌++◌, ◌∷◌, [], ℕ, List, None, Some, map, length, IfOk, OnOk, if◌then◌else◌};
 ghost use Rattle.std.specs.Map.{lookup};
 ghost use Rattle.std.specs.Str.{bytes_eq};
 ghost use Rattle.thumb_syntax.specs.Operands.{or_else};
@@ -130,6 +130,25 @@ fn add_address(
     }
 }
 
+/// Adds the line at an index, before which there are so many places.
+fn add_line(
+    alloc: Global,
+    index: &mut ListingIndex,
+    n: usize,
+    line: &ListingLine,
+    places: usize,
+) -> Result<(), Memory>
+    ensures spots { OnOk result (index.new.spots.items ≡ index.old.spots.items ++ spots_at n 0 (places_in (statement_view line.now.statement))) }
+    ensures passed { OnOk result (index.new.passed.items ≡ index.old.passed.items ++ record { places = places } ∷ []) }
+    ensures labels { OnOk result ((q : List ℕ) → lookup (is_key q) index.new.labels.entries ≡ or_else (lookup (is_key q) index.old.labels.entries) (if is_among q (map (λ n. n.items) line.now.names.items) then Some n else None)) }
+    ensures addresses { OnOk result ((q : List ℕ) → lookup (is_key q) index.new.addresses.entries ≡ or_else (lookup (is_key q) index.old.addresses.entries) (set_in q (statement_view line.now.statement) None)) }
+{
+    index.passed.push(Passed { places })?;
+    add_spots(&mut index.spots, n, &line.statement)?;
+    add_labels(alloc, &mut index.labels, &line.names, n)?;
+    add_address(alloc, &mut index.addresses, &line.statement)
+}
+
 /// The tables of lines, but for `runs`, which is left empty.
 fn tables(alloc: Global, lines: &[ListingLine]) -> Result<ListingIndex, Memory>
     requires { length (places_of (map line_view lines.now)) < 2 ^ 32 }
@@ -147,11 +166,8 @@ fn tables(alloc: Global, lines: &[ListingLine]) -> Result<ListingIndex, Memory>
     };
     let mut places = 0;
     for (n, line) in lines.iter().enumerate() {
-        index.passed.push(Passed { places })?;
+        add_line(alloc, &mut index, n, line, places)?;
         places += line.statement.places();
-        add_spots(&mut index.spots, n, &line.statement)?;
-        add_labels(alloc, &mut index.labels, &line.names, n)?;
-        add_address(alloc, &mut index.addresses, &line.statement)?;
     }
     Ok(index)
 }
