@@ -1,5 +1,5 @@
 -- Reading lists of numbers with a blank before each: what is read is what is written, and all that is written is read.
-use Rattle.std.proofs.Common.{◌≡◌, ℕ, ◌<◌, ◌≤◌, ◌^◌, ◌&&◌, true, false, List, [], ◌∷◌, ◌++◌, length, map, refl, sym, ◌∙◌, ap, arith, subst, eqb, append-nil, leb-true, Option, Some, None}
+use Rattle.std.proofs.Common.{◌≡◌, ℕ, ◌<◌, ◌≤◌, ◌^◌, ◌&&◌, true, List, [], ◌∷◌, ◌++◌, length, map, refl, sym, ◌∙◌, ap, arith, subst, eqb, append-nil, leb-true, Option, Some, None}
 use Rattle.std.specs.Prelude.{decimal, nat_lt, nat_le, MatchOption, IsSome, IfSome, IsTrue, ◌↔◌}
 use Rattle.std.specs.List.{All, slice_split, join_with_byte, list_all}
 use Rattle.std.proofs.lemmas.Fmt.{decimal_injective}

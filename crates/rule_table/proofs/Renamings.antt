@@ -20,7 +20,17 @@ parts_under registers r p = of p.kind (number_under registers r.first p.first) (
 -- renaming an instruction renames those of its operands that are registers
 pub renamed_parts : (f : List Low) (i : Instr) → is_in_window i ≡ true → parts_of (renamed f i) ≡ parts_under f (roles (parts_of i).kind) (parts_of i)
 renamed_parts f (instr.Mov d m) w = rw (reg_number f d, reg_number f m) refl
-renamed_parts f i w = first_of (cc, simp (reg_number f, low_number f))
+renamed_parts f (instr.Add r) w = rw (reg_number f r.target, reg_number f r.source) refl
+renamed_parts f (instr.Three s d n m) w = rw (low_number f d, low_number f n, low_number f m) refl
+renamed_parts f (instr.Two o d m) w = rw (low_number f d, low_number f m) refl
+renamed_parts f (instr.Movs d m) w = rw (low_number f d, low_number f m) refl
+renamed_parts f (instr.ShiftLeft d m i) w = rw (low_number f d, low_number f m) refl
+renamed_parts f (instr.ShiftRight s d m i) w = rw (low_number f d, low_number f m) refl
+renamed_parts f (instr.ThreeNumber s d n i) w = rw (low_number f d, low_number f n) refl
+renamed_parts f (instr.TwoNumber o d i) w = rw (low_number f d) refl
+renamed_parts f (instr.Extend e d m) w = rw (low_number f d, low_number f m) refl
+renamed_parts f (instr.Reverse r d m) w = rw (low_number f d, low_number f m) refl
+renamed_parts f i w = cc
 
 -- the property holds of each register that is named
 abbrev pub AllNamed : (ℕ → Type 0) → List ℕ → Type 0

@@ -1,10 +1,13 @@
 //! Writes the lines of a table's text. Each function appends to what was written before.
-ghost use Rattle.std.specs.Prelude.{◌≡◌, ◌++◌, ◌<◌, ◌∷◌, [], decimal, OnOk, map};
+ghost use Rattle.std.specs.Prelude.{◌≡◌, ◌++◌, ◌<◌, ◌∷◌, [], ℕ, List, true, nat_lt, decimal, OnOk, map};
+ghost use Rattle.std.specs.List.{flat_map, list_all};
 ghost use Rattle.lrat_check.specs.Text.{content_of};
 ghost use Rattle.window_exec.specs.State.{seen};
 ghost use Rattle.rule_table.specs.Text.{hex_of, line_of, instr_text, after_blanks, named};
 ghost use Rattle.rule_table.specs.Text as item;
+ghost use Rattle.rule_table.specs.MaskView.{row_of};
 
+use crate::tails::{MaskItem, mask_items};
 use ascii_scan::hex_digit;
 use itoa::Buffer;
 use lrat_check::{Line, write_line};
@@ -143,26 +146,20 @@ pub(crate) fn write_mask(out: &mut Vec<u8>, mask: Mask) -> Result<(), AllocError
     ensures { OnOk result (out.new.items ≡ out.old.items ++ (line_of (item.Mask mask.items.bits) ++ 10 ∷ [])) }
 {
     out.extend_from_slice(b"mask")?;
-    write_item(out, mask, 0, b" r0")?;
-    write_item(out, mask, 1, b" r1")?;
-    write_item(out, mask, 2, b" r2")?;
-    write_item(out, mask, 3, b" r3")?;
-    write_item(out, mask, 15, b" n")?;
-    write_item(out, mask, 16, b" z")?;
-    write_item(out, mask, 17, b" c")?;
-    write_item(out, mask, 18, b" v")?;
+    write_items(out, mask, mask_items())?;
     out.push(b'\n')?;
     Ok(())
 }
 
-/// An item's text, if the mask has the item.
-fn write_item(out: &mut Vec<u8>, mask: Mask, item: u8, text: &[u8]) -> Result<(), AllocError>
-    requires { item < 19 }
-    ensures { OnOk result (out.new.items ≡ out.old.items ++ named mask.items.bits item text.entry.now) }
+/// The texts of those of the list's items that the mask has.
+fn write_items(out: &mut Vec<u8>, mask: Mask, list: &[MaskItem]) -> Result<(), AllocError>
+    requires { list_all (λ r. nat_lt r.item 19) list.now ≡ true }
+    ensures { OnOk result (out.new.items ≡ out.old.items ++ flat_map (λ (r : ℕ × List ℕ). named mask.items.bits r.0 r.1) (map row_of list.entry.now)) }
 {
-    if mask.has(item) {
-        out.extend_from_slice(text)
-    } else {
-        Ok(())
+    for row in list {
+        if mask.has(row.item) {
+            out.extend_from_slice(row.text)?;
+        }
     }
+    Ok(())
 }

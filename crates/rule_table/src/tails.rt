@@ -110,9 +110,9 @@ pub(crate) fn family(alloc: Global, tail: &[u8]) -> Result<Option<Raised>, Alloc
 }
 
 /// An item that a mask may have, and its text.
-struct MaskItem {
-    item: u8,
-    text: &'static [u8],
+pub(crate) struct MaskItem {
+    pub item: u8,
+    pub text: &'static [u8],
 }
 
 /// The items that a mask may have, in the order in which they are written.
@@ -151,7 +151,8 @@ static MASK_ITEMS: [MaskItem; 8] = [
     },
 ];
 
-fn mask_items() -> &'static [MaskItem]
+/// The items that a mask may have, in the order in which they are written.
+pub(crate) fn mask_items() -> &'static [MaskItem]
     ensures { map row_of result.now ≡ mask_rows }
 {
     &MASK_ITEMS

@@ -1,5 +1,5 @@
 //! Writes the text of a table, line by line. Reading accepts this form alone, so that a table has exactly one text.
-ghost use Rattle.std.specs.Prelude.{◌≡◌, ◌++◌, [], OnOk, IfOk, map};
+ghost use Rattle.std.specs.Prelude.{◌≡◌, ◌++◌, ◌∷◌, [], OnOk, IfOk, map};
 ghost use Rattle.std.specs.List.{flat_map};
 ghost use Rattle.lrat_check.specs.Text.{content_of};
 ghost use Rattle.window_exec.specs.State.{seen};
@@ -106,12 +106,17 @@ fn write_entry(alloc: Global, out: &mut Vec<u8>, entry: &Entry) -> Result<(), Al
     ensures { OnOk result (out.new.items ≡ out.old.items ++ text_of_items (rule_items (rule_of entry.entry.now))) }
 {
     out.extend_from_slice(b"entry\n")?;
+    write_sides(alloc, out, entry)?;
+    write_proof(alloc, out, &entry.proof)?;
+    write_opens(alloc, out, &entry.opens)
+}
+
+fn write_sides(alloc: Global, out: &mut Vec<u8>, entry: &Entry) -> Result<(), AllocError>
+    ensures { OnOk result (out.new.items ≡ out.old.items ++ text_of_items (map item.Left (rule_of entry.entry.now).left ++ (map item.Right (rule_of entry.entry.now).right ++ item.Mask (rule_of entry.entry.now).mask ∷ []))) }
+{
     write_left(alloc, out, entry.left.as_slice())?;
     write_right(alloc, out, entry.right.as_slice())?;
-    write_mask(out, entry.mask)?;
-    out.extend_from_slice(b"proof\n")?;
-    write_log(alloc, out, &entry.proof)?;
-    write_opens(alloc, out, &entry.opens)
+    write_mask(out, entry.mask)
 }
 
 fn write_families(alloc: Global, out: &mut Vec<u8>, families: &[Family]) -> Result<(), AllocError>
@@ -127,8 +132,7 @@ fn write_family(alloc: Global, out: &mut Vec<u8>, family: &Family) -> Result<(),
     ensures { OnOk result (out.new.items ≡ out.old.items ++ text_of_items (family_items (family_of family.entry.now))) }
 {
     write_family_line(out, family.entry, family.number, family.low, family.high)?;
-    out.extend_from_slice(b"proof\n")?;
-    write_log(alloc, out, &family.proof)
+    write_proof(alloc, out, &family.proof)
 }
 
 fn write_left(alloc: Global, out: &mut Vec<u8>, instrs: &[Instr]) -> Result<(), AllocError>
@@ -147,6 +151,13 @@ fn write_right(alloc: Global, out: &mut Vec<u8>, instrs: &[Instr]) -> Result<(),
         write_instruction(alloc, out, b"right ", *instr)?;
     }
     Ok(())
+}
+
+fn write_proof(alloc: Global, out: &mut Vec<u8>, lines: &[Line]) -> Result<(), AllocError>
+    ensures { OnOk result (out.new.items ≡ out.old.items ++ text_of_items (item.Proof ∷ map item.Logged (map content_of lines.entry.now))) }
+{
+    out.extend_from_slice(b"proof\n")?;
+    write_log(alloc, out, lines)
 }
 
 fn write_log(alloc: Global, out: &mut Vec<u8>, lines: &[Line]) -> Result<(), AllocError>
