@@ -4,6 +4,7 @@ ghost use Rattle.std.specs.List.{list_all};
 ghost use Rattle.thumb_instr.specs.Window.{is_in_window, named, named_by};
 ghost use Rattle.thumb_model.specs.Effect.{AreOver, above, register_count};
 ghost use Rattle.seq_enum.specs.Alphabet.{numbers_from, IsOver};
+ghost use Rattle.seq_enum.specs.Costs.{weight_under};
 ghost use Rattle.bit_blast.specs.Exactness.{IsMaskOver};
 ghost use Rattle.rule_table.specs.Canonical.{firsts, numbers_of, appearing};
 ghost use Rattle.rule_table.specs.Views.{header_in, rule_of, table_of};
@@ -14,7 +15,7 @@ ghost use Rattle.table_audit.specs.Orders.{IsAstray, IsInOrder, AreWithin};
 use bit_blast::formula;
 use cnf_gates::{Formula, Memory};
 use rule_table::{Entry, Table, are_windows};
-use seq_enum::{Pool, number_of, weight};
+use seq_enum::{Costs, Pool, number_of, weight};
 use std::alloc::Global;
 use thumb_instr::{Instr, Low, Mask, Role, Seq, parts, registers_of, roles};
 
@@ -92,6 +93,26 @@ fn is_mask_over(k: u8, mask: Mask) -> bool
     true
 }
 
+/// Whether the right side neither has more instructions than the left side nor weighs more.
+fn is_no_dearer(costs: &Option<Costs>, entry: &Entry) -> bool
+    ensures { IsTrue result ↔ ((length (rule_of entry.now).right ≤ length (rule_of entry.now).left) × (weight_under costs.now (rule_of entry.now).right ≤ weight_under costs.now (rule_of entry.now).left)) }
+{
+    entry.right.len() <= entry.left.len()
+        && weight(costs, &entry.right) <= weight(costs, &entry.left)
+}
+
+/// Whether left side and mask are over the first `k` registers, and the right side is over the first `registers`.
+fn are_over(pool: &Pool, entry: &Entry, k: u8, registers: u8) -> bool
+    requires some { (0 < k) × (0 < registers) }
+    requires few { (k ≤ 4) × (registers ≤ 4) }
+    requires short { (length (rule_of entry.now).left ≤ 5) × (length (rule_of entry.now).right ≤ 5) }
+    ensures { IsTrue result ↔ (IsOver k pool.now (rule_of entry.now).left × IsOver registers pool.now (rule_of entry.now).right × IsMaskOver k (rule_of entry.now).mask) }
+{
+    is_over(k, pool, &entry.left)
+        && is_over(registers, pool, &entry.right)
+        && is_mask_over(k, entry.mask)
+}
+
 /// Whether left side and mask are over the first `k` registers, the right side is over the first `registers`, all are within the header's
 /// limits, and the right side neither has more instructions than the left side nor weighs more.
 fn are_within(table: &Table, entry: &Entry, k: u8, registers: u8) -> bool
@@ -100,12 +121,9 @@ fn are_within(table: &Table, entry: &Entry, k: u8, registers: u8) -> bool
     ensures { IsTrue result ↔ AreWithin (table_of table.now) (rule_of entry.now) k registers }
 {
     entry.left.len() <= usize::from(table.left)
-        && entry.right.len() <= entry.left.len()
-        && weight(&table.costs, &entry.right) <= weight(&table.costs, &entry.left)
         && k <= table.regs
-        && is_over(k, &table.pool, &entry.left)
-        && is_over(registers, &table.pool, &entry.right)
-        && is_mask_over(k, entry.mask)
+        && is_no_dearer(&table.costs, entry)
+        && are_over(&table.pool, entry, k, registers)
 }
 
 /// Whether the sides and the mask of an entry are what the table's header allows.

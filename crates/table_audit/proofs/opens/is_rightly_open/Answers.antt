@@ -9,6 +9,7 @@ use Rattle.lrat_check.specs.ProofCosts.{spent_cost}
 use Rattle.table_audit.specs.Shorter.{formula_against, IsTold, below_at}
 use Rattle.table_audit.proofs.Tellings.{told_is}
 use Rattle.table_audit.proofs.Openings.{found, none_open, told_open, spent_answers, as_many, spent_within}
+use Rattle.table_audit.proofs.Below.{run_within}
 use Rattle.table_audit.proofs.opens.is_rightly_open.Goals as goal
 use Rattle.rule_model.proofs.Table.{over_wider}
 
@@ -53,3 +54,23 @@ returns-in_ok-formula-in-Some-clause-cost g c =
     let short : length c.as_slice.result.now ≤ length c.args.entry.now.left = omega (arith, ap length c.as_slice.ensures.value, c.in-Some.ensures.no_longer) in
     spent_within t e o c.in-Some.seq _ _ _ _ _ _ at (as_many c.args.entry.now.left (map seen c.args.table.now.states) c.args.trials.now c.requires.trials) short c.is_told.ensures.cost c.is_spent.ensures.cost
     (ap (λ f. spent_cost (codes_of f.clauses) (map content_of c.deref.result.now)) c.in_ok-formula-in-Some.ensures ∙ ap (λ ls. spent_cost (codes_of (formula_against t.header e c.in-Some.seq).clauses) (map content_of ls)) c.deref.ensures.value)
+
+pub returns-then-is_told-clause-cost : goal.returns-then-is_told-clause-cost
+returns-then-is_told-clause-cost g c =
+    let t = table_of c.args.table.now in
+    let e = rule_of c.args.entry.now in
+    let o = opened_of c.args.open.now in
+    let at : below_at t.header e.left e.right o.number ≡ Some c.in-Some.seq = found t e o.number c.args.k _ c.requires.count c.below_at.ensures.value ∙ c.in-Some.is in
+    let short : length c.as_slice.result.now ≤ length c.args.entry.now.left = omega (arith, ap length c.as_slice.ensures.value, c.in-Some.ensures.no_longer) in
+    let within = run_within t e o.number c.in-Some.seq _ _ _ _ at (as_many c.args.entry.now.left (map seen c.args.table.now.states) c.args.trials.now c.requires.trials) short c.is_told.ensures.cost in
+    omega (arith, within)
+
+pub returns-in_err-formula-in-Some-clause-cost : goal.returns-in_err-formula-in-Some-clause-cost
+returns-in_err-formula-in-Some-clause-cost g c =
+    let t = table_of c.args.table.now in
+    let e = rule_of c.args.entry.now in
+    let o = opened_of c.args.open.now in
+    let at : below_at t.header e.left e.right o.number ≡ Some c.in-Some.seq = found t e o.number c.args.k _ c.requires.count c.below_at.ensures.value ∙ c.in-Some.is in
+    let short : length c.as_slice.result.now ≤ length c.args.entry.now.left = omega (arith, ap length c.as_slice.ensures.value, c.in-Some.ensures.no_longer) in
+    let within = run_within t e o.number c.in-Some.seq _ _ _ _ at (as_many c.args.entry.now.left (map seen c.args.table.now.states) c.args.trials.now c.requires.trials) short c.is_told.ensures.cost in
+    omega (arith, within)
