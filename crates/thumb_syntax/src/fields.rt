@@ -4,7 +4,8 @@ ghost use Rattle.thumb_syntax.specs.Views.{view};
 ghost use Rattle.thumb_syntax.specs.FieldViews.{fields_view};
 ghost use Rattle.thumb_syntax.specs.LeftView.{left};
 ghost use Rattle.thumb_syntax.specs.Agreeing.{agree, agrees, takes_one};
-ghost use Rattle.thumb_syntax.specs.Slots.{empty, at, put, named, is_in_list, kept_if, number_filled, filled_by, taken, filled};
+ghost use Rattle.thumb_syntax.specs.Operands as operands;
+ghost use Rattle.thumb_syntax.specs.Slots.{empty, at, put, named, is_in_list, kept_if, number_filled, filled_by, listed, list_filled, next_filled, taken, filled};
 
 use crate::form::{OperandPosition, Slot};
 use crate::left::Left;
@@ -116,69 +117,99 @@ fn number_filled<'a>(
     }
 }
 
+/// The fields after a register. None where the slot doesn't accept it.
+fn filled_by_register<'a>(slot: &Slot, fields: Fields<'a>, register: u32) -> Option<Fields<'a>>
+    ensures { option_map fields_view result ≡ filled_by slot.now (fields_view fields.entry) (operands.register register) }
+{
+    match *slot {
+        Slot::Register(place) => Some(put(fields, place, register)),
+        Slot::Twice(one, other) => Some(put(put(fields, one, register), other, register)),
+        Slot::Same(place) => kept_if(at(&fields, place) == register, fields),
+        Slot::Sp => kept_if(register == 13, fields),
+        _ => None,
+    }
+}
+
+/// The fields after a number. None where the slot doesn't accept it.
+fn filled_by_number<'a>(slot: &Slot, fields: Fields<'a>, value: u32) -> Option<Fields<'a>>
+    ensures { option_map fields_view result ≡ filled_by slot.now (fields_view fields.entry) (operands.number value) }
+{
+    match *slot {
+        Slot::Number(place, least, most, step) => {
+            number_filled(fields, place, least, most, step, value)
+        }
+        Slot::Exactly(wanted) => kept_if(value == wanted, fields),
+        _ => None,
+    }
+}
+
+/// The fields after a name. None where the slot doesn't accept it.
+fn filled_by_name<'a>(slot: &Slot, fields: Fields<'a>, text: &'a [u8]) -> Option<Fields<'a>>
+    ensures { option_map fields_view result ≡ filled_by slot.now (fields_view fields.entry) (operands.name text.now) }
+{
+    match *slot {
+        Slot::Sy => kept_if(text == b"sy".as_slice(), fields),
+        Slot::I => kept_if(text == b"i".as_slice(), fields),
+        Slot::Primask => kept_if(is_spelled(text, b"primask"), fields),
+        Slot::Ipsr => kept_if(is_spelled(text, b"ipsr"), fields),
+        Slot::Label | Slot::LabelSum => Some(named(fields, text, 0)),
+        _ => None,
+    }
+}
+
 /// The fields after an operand. None where the slot doesn't accept the operand.
 fn filled_by<'a>(slot: &Slot, fields: Fields<'a>, operand: Operand<'a>) -> Option<Fields<'a>>
     ensures { option_map fields_view result ≡ filled_by slot.now (fields_view fields.entry) (view operand.entry) }
 {
-    match *slot {
-        Slot::Register(place) => match operand {
-            Operand::Register(register) => Some(put(fields, place, register)),
+    match operand {
+        Operand::Register(register) => filled_by_register(slot, fields, register),
+        Operand::Base(register) => match *slot {
+            Slot::Base(place) => Some(put(fields, place, register)),
             _ => None,
         },
-        Slot::Twice(one, other) => match operand {
-            Operand::Register(register) => Some(put(put(fields, one, register), other, register)),
+        Operand::Number(number) => filled_by_number(slot, fields, number),
+        Operand::Sign(sign) => match *slot {
+            Slot::Mark(mark) => kept_if(mark == sign, fields),
             _ => None,
         },
-        Slot::Same(place) => match operand {
-            Operand::Register(register) => kept_if(at(&fields, place) == register, fields),
+        Operand::Name(name) => filled_by_name(slot, fields, name),
+        Operand::Sum(name, added) => match *slot {
+            Slot::LabelSum => Some(named(fields, name, added)),
             _ => None,
         },
-        Slot::Sp => match operand {
-            Operand::Register(register) => kept_if(register == 13, fields),
-            _ => None,
+        Operand::Range(_, _) | Operand::Stray => None,
+    }
+}
+
+/// The fields after a list of registers, and the operands after it.
+fn list_taken<'a, 'r>(
+    fields: Fields<'a>,
+    place: OperandPosition,
+    extra: Option<u32>,
+    operands: Left<'a, 'r>,
+) -> Option<(Fields<'a>, Left<'a, 'r>)>
+    ensures { option_map (λ r. (fields_view r.0, left r.1)) result ≡ list_filled (fields_view fields.entry) place (listed extra (left operands.entry)) }
+{
+    match listed(extra, operands) {
+        Some((list, after)) => Some((put(fields, place, list), after)),
+        None => None,
+    }
+}
+
+/// The fields after the next operand, and the operands after it.
+fn next_taken<'a, 'r>(
+    slot: &Slot,
+    fields: Fields<'a>,
+    operands: Left<'a, 'r>,
+) -> Option<(Fields<'a>, Left<'a, 'r>)>
+    ensures { option_map (λ r. (fields_view r.0, left r.1)) result ≡ next_filled slot.now (fields_view fields.entry) (left operands.entry) }
+{
+    match operands.next() {
+        Some((operand, after)) => match filled_by(slot, fields, operand) {
+            Some(more) => Some((more, after)),
+            None => None,
         },
-        Slot::Base(place) => match operand {
-            Operand::Base(register) => Some(put(fields, place, register)),
-            _ => None,
-        },
-        Slot::Number(place, least, most, step) => match operand {
-            Operand::Number(number) => number_filled(fields, place, least, most, step, number),
-            _ => None,
-        },
-        Slot::Exactly(wanted) => match operand {
-            Operand::Number(number) => kept_if(number == wanted, fields),
-            _ => None,
-        },
-        Slot::Mark(mark) => match operand {
-            Operand::Sign(sign) => kept_if(mark == sign, fields),
-            _ => None,
-        },
-        Slot::Sy => match operand {
-            Operand::Name(name) => kept_if(name == b"sy".as_slice(), fields),
-            _ => None,
-        },
-        Slot::I => match operand {
-            Operand::Name(name) => kept_if(name == b"i".as_slice(), fields),
-            _ => None,
-        },
-        Slot::Primask => match operand {
-            Operand::Name(name) => kept_if(is_spelled(name, b"primask"), fields),
-            _ => None,
-        },
-        Slot::Ipsr => match operand {
-            Operand::Name(name) => kept_if(is_spelled(name, b"ipsr"), fields),
-            _ => None,
-        },
-        Slot::Label => match operand {
-            Operand::Name(name) => Some(named(fields, name, 0)),
-            _ => None,
-        },
-        Slot::LabelSum => match operand {
-            Operand::Name(name) => Some(named(fields, name, 0)),
-            Operand::Sum(name, added) => Some(named(fields, name, added)),
-            _ => None,
-        },
-        _ => None,
+        None => None,
     }
 }
 
@@ -191,14 +222,8 @@ fn taken<'a, 'r>(
     ensures { option_map (λ r. (fields_view r.0, left r.1)) result ≡ taken slot.now (fields_view fields.entry) (left operands.entry) }
 {
     match *slot {
-        Slot::LowList(place) => match listed(None, operands) {
-            Some((list, after)) => Some((put(fields, place, list), after)),
-            None => None,
-        },
-        Slot::StackList(place, extra) => match listed(Some(extra), operands) {
-            Some((list, after)) => Some((put(fields, place, list), after)),
-            None => None,
-        },
+        Slot::LowList(place) => list_taken(fields, place, None, operands),
+        Slot::StackList(place, extra) => list_taken(fields, place, Some(extra), operands),
         Slot::InList(register, list) => {
             if is_in_list(at(&fields, register), at(&fields, list)) {
                 Some((fields, operands))
@@ -213,13 +238,7 @@ fn taken<'a, 'r>(
                 Some((fields, operands))
             }
         }
-        _ => match operands.next() {
-            Some((operand, after)) => match filled_by(slot, fields, operand) {
-                Some(more) => Some((more, after)),
-                None => None,
-            },
-            None => None,
-        },
+        _ => next_taken(slot, fields, operands),
     }
 }
 

@@ -62,3 +62,9 @@ pub struct Mnemonic {
     pub name: &'static [u8],
     pub forms: &'static [Form],
 }
+
+/// How instructions of a kind are written: their mnemonic, and the forms that may follow it.
+pub struct Spelling {
+    pub mnemonic: &'static [u8],
+    pub forms: &'static [&'static [Slot]],
+}

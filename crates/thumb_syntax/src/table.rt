@@ -1,10 +1,10 @@
 //! The one table of texts: each mnemonic with its kinds of instructions, and what may follow it. Reader and writer both use it.
 ghost use Rattle.std.specs.Prelude.{◌≡◌, ◌<◌, true, map, length};
 ghost use Rattle.thumb_syntax.specs.Mnemonics.{are_there, are_there_at, forms_of, group_of, named_forms, groups_at};
-ghost use Rattle.thumb_syntax.specs.Forms.{mnemonic, forms};
-ghost use Rattle.thumb_syntax.specs.FieldViews.{forms_at};
+ghost use Rattle.thumb_syntax.specs.Forms.{mnemonic, forms, spelling};
+ghost use Rattle.thumb_syntax.specs.FieldViews.{forms_at, spelling_at};
 
-use crate::form::{Form, Mnemonic, OperandPosition, Slot};
+use crate::form::{Form, Mnemonic, OperandPosition, Slot, Spelling};
 use thumb_instr::{
     Access, Barrier, ByteOperation, Condition, Extension, HintOperation, Interrupts, Kind,
     OffsetAccess, Operation, Reversal, Right, Special, SumOperation, WordAccess,
@@ -374,21 +374,12 @@ macro_rules! last_part {
     ($first:tt $second:tt $third:tt { $($part:tt)* }) => { mnemonics! { $($part)* } };
 }
 
-/// Makes the table into a match from kind to mnemonic.
-macro_rules! name_of {
+/// Makes the table into a match from kind to mnemonic and forms.
+macro_rules! spelling_of {
     ($of:ident $({ $([$(
         $name:literal { $($kind:pat => $($slots:expr),+;)* } $(also $other:tt)?
     ),* $(,)?],)* })*) => {
-        match $of { $($($($($kind => $name,)*)*)*)* }
-    };
-}
-
-/// Makes the table into a match from kind to the forms that may follow its mnemonic.
-macro_rules! forms_of {
-    ($of:ident $({ $([$(
-        $name:literal { $($kind:pat => $($slots:expr),+;)* } $(also $other:tt)?
-    ),* $(,)?],)* })*) => {
-        match $of { $($($($($kind => &[$($slots),+],)*)*)*)* }
+        match $of { $($($($($kind => &Spelling { mnemonic: $name, forms: &[$($slots),+] },)*)*)*)* }
     };
 }
 
@@ -461,16 +452,23 @@ pub fn mnemonics(place: usize) -> &'static [Mnemonic]
     }
 }
 
+/// How instructions of a kind are written.
+fn spelling(kind: Kind) -> &'static Spelling
+    ensures { spelling_at result.now ≡ spelling kind }
+{
+    spellings!(spelling_of kind)
+}
+
 /// The mnemonic of a kind.
 pub fn mnemonic(kind: Kind) -> &'static [u8]
     ensures { result.now ≡ mnemonic kind }
 {
-    spellings!(name_of kind)
+    spelling(kind).mnemonic
 }
 
 /// The forms that may follow the mnemonic of a kind.
 pub fn forms(kind: Kind) -> &'static [&'static [Slot]]
     ensures { forms_at result.now ≡ forms kind }
 {
-    spellings!(forms_of kind)
+    spelling(kind).forms
 }

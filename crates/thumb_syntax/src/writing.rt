@@ -148,9 +148,9 @@ fn write_slot(slot: &Slot, fields: &Fields<'_>, out: &mut Vec<u8>) -> Result<(),
     ensures { OnOk result (out.new.items ≡ out.old.items ++ slot_text slot.now (fields_view fields.now)) }
 {
     match *slot {
-        Slot::Register(place) => write_register(at(fields, place), out),
-        Slot::Twice(place, _) => write_register(at(fields, place), out),
-        Slot::Same(place) => write_register(at(fields, place), out),
+        Slot::Register(place) | Slot::Twice(place, _) | Slot::Same(place) => {
+            write_register(at(fields, place), out)
+        }
         Slot::Sp => out.extend_from_slice(b"sp"),
         Slot::Base(place) => write_base(at(fields, place), out),
         Slot::Number(place, _, _, step) => {
@@ -171,8 +171,7 @@ fn write_slot(slot: &Slot, fields: &Fields<'_>, out: &mut Vec<u8>) -> Result<(),
             &[0, 1, 2, 3, 4, 5, 6, 7, 8],
             out,
         ),
-        Slot::InList(_, _) => Ok(()),
-        Slot::NotInList(_, _) => Ok(()),
+        Slot::InList(_, _) | Slot::NotInList(_, _) => Ok(()),
     }
 }
 
