@@ -1,5 +1,5 @@
 -- What is known of a draft stays known while instructions are removed and branches redirected.
-use Rattle.std.proofs.Common.{◌≡◌, ◌∙◌, ◌<◌, ℕ, zero, suc, Bool, true, false, List, [], ◌∷◌, length, replicate, Some, ap, refl, subst, sym, arith}
+use Rattle.std.proofs.Common.{◌≡◌, ◌∙◌, ◌<◌, ◌≤◌, ℕ, zero, suc, Bool, true, false, List, [], ◌∷◌, length, replicate, Some, ap, refl, subst, sym, arith}
 use Rattle.std.specs.Prelude.{slice_set}
 use Rattle.thumb_model.specs.Listing.{code_of, places_of, Code, ListingLine, Name}
 use Rattle.thumb_model.specs.Replaced.{replaced_lines}
@@ -14,6 +14,7 @@ use Rattle.flow_tidy.specs.Tidying.{ToEnd, GoesToEnd, GoesToNext, IsIdle, IsPoss
 use Rattle.flow_tidy.specs.DuePlaces.{AreDue, IsCaused}
 use Rattle.flow_tidy.specs.Quick.{left, ChangesSoonest, IsQuick}
 use Rattle.flow_tidy.proofs.Aimed.{aimed_code, code_aimed}
+use Rattle.flow_tidy.proofs.Lefts.{left_fewer}
 use Rattle.flow_tidy.proofs.Quickly.{code_goes, due_no_more, reached_left, soonest_idle, soonest_next}
 use Rattle.flow_tidy.proofs.Settled.{due_aimed, marks_aimed, MayVanish}
 
@@ -66,6 +67,13 @@ taken_quick d p marks dues new kept never e q = record {
   reached = q.reached;
   due = subst (λ (ms : List Bool). AreDue (code_of (lines_now d)) (left d.gone ms)) (sym e) (due_no_more d.gone dues p (code_of (lines_now d)) kept q.due never);
 }
+
+-- the lines now have no more places than the given ones
+pub few_now : (d : Drafted) (marks dues : List Bool) → IsQuick d marks dues → length (places_of (lines_now d)) ≤ length d.gone
+few_now d marks dues q =
+    let left_of : length (left d.gone marks) ≡ length (places_of (lines_now d)) = q.reached.len in
+    let few = left_fewer d.gone marks in
+    omega (arith, left_of, few, q.all)
 
 -- ---- a draft of which nothing is changed ----
 

@@ -60,6 +60,13 @@ left_as_many (g ∷ gs) (x ∷ xs) [] e = absurd (omega arith)
 left_as_many (true ∷ gs) (x ∷ xs) (y ∷ ys) e = left_as_many gs xs ys (omega arith)
 left_as_many (false ∷ gs) (x ∷ xs) (y ∷ ys) e = ap suc (left_as_many gs xs ys (omega arith))
 
+-- and no more than there were
+pub left_fewer : (gone xs : List Bool) → length (left gone xs) ≤ length xs
+left_fewer [] xs = omega arith
+left_fewer (g ∷ gs) [] = omega arith
+left_fewer (true ∷ gs) (x ∷ xs) = let r = left_fewer gs xs in omega arith
+left_fewer (false ∷ gs) (x ∷ xs) = let r = left_fewer gs xs in omega arith
+
 -- before a place none is marked among those left if none is among all
 pub left_free : (gone xs : List Bool) (p : ℕ) → ((k : ℕ) → k < p → slice_get xs k ≡ Some true → ⊥) → (k : ℕ) → k < rank gone p → slice_get (left gone xs) k ≡ Some true → ⊥
 left_free [] xs p h k l e = h k l e

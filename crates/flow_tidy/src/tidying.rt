@@ -1,5 +1,5 @@
 //! The crate's one call: tidying until no change is possible, by the places that are due and not by going over the listing again.
-ghost use Rattle.std.specs.Prelude.{◌≡◌, ◌+◌, ◌≤◌, length, IfOk, MatchResult};
+ghost use Rattle.std.specs.Prelude.{◌≡◌, ◌+◌, ◌≤◌, ℕ, true, false, length, IfOk, MatchResult, OnOk};
 ghost use Rattle.thumb_model.specs.Layout.{Layable};
 ghost use Rattle.thumb_model.specs.Listing.{code_of};
 ghost use Rattle.thumb_model.specs.Literals.{HasLiterals};
@@ -7,10 +7,11 @@ ghost use Rattle.thumb_model.specs.Same.{Same};
 ghost use Rattle.code_flow.specs.Marks.{AreMarks};
 ghost use Rattle.label_layout.specs.Addresses.{AreAddresses};
 ghost use Rattle.listing_draft.specs.Drafted.{lines_now};
-ghost use Rattle.flow_tidy.specs.DuePlaces.{AreDue};
+ghost use Rattle.flow_tidy.specs.DuePlaces.{AreDue, IsKnown, IsNextAt};
 ghost use Rattle.flow_tidy.specs.WidestLayout.{IsWidestLayout};
-ghost use Rattle.flow_tidy.specs.Quick.{left, IsSure};
-ghost use Rattle.flow_tidy.specs.Tidying.{tidying_cost, AreTidiedBy, IsRefusal};
+ghost use Rattle.flow_tidy.specs.Made.{AreMadeBy};
+ghost use Rattle.flow_tidy.specs.Quick.{left, IsQuick, IsSafe, IsSure};
+ghost use Rattle.flow_tidy.specs.Tidying.{setting, tidying_cost, AreTidiedBy, IsRefusal, NonePossible};
 
 use crate::chain_ends::Ends;
 use crate::due_places::DuePlaces;
@@ -29,6 +30,49 @@ use listing_parser::{Listing, Memory};
 use std::alloc::Global;
 use step_ledger::{Ledger, Steps};
 
+/// Makes the first change that is possible, and brings what is known of the listing up to date. Returns whether one was possible.
+fn change_next(
+    alloc: Global,
+    listing: &mut Listing,
+    laid: &mut Layout,
+    reached: &mut ReachedPlaces,
+    due: &mut DuePlaces,
+) -> Result<bool, Memory>
+    requires known { IsKnown listing.old laid.old reached.old due.old }
+    ensures known { OnOk result (IsKnown listing.new laid.new reached.new due.new) }
+    ensures base { OnOk result (laid.new.base ≡ laid.old.base) }
+    ensures next { IfOk result (λ b. b ≡ true → (p : ℕ) × IsNextAt (setting laid.old.base) p listing.old listing.new) }
+    ensures last { IfOk result (λ b. b ≡ false → NonePossible (setting laid.old.base) listing.old × (listing.new ≡ listing.old)) }
+{
+    match first_change(alloc, listing, laid, reached, due)? {
+        None => Ok(false),
+        Some(found) => {
+            *listing = settle(alloc, listing, found, laid, reached, due)?;
+            Ok(true)
+        }
+    }
+}
+
+/// Makes changes until none is possible any more, and counts them.
+fn change_all(
+    alloc: Global,
+    listing: &mut Listing,
+    laid: &mut Layout,
+    reached: &mut ReachedPlaces,
+    due: &mut DuePlaces,
+) -> Result<u64, Memory>
+    requires known { IsKnown listing.old laid.old reached.old due.old }
+    ensures { IfOk result (λ count. AreTidiedBy laid.old.base listing.old listing.new count) }
+{
+    // For the prover alone: places are counted in 32 bits, so changes fit into 64.
+    let _places = listing.place_count();
+    let mut changes = 0;
+    while change_next(alloc, listing, laid, reached, due)? {
+        changes += 1;
+    }
+    Ok(changes)
+}
+
 /// What is left of a listing once no change is possible any more. The layout is the listing's, and so are the marks of what is reached.
 fn tidied(
     alloc: Global,
@@ -41,14 +85,8 @@ fn tidied(
     requires reached { AreMarks (code_of listing) reached }
     ensures { IfOk result (λ new. AreTidiedBy laid.base listing new.listing new.changes) }
 {
-    // Places are counted in 32 bits, so changes fit into 64.
-    let places = listing.place_count();
-    let mut due = DuePlaces::all(alloc, places)?;
-    let mut changes = 0;
-    while let Some(found) = first_change(alloc, &listing, &laid, &reached, &mut due)? {
-        listing = settle(alloc, &listing, found, &mut laid, &mut reached, &mut due)?;
-        changes += 1;
-    }
+    let mut due = DuePlaces::all(alloc, listing.place_count())?;
+    let changes = change_all(alloc, &mut listing, &mut laid, &mut reached, &mut due)?;
     Ok(Tidy { listing, changes })
 }
 
@@ -65,45 +103,108 @@ fn tidied_on(alloc: Global, draft: Draft, base: u32, reached: &Reached) -> Resul
     tidied(alloc, listing, laid, marks)
 }
 
+/// How far tidying by places came.
+struct Progress {
+    /// How many changes were made.
+    changes: u64,
+    /// Whether no change is possible any more. Else it is not sure whether a branch may be redirected.
+    is_done: bool,
+}
+
+/// Makes changes while places keep their numbers, until none is possible any more or it is not sure whether a branch may be redirected.
+fn change_by_places(
+    alloc: Global,
+    draft: &mut Draft,
+    due: &mut DuePlaces,
+    reached: &Reached,
+    widest: &WidestLayout,
+) -> Result<Progress, Memory>
+    requires quick { IsQuick draft.old reached.now due.old }
+    requires safe { IsSafe widest.now draft.old }
+    ensures made { IfOk result (λ r. AreMadeBy (setting widest.now.base) (lines_now draft.old) (lines_now draft.new) r.changes) }
+    ensures done { IfOk result (λ r. r.is_done ≡ true → NonePossible (setting widest.now.base) (lines_now draft.new)) }
+    ensures quick { OnOk result (IsQuick draft.new reached.now due.new) }
+    ensures safe { OnOk result (IsSafe widest.now draft.new) }
+{
+    let places = draft.place_count();
+    let mut ends = Ends::none(alloc, places)?;
+    let mut changes = 0;
+    loop {
+        let outcome = first_sure(alloc, draft, due, &mut ends, reached, widest)?;
+        let is_done = match outcome {
+            PlaceOutcome::Made => {
+                changes += 1;
+                continue;
+            }
+            PlaceOutcome::Nothing => true,
+            PlaceOutcome::Unsure => false,
+        };
+        return Ok(Progress { changes, is_done });
+    }
+}
+
 /// What is left of a listing that surely can be laid out whichever of its instructions go. Its places keep their numbers until it is not sure whether a branch
 /// may be redirected. The widest layout is the listing's, and each place at which a change has its cause is due.
 fn tidied_by_places(
     alloc: Global,
     listing: Listing,
     widest: &WidestLayout,
-    mut due: DuePlaces,
+    due: &mut DuePlaces,
     reached: &Reached,
 ) -> Result<Tidy, Memory>
     requires sure { IsSure widest.now.base listing }
     requires widest { IsWidestLayout listing widest.now }
-    requires due { AreDue (code_of listing) due }
+    requires due { AreDue (code_of listing) due.old }
     requires reached { AreMarks (code_of listing) reached.now }
     ensures { IfOk result (λ new. AreTidiedBy widest.now.base listing new.listing new.changes) }
 {
     let mut draft = Draft::new(alloc, listing)?;
-    let places = draft.place_count();
-    let mut ends = Ends::none(alloc, places)?;
-    let mut count = 0;
-    loop {
-        let outcome = first_sure(alloc, &mut draft, &mut due, &mut ends, reached, widest)?;
-        match outcome {
-            PlaceOutcome::Made => count += 1,
-            PlaceOutcome::Nothing => {
-                let listing = draft.into_listing(alloc)?;
-                return Ok(Tidy {
-                    listing,
-                    changes: count,
-                });
-            }
-            PlaceOutcome::Unsure => {
-                let Tidy { listing, changes } = tidied_on(alloc, draft, widest.base, reached)?;
-                return Ok(Tidy {
-                    listing,
-                    changes: count + changes,
-                });
-            }
-        }
+    // For the prover alone: places are counted in 32 bits, so changes fit into 64.
+    let _places = draft.place_count();
+    let progress = change_by_places(alloc, &mut draft, due, reached, widest)?;
+    let Progress { changes, is_done } = progress;
+    if is_done {
+        let listing = draft.into_listing(alloc)?;
+        return Ok(Tidy { listing, changes });
     }
+    let rest = tidied_on(alloc, draft, widest.base, reached)?;
+    Ok(Tidy {
+        listing: rest.listing,
+        changes: changes + rest.changes,
+    })
+}
+
+/// Tidies a listing that surely can be laid out whichever of its instructions go, by places that keep their numbers.
+fn tidied_surely<L: Ledger>(
+    alloc: Global,
+    listing: Listing,
+    base: u32,
+    steps: &mut Steps<L>,
+) -> Result<Tidy, Memory>
+    requires { IsSure base listing }
+    ensures tidied { IfOk result (λ new. AreTidiedBy base listing new.listing new.changes) }
+    ensures cost { IfOk result (λ new. steps.new ≤ steps.old + tidying_cost listing new.changes) }
+{
+    let reached = reached(alloc, &listing, steps)?;
+    let (widest, mut due) = widest_layout_of(alloc, &listing, base, &reached)?;
+    tidied_by_places(alloc, listing, &widest, &mut due, &reached)
+}
+
+/// Tidies a listing that can be laid out, with a layout of each listing that a change makes. The layout is the listing's.
+fn tidied_by_layouts<L: Ledger>(
+    alloc: Global,
+    listing: Listing,
+    laid: Layout,
+    steps: &mut Steps<L>,
+) -> Result<Tidy, Memory>
+    requires laid { AreAddresses listing laid }
+    requires layable { Layable laid.base listing }
+    ensures tidied { IfOk result (λ new. AreTidiedBy laid.base listing new.listing new.changes) }
+    ensures cost { IfOk result (λ new. steps.new ≤ steps.old + tidying_cost listing new.changes) }
+{
+    let reached = reached(alloc, &listing, steps)?;
+    let marks = ReachedPlaces::of(alloc, &reached, listing.place_count())?;
+    tidied(alloc, listing, laid, marks)
 }
 
 /// Tidies a listing for an image that begins at the base: at the least place where a change is possible, a branch to the next place is removed; else a branch
@@ -123,14 +224,8 @@ pub fn tidy<L: Ledger>(
     ensures cost { IfOk result (λ new. steps.new ≤ steps.old + tidying_cost listing new.changes) }
 {
     if is_sure(alloc, &listing, base)? {
-        let reached = reached(alloc, &listing, steps)?;
-        let (widest, due) = widest_layout_of(alloc, &listing, base, &reached)?;
-        let left = tidied_by_places(alloc, listing, &widest, due, &reached)?;
-        return Ok(left);
+        return Ok(tidied_surely(alloc, listing, base, steps)?);
     }
     let laid = layout(alloc, &listing, base)?;
-    let reached = reached(alloc, &listing, steps)?;
-    let marks = ReachedPlaces::of(alloc, &reached, listing.place_count())?;
-    let tidy = tidied(alloc, listing, laid, marks)?;
-    Ok(tidy)
+    Ok(tidied_by_layouts(alloc, listing, laid, steps)?)
 }

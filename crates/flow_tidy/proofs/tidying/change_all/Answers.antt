@@ -1,0 +1,52 @@
+use Rattle.std.proofs.Common.{◌∙◌, ℕ, ◌+◌, ◌<◌, ◌^◌, length, refl, sym, subst, arith}
+use Rattle.thumb_model.specs.Listing.{places_of}
+use Rattle.flow_tidy.specs.DuePlaces.{IsNextAt}
+use Rattle.flow_tidy.specs.Tidying.{setting, AreTidiedBy, NonePossible}
+use Rattle.flow_tidy.proofs.Ends.{room_of}
+use Rattle.flow_tidy.proofs.Rounds.{all_made, count_fits, next_made, next_room, nothing_made}
+use Rattle.flow_tidy.proofs.tidying.change_all.Goals as goal
+
+pub loop-changes-init : goal.loop-changes-init
+loop-changes-init c = record {
+  made = nothing_made (setting c.args.laid.now.base) c.args.listing.now;
+  room = omega arith;
+  base = refl;
+  known = c.requires.known;
+}
+
+pub overflow_add-changes : goal.overflow_add-changes
+overflow_add-changes c =
+    let i = c.loop-changes.invariant in
+    let next = c.in_ok-change_next.ensures.next c.if-branch.true in
+    let left = next_room (setting c.loop-changes.laid.base) c.loop-changes.listing c.change_next.new.listing next.0 next.1 in
+    let few : length (places_of c.args.listing.now) < 2 ^ 32 = omega (arith, c.place_count-places.ensures, c.place_count-places.type_inv) in
+    let fits : c.loop-changes.changes + 1 < 2 ^ 64 = count_fits c.args.listing.now c.loop-changes.listing c.change_next.new.listing c.loop-changes.changes few i.room left in
+    omega arith
+
+pub loop-changes-smaller : goal.loop-changes-smaller
+loop-changes-smaller c =
+    let next = c.in_ok-change_next.ensures.next c.if-branch.true in
+    let left = next_room (setting c.loop-changes.laid.base) c.loop-changes.listing c.change_next.new.listing next.0 next.1 in
+    let less : room_of c.change_next.new.listing < room_of c.loop-changes.listing = omega (arith, left) in
+    less
+
+pub loop-changes-preserved : goal.loop-changes-preserved
+loop-changes-preserved c =
+    let i = c.loop-changes.invariant in
+    let s = setting c.args.laid.now.base in
+    let next = subst (λ b. (p : ℕ) × IsNextAt (setting b) p c.loop-changes.listing c.change_next.new.listing) i.base (c.in_ok-change_next.ensures.next c.if-branch.true) in
+    let left = next_room s c.loop-changes.listing c.change_next.new.listing next.0 next.1 in
+    record {
+      made = next_made s c.args.listing.now c.loop-changes.listing c.change_next.new.listing c.loop-changes.changes next.0 i.made next.1;
+      room = omega (arith, left, i.room);
+      base = c.in_ok-change_next.ensures.base ∙ i.base;
+      known = c.in_ok-change_next.ensures.known;
+    }
+
+pub returns : goal.returns
+returns c =
+    let i = c.loop-changes.invariant in
+    let base = c.args.laid.now.base in
+    let none = c.in_ok-change_next.ensures.last c.if-branch.false in
+    subst (λ ls. AreTidiedBy base c.args.listing.now ls c.loop-changes.changes) (sym none.1)
+    (all_made base c.args.listing.now c.loop-changes.listing c.loop-changes.changes i.made (subst (λ b. NonePossible (setting b) c.loop-changes.listing) i.base none.0))
