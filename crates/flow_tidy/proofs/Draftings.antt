@@ -9,13 +9,12 @@ use Rattle.listing_parser.specs.Parsing.{line_mentioning, own_line}
 use Rattle.listing_parser.specs.Targets.{aimed_lines}
 use Rattle.listing_draft.specs.Drafted.{lines_now, unchanged, Drafted}
 use Rattle.listing_draft.proofs.Drafts.{set_length}
-use Rattle.flow_tidy.specs.Made.{change}
-use Rattle.flow_tidy.specs.Tidying.{ToEnd, GoesToEnd, GoesToNext, IsIdle, IsPossible, setting}
+use Rattle.flow_tidy.specs.Tidying.{GoesToEnd}
 use Rattle.flow_tidy.specs.DuePlaces.{AreDue, IsCaused}
-use Rattle.flow_tidy.specs.Quick.{left, ChangesSoonest, IsQuick}
+use Rattle.flow_tidy.specs.Quick.{left, IsQuick}
 use Rattle.flow_tidy.proofs.Aimed.{aimed_code, code_aimed}
 use Rattle.flow_tidy.proofs.Lefts.{left_fewer}
-use Rattle.flow_tidy.proofs.Quickly.{code_goes, due_no_more, reached_left, soonest_idle, soonest_next}
+use Rattle.flow_tidy.proofs.Quickly.{code_goes, due_no_more, reached_left}
 use Rattle.flow_tidy.proofs.Settled.{due_aimed, marks_aimed, MayVanish}
 
 -- what contracts say of a draft where the instruction at a kept place is removed
@@ -27,9 +26,6 @@ pub record IsLeft (d e : Drafted) (p : ℕ) (dues : List Bool) : Type 0 where
   pub many : length dues ≡ length e.gone
   pub due : AreDue (code_of (lines_now e)) (left e.gone dues)
 
-pub left_same : (d same e : Drafted) (p : ℕ) (dues : List Bool) → same ≡ d → IsLeft same e p dues → IsLeft d e p dues
-left_same d same e p dues f h = subst (λ (x : Drafted). IsLeft x e p dues) f h
-
 pub quick_left : (d e : Drafted) (p : ℕ) (marks dues new : List Bool) → p < length d.gone → is_gone d.gone p ≡ false → MayVanish (code_of (lines_now d)) (rank d.gone p) → IsQuick d marks dues → IsLeft d e p new → IsQuick e marks new
 quick_left d e p marks dues new within kept goes q h = record {
   many = h.many;
@@ -39,13 +35,6 @@ quick_left d e p marks dues new within kept goes q h = record {
       (reached_left d.gone p (code_of (lines_now d)) (code_of (lines_now e)) within kept goes (code_goes (lines_now d) (lines_now e) (rank d.gone p) goes h.lines) marks q.all q.reached);
   due = h.due;
 }
-
-pub next_left : (base : ℕ) (d e : Drafted) (p : ℕ) (dues : List Bool) → GoesToNext (code_of (lines_now d)) (rank d.gone p) → IsLeft d e p dues → ChangesSoonest base (lines_now d) (lines_now e) (rank d.gone p)
-next_left base d e p dues g h = soonest_next base (lines_now d) (lines_now e) (rank d.gone p) g h.lines
-
-pub idle_left : (base : ℕ) (d e : Drafted) (p : ℕ) (dues : List Bool) → (GoesToNext (code_of (lines_now d)) (rank d.gone p) → ⊥) → ((label : Name) → IsPossible (setting base) (change (rank d.gone p) (ToEnd label)) (lines_now d) → ⊥) → IsIdle (code_of (lines_now d)) (rank d.gone p)
-    → IsLeft d e p dues → ChangesSoonest base (lines_now d) (lines_now e) (rank d.gone p)
-idle_left base d e p dues next end i h = soonest_idle base (lines_now d) (lines_now e) (rank d.gone p) next end i h.lines
 
 pub quick_aimed : (d e : Drafted) (p : ℕ) (label : Name) (marks dues : List Bool) → GoesToEnd (code_of (lines_now d)) (rank d.gone p) label → e.gone ≡ d.gone → lines_now e ≡ aimed_lines line_mentioning (rank d.gone p) label (lines_now d)
     → IsQuick d marks dues → IsQuick e marks dues

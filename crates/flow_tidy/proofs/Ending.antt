@@ -217,6 +217,15 @@ noted_walk d known p a = record {
   each = λ q o g e. elim (get_set known p q Walked (Last o) e) [ inl s ↦ absurd (let no : Walked ≡ Last o = s.1 in cc) | inr s ↦ a.each q o g s ];
 }
 
+pub noted_last : (d : Drafted) (known : List Known) (p : ℕ) (last : Option ℕ) → IsLast d p last → AreEnds d known → AreEnds d (slice_set known p (Last last))
+noted_last d known p last h a = record {
+  many = set_length known p (Last last) ∙ a.many;
+  each = λ q o g e. elim (get_set known p q (Last last) (Last o) e) [ inl s ↦ last_same d p q last o s.0 s.1 h | inr s ↦ a.each q o g s ];
+}
+
+pub still_walked : (d : Drafted) (known : List Known) (p : ℕ) (last end : Option ℕ) → AreWalked d known last → AreWalked d (slice_set known p (Last end)) last
+still_walked d known p last end a = λ q g e. elim (get_set known p q (Last end) Walked e) [ inl s ↦ absurd (let no : Last end ≡ Walked = s.1 in cc) | inr s ↦ a q g s ]
+
 -- where nothing is known, that is true of every draft of so many places
 pub none_known : (d : Drafted) (n : ℕ) (known : List Known) → known ≡ replicate n Nothing → n ≡ length d.gone → AreEnds d known
 none_known d n known e h = record {

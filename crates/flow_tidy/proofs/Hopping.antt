@@ -1,29 +1,24 @@
--- What stands at the kept places of a draft, by their ranks: branches to the next place, chains without an end, and what nothing reaches.
+-- What stands at the kept places of a draft, by their ranks: branches to the next place, and what nothing reaches.
 use Rattle.std.proofs.Common.{◌≡◌, ◌↔◌, ◌∙◌, ℕ, suc, ◌+◌, ◌<◌, ◌≤◌, Bool, true, false, not, List, Option, Some, None, refl, sym, ap, inl, inr, arith, if◌then◌else◌}
 use Rattle.std.specs.Prelude.{option_and_then, is_some, slice_get}
 use Rattle.std.proofs.lemmas.Bool.{cases_lt}
 use Rattle.std.proofs.lemmas.Option.{same_Some}
 use Rattle.thumb_instr.specs.declared.instr.Instr.{Instr}
-use Rattle.thumb_model.specs.Listing.{Name, Mention, Place, Op, Word, Code, is_call_instr, place_of}
+use Rattle.thumb_model.specs.Listing.{Mention, Place, Op, Word, Code, is_call_instr, place_of}
 use Rattle.thumb_model.specs.Steps.{aim_of}
 use Rattle.thumb_model.specs.Flow.{Reached}
 use Rattle.kept_places.specs.Marks.{is_gone, rank, IsNode}
 use Rattle.kept_places.proofs.Ranks.{rank_kept, ranks_ascend, ranks_grow}
 use Rattle.listing_draft.specs.Drafted.{instr_in}
 use Rattle.listing_draft.proofs.Drafts.{node_rank}
-use Rattle.flow_tidy.specs.Tidying.{Hops, is_branch, GoesToNext, IsIdle}
-use Rattle.flow_tidy.specs.DuePlaces.{HasEnd}
-use Rattle.flow_tidy.specs.Made.{label_of_always, label_of_branch}
+use Rattle.flow_tidy.specs.Tidying.{is_branch, GoesToNext, IsIdle}
+use Rattle.flow_tidy.specs.Made.{label_of_branch}
 
 -- ---- a branch to the next place ----
 
 -- where the branch at a place goes
 abbrev pub goes : Code → ℕ → Option ℕ
 goes code r = option_and_then (place_of code) (label_of_branch (slice_get code.places r))
-
--- and the branch without a condition
-abbrev pub hops : Code → ℕ → Option ℕ
-hops code r = option_and_then (place_of code) (label_of_always (slice_get code.places r))
 
 aim_is : (code : Code) (r : ℕ) (i : Instr) (mention : Option Mention) → slice_get code.places r ≡ Some (Op i mention) → is_branch i ≡ true → goes code r ≡ aim_of code mention
 aim_is code r i None e h = ap (λ o. option_and_then (place_of code) (label_of_branch o)) e
@@ -38,9 +33,6 @@ branch_from code r q (Some (Op i (Some m))) e h k = on (is_branch i) refl h
     on : (b : Bool) → is_branch i ≡ b → option_and_then (place_of code) (if b then Some m.name else None) ≡ Some q → GoesToNext code r
     on true f g = record { i = i; mention = Some m; stands = e; branch = f; next = g ∙ ap Some k }
     on false f g = absurd (cc)
-
-pub nowhere_next : (code : Code) (r : ℕ) → goes code r ≡ None → GoesToNext code r → ⊥
-nowhere_next code r e g = let no : None ≡ Some (r + 1) = sym e ∙ aim_is code r g.i g.mention g.stands g.branch ∙ g.next in absurd (cc)
 
 pub is_next : (code : Code) (r q : ℕ) → goes code r ≡ Some q → (q ≡ r + 1) ↔ GoesToNext code r
 is_next code r q e = (
@@ -72,39 +64,9 @@ node_next gone p t n g h k l =
 pub not_before : (gone : List Bool) (p t : ℕ) → t ≤ p → rank gone t ≡ rank gone p + 1 → ⊥
 not_before gone p t h e = let g = ranks_grow gone t p h in absurd (omega arith)
 
--- ---- chains without an end ----
-
 pub some_of : (o : Option ℕ) → is_some o ≡ true → (q : ℕ) × (o ≡ Some q)
 some_of None e = absurd (cc)
 some_of (Some q) e = (q, refl)
-
--- a hop goes somewhere
-pub hop_goes : (code : Code) (from to : Name) (h : Hops code from to) → (q : ℕ) × (hops code h.place ≡ Some q)
-hop_goes code from to h =
-    let next = some_of (place_of code to) h.code_label in (
-      next.0,
-      ap (λ o. option_and_then (place_of code) (label_of_always o)) h.stands
-          ∙ ap (λ (b : Bool). option_and_then (place_of code) (if b then Some h.mention.name else None)) h.always
-          ∙ ap (place_of code) h.named
-          ∙ next.1,
-    )
-
--- what the branch whose chain has an end goes to, and that goes on
-record GoesOn (code : Code) (r : ℕ) : Type 0 where
-  pub first : ℕ
-  pub goes : goes code r ≡ Some first
-  pub second : ℕ
-  pub hops : hops code first ≡ Some second
-
-end_goes_on : (code : Code) (r : ℕ) → HasEnd code r → GoesOn code r
-end_goes_on code r h =
-    let g = h.goes in
-    let hop = g.end.leads.1 in
-    let on = hop_goes code g.mention.name g.end.leads.0 hop in
-    record { first = hop.place; goes = aim_is code r g.i (Some g.mention) g.stands g.branch ∙ hop.labelled; second = on.0; hops = on.1 }
-
-pub nowhere_ends : (code : Code) (r : ℕ) → goes code r ≡ None → HasEnd code r → ⊥
-nowhere_ends code r e h = let g = end_goes_on code r h in let no : None ≡ Some g.first = sym e ∙ g.goes in absurd (cc)
 
 -- ---- what nothing reaches ----
 

@@ -15,8 +15,10 @@ use Rattle.flow_tidy.specs.declared.outcome.PlaceOutcome.{PlaceOutcome}
 use Rattle.flow_tidy.specs.declared.outcome.PlaceOutcome.TheVariants as outcome
 use Rattle.flow_tidy.specs.declared.outcome.Redirected.{Redirected}
 use Rattle.flow_tidy.specs.declared.outcome.Redirected.TheVariants as redirected
-use Rattle.flow_tidy.specs.Tidying.{line_length, lines_by, rank as turn, Cause, ToEnd, GoesToEnd, HasCause, IsPossible, setting}
-use Rattle.flow_tidy.specs.DuePlaces.{AreDue}
+use Rattle.flow_tidy.specs.declared.outcome.Way.{Way}
+use Rattle.flow_tidy.specs.declared.outcome.Way.TheVariants as way
+use Rattle.flow_tidy.specs.Tidying.{line_length, lines_by, rank as turn, Cause, ToEnd, GoesToEnd, GoesToNext, HasCause, IsPossible, setting}
+use Rattle.flow_tidy.specs.DuePlaces.{AreDue, HasEnd}
 use Rattle.flow_tidy.specs.Halves.{wide_of}
 use Rattle.flow_tidy.specs.Made.{change, label_of_branch}
 use Rattle.flow_tidy.specs.WidestLayout.{IsWidestLayout, IsSteadyTo}
@@ -99,6 +101,12 @@ pub record MayAim (base : ℕ) (d : Drafted) (p : ℕ) (name : Name) : Type 0 wh
   pub is : instr_in (stands d p) ≡ Some i
   pub reach : IsSteadyTo base d.given p i name
   pub short : line_length (line_mentioning i (Some (record { name = name; plus = 0 }))) ≤ longest_line
+
+-- where the branch at a kept place goes: to the next one, or to a label whose chain has an end, or neither
+abbrev pub IsWay : Way → Drafted → ℕ → Type 0
+IsWay way.Next d p = GoesToNext (code_of (lines_now d)) (rank d.gone p)
+IsWay (way.End last) d p = (GoesToNext (code_of (lines_now d)) (rank d.gone p) → ⊥) × EndsAt d p last
+IsWay way.Other d p = (GoesToNext (code_of (lines_now d)) (rank d.gone p) → ⊥) × (HasEnd (code_of (lines_now d)) (rank d.gone p) → ⊥)
 
 -- ---- changes ----
 

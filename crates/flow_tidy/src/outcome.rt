@@ -1,7 +1,7 @@
-//! What became of a place or its branch. What isn't sure while places keep their numbers is decided later, by laying out the listing that a change would make.
+//! Where the branch at a place goes, and what became of a place or its branch. What isn't sure while places keep their numbers is decided later, by laying out the listing that a change would make.
 
 /// What became of a place, or of the first place at which a change is possible.
-#[derive(Clone, Copy, PartialEq, Eq)]
+#[derive(Clone, Copy)]
 pub(crate) enum PlaceOutcome {
     /// No change is possible there.
     Nothing,
@@ -12,7 +12,7 @@ pub(crate) enum PlaceOutcome {
 }
 
 /// What became of the branch at a place.
-#[derive(Clone, Copy, PartialEq, Eq)]
+#[derive(Clone, Copy)]
 pub(crate) enum Redirected {
     /// It doesn't reach the end of its chain.
     Refused,
@@ -20,4 +20,15 @@ pub(crate) enum Redirected {
     Made,
     /// Whether it can go there is not sure.
     Unsure,
+}
+
+/// Where the branch at a place goes.
+#[derive(Clone, Copy)]
+pub(crate) enum Way {
+    /// To the next place.
+    Next,
+    /// Not there, and the end of its chain is where the branch at this place goes.
+    End(u32),
+    /// Not there, and its chain has no end, or no branch stands at the place.
+    Other,
 }

@@ -12,13 +12,14 @@ ghost use Rattle.flow_tidy.specs.DuePlaces.{AreDue, HasEnd};
 ghost use Rattle.flow_tidy.specs.ChainEnds.{AreEnds};
 ghost use Rattle.flow_tidy.specs.Halves.{halves};
 ghost use Rattle.flow_tidy.specs.Made.{change};
-ghost use Rattle.flow_tidy.specs.Quick.{left, EndsAt, IsOutcome, IsOutcomeAt, IsQuick, IsRedirected, IsSafe, IsSure, MayAim};
+ghost use Rattle.flow_tidy.specs.Quick.{left, EndsAt, IsOutcome, IsOutcomeAt, IsQuick, IsRedirected, IsSafe, IsSure, IsWay, MayAim};
+ghost use Rattle.flow_tidy.specs.declared.widest_layout.WidestLayout.{WidestLayout as Widest};
 
 use crate::chain_ends::{Ends, chain_end};
 use crate::drafted::{is_idle, is_next, lets_on, target};
 use crate::due_places::DuePlaces;
 use crate::limits::{is_short_branch, leave_room};
-use crate::outcome::{PlaceOutcome, Redirected};
+use crate::outcome::{PlaceOutcome, Redirected, Way};
 use crate::widest_layout::{WidestLayout, is_beyond, reaches};
 use code_flow::Reached;
 use listing_draft::Draft;
@@ -67,6 +68,22 @@ fn remove(draft: &mut Draft, due: &mut DuePlaces, place: u32)
         None => {}
         Some(before) => due.put(before as usize),
     }
+}
+
+/// Removes the instruction at a kept place, whose branch goes to the next place or which nothing reaches, and forgets where chains end.
+fn leave(draft: &mut Draft, due: &mut DuePlaces, ends: &mut Ends, place: u32)
+    requires within { place < length draft.old.gone }
+    requires kept { is_gone draft.old.gone place ≡ false }
+    requires many { length due.old ≡ length draft.old.gone }
+    requires due { AreDue (code_of (lines_now draft.old)) (left draft.old.gone due.old) }
+    requires goes { GoesToNext (code_of (lines_now draft.old)) (rank draft.old.gone place) ⊎ IsIdle (code_of (lines_now draft.old)) (rank draft.old.gone place) }
+    ensures lines { lines_now draft.new ≡ replaced_lines own_line (rank draft.old.gone place) 1 [] (lines_now draft.old) }
+    ensures quick { (marks : List Bool) → IsQuick draft.old marks due.old → IsQuick draft.new marks due.new }
+    ensures safe { (widest : Widest) → IsSafe widest draft.old → IsSafe widest draft.new }
+    ensures ends { AreEnds draft.old ends.old → AreEnds draft.new ends.new }
+{
+    remove(draft, due, place);
+    ends.forget();
 }
 
 /// The label that is the end of the chain of the branch at a kept place, if the branch surely may go to it. `last` is the place of the chain's last branch.
@@ -195,14 +212,34 @@ fn change_idle(
     ensures ends { AreEnds draft.new ends.new }
 {
     if is_idle(draft, reached, place) {
-        remove(draft, due, place);
-        ends.forget();
+        leave(draft, due, ends, place);
         return PlaceOutcome::Made;
     }
     if !is_refused {
         due.take(place);
     }
     PlaceOutcome::Nothing
+}
+
+/// Where the branch at a kept place goes.
+fn way_of(draft: &mut Draft, ends: &mut Ends, place: u32) -> Way
+    requires within { place < length draft.old.gone }
+    requires kept { is_gone draft.old.gone place ≡ false }
+    requires ends { AreEnds draft.old ends.old }
+    ensures way { IsWay result draft.old place }
+    ensures ends { AreEnds draft.new ends.new }
+    ensures same { draft.new ≡ draft.old }
+{
+    let Some(to) = target(draft, place) else {
+        return Way::Other;
+    };
+    if is_next(draft, place, to) {
+        return Way::Next;
+    }
+    match chain_end(draft, ends, place, to) {
+        None => Way::Other,
+        Some(last) => Way::End(last),
+    }
 }
 
 /// Makes the change at a kept place that is tried soonest, if it surely can be made.
@@ -225,22 +262,17 @@ fn change_at(
     ensures safe { OnOk result (IsSafe widest.now draft.new) }
     ensures ends { OnOk result (AreEnds draft.new ends.new) }
 {
-    let Some(to) = target(draft, place) else {
-        return Ok(change_idle(draft, due, ends, reached, widest, place, false));
-    };
-    if is_next(draft, place, to) {
-        remove(draft, due, place);
-        ends.forget();
-        return Ok(PlaceOutcome::Made);
-    }
-    let Some(last) = chain_end(draft, ends, place, to) else {
-        return Ok(change_idle(draft, due, ends, reached, widest, place, false));
-    };
-    let redirected = retarget(alloc, draft, widest, place, last)?;
-    match redirected {
-        Redirected::Refused => Ok(change_idle(draft, due, ends, reached, widest, place, true)),
-        Redirected::Made => Ok(PlaceOutcome::Made),
-        Redirected::Unsure => Ok(PlaceOutcome::Unsure),
+    match way_of(draft, ends, place) {
+        Way::Next => {
+            leave(draft, due, ends, place);
+            Ok(PlaceOutcome::Made)
+        }
+        Way::Other => Ok(change_idle(draft, due, ends, reached, widest, place, false)),
+        Way::End(last) => match retarget(alloc, draft, widest, place, last)? {
+            Redirected::Refused => Ok(change_idle(draft, due, ends, reached, widest, place, true)),
+            Redirected::Made => Ok(PlaceOutcome::Made),
+            Redirected::Unsure => Ok(PlaceOutcome::Unsure),
+        },
     }
 }
 

@@ -1,4 +1,4 @@
-use Rattle.std.proofs.Common.{List, sym, ap, subst}
+use Rattle.std.proofs.Common.{◌≡◌, ◌∙◌, true, false, List, sym, ap, subst}
 use Rattle.thumb_model.specs.Listing.{ListingLine, code_of, is_op_place}
 use Rattle.flow_tidy.specs.Tidying.{ToEnd, setting}
 use Rattle.flow_tidy.specs.Made.{IsWithin}
@@ -20,7 +20,7 @@ pub returns-then-not-reaches : goal.returns-then-not-reaches
 returns-then-not-reaches c =
     let s = setting c.args.laid.now.base in
     let end = end_is_found (code_of c.args.listing.now) c.args.place c.in-Some.label.now c.in-Some-chain_end.end.now (sym c.in-Some.ensures) c.in-Some-chain_end.ensures in
-    not_layable s c.args.place (ToEnd c.in-Some-chain_end.end.now) c.args.listing.now end (λ l. let t = c.reaches.ensures.1 l in cc)
+    not_layable s c.args.place (ToEnd c.in-Some-chain_end.end.now) c.args.listing.now end (λ l. let no : true ≡ false = sym (c.reaches.ensures.1 l) ∙ c.if-not-reaches.true in absurd (cc))
 
 pub returns : goal.returns
 returns c =

@@ -1,4 +1,4 @@
-use Rattle.std.proofs.Common.{◌≤◌, List, ℕ, map, sym, subst, arith}
+use Rattle.std.proofs.Common.{◌≡◌, ◌∙◌, ◌≤◌, true, false, List, ℕ, map, sym, subst, arith}
 use Rattle.listing_parser.specs.Grammar.{longest_line}
 use Rattle.listing_parser.specs.Views.{line_view}
 use Rattle.flow_tidy.specs.Tidying.{line_length}
@@ -12,7 +12,7 @@ returns-then-not-is_short c =
       λ h.
           let short : line_length c.line-item.result.text.items ≤ longest_line = h c.loop-line.line-index (line_view c.line-item.result) here in
           let yes = c.is_short.ensures.1 (subst (λ (bs : List ℕ). line_length bs ≤ longest_line) (sym c.deref.ensures.value) short) in
-          let no = c.if-not-is_short.true in
+          let no : true ≡ false = sym yes ∙ c.if-not-is_short.true in
           absurd (cc),
     )
 

@@ -1,4 +1,4 @@
-use Rattle.std.proofs.Common.{refl}
+use Rattle.std.proofs.Common.{◌≡◌, ◌∙◌, true, false, refl, sym}
 use Rattle.thumb_model.specs.Listing.{code_of}
 use Rattle.flow_tidy.specs.Tidying.{ToNext, ToEnd}
 use Rattle.flow_tidy.proofs.Making.{caused_idle}
@@ -11,4 +11,6 @@ pub returns-then-has_end : goal.returns-then-has_end
 returns-then-has_end c = (λ e. let end = c.has_end.ensures.0 c.if-has_end.true in record { cause = ToEnd end.label; is = end.goes }, λ k. refl)
 
 pub returns : goal.returns
-returns c = caused_idle (code_of c.args.listing.now) c.args.place c.is_idle.result (λ k. let e = c.goes_to_next.ensures.1 k in cc) (λ k. let e = c.has_end.ensures.1 k in cc) c.is_idle.ensures
+returns c =
+    caused_idle (code_of c.args.listing.now) c.args.place c.is_idle.result (λ k. let no : true ≡ false = sym (c.goes_to_next.ensures.1 k) ∙ c.if-goes_to_next.false in absurd (cc))
+    (λ k. let no : true ≡ false = sym (c.has_end.ensures.1 k) ∙ c.if-has_end.false in absurd (cc)) c.is_idle.ensures

@@ -1,12 +1,13 @@
-use Rattle.std.proofs.Common.{◌+◌, ◌<◌, ◌^◌, length, subst, arith}
-use Rattle.thumb_model.specs.Listing.{places_of}
+use Rattle.std.proofs.Common.{◌+◌, ◌<◌, ◌^◌, length, sym, subst, arith}
+use Rattle.thumb_model.specs.Listing.{code_of, places_of}
+use Rattle.code_flow.specs.Marks.{AreMarks}
 use Rattle.listing_draft.specs.Drafted.{lines_now}
 use Rattle.flow_tidy.specs.declared.outcome.PlaceOutcome.{PlaceOutcome}
 use Rattle.flow_tidy.specs.Quick.{IsOutcome}
 use Rattle.flow_tidy.specs.Tidying.{setting}
 use Rattle.flow_tidy.proofs.Draftings.{few_now}
 use Rattle.flow_tidy.proofs.Ends.{room_of}
-use Rattle.flow_tidy.proofs.Quickly.{goes_first}
+use Rattle.flow_tidy.proofs.Quickly.{goes_first, sure_layable}
 use Rattle.flow_tidy.proofs.Rounds.{count_fits, next_made, next_room}
 use Rattle.flow_tidy.proofs.tidying.change_by_places.Goals as goal
 
@@ -49,3 +50,12 @@ loop-ends-preserved c =
       quick = c.in_ok-outcome.ensures.quick;
       ends = c.in_ok-outcome.ensures.ends;
     }
+
+pub returns-in-Nothing-clause-layable : goal.returns-in-Nothing-clause-layable
+returns-in-Nothing-clause-layable c = sure_layable c.args.widest.now.base (lines_now c.first_change.new.draft) c.in_ok-outcome.ensures.safe.sure
+
+pub returns-in-Unsure-clause-layable : goal.returns-in-Unsure-clause-layable
+returns-in-Unsure-clause-layable c = sure_layable c.args.widest.now.base (lines_now c.first_change.new.draft) c.in_ok-outcome.ensures.safe.sure
+
+pub returns-in-Unsure-clause-marks : goal.returns-in-Unsure-clause-marks
+returns-in-Unsure-clause-marks c = subst (AreMarks (code_of (lines_now c.first_change.new.draft))) (sym c.in_ok-marks-in-Unsure.ensures) c.in_ok-outcome.ensures.quick.reached
