@@ -1,4 +1,5 @@
-//! Where the branch at a place goes, and what became of a place or its branch. What isn't sure while places keep their numbers is decided later, by laying out the listing that a change would make.
+//! Where the branch at a place goes, and what became of a place or its branch. What isn't sure while places keep their numbers is decided later, by laying out
+//! the listing that a change would make.
 
 /// What became of a place, or of the first place at which a change is possible.
 #[derive(Clone, Copy)]

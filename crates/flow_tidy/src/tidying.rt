@@ -217,8 +217,11 @@ fn tidied_by_places(
 
 /// What is worked out of a listing before it is tidied by places.
 struct Survey {
+    /// Which places are reached.
     reached: Reached,
+    /// The widest layout.
     widest: WidestLayout,
+    /// The places that are due at first.
     due: DuePlaces,
 }
 
