@@ -3,9 +3,17 @@ use Rattle.thumb_instr.specs.Items.{has}
 use Rattle.liveness.specs.Live.{set_at}
 use Rattle.liveness.specs.Walk.{cleared, start_at}
 use Rattle.liveness.proofs.Counts.{set_read, marked_or}
-use Rattle.liveness.proofs.Walks.{clears_same}
+use Rattle.liveness.proofs.Walks.{clears_on, clears_same}
 use Rattle.liveness.proofs.Stepping.{clears_step}
 use Rattle.liveness.proofs.clearing.clear_step.Goals as goal
+
+pub returns-then-marks-at-clause-on : goal.returns-then-marks-at-clause-on
+returns-then-marks-at-clause-on c =
+    let both = clears_on c.args.walk.now c.clear_before.new.walk c.clear_callers.new.walk c.clear_before.ensures.on c.clear_callers.ensures.on in
+    clears_on c.args.walk.now c.clear_callers.new.walk c.clear_points.new.walk both c.clear_points.ensures.on
+
+pub returns-else-marks-at-clause-on : goal.returns-else-marks-at-clause-on
+returns-else-marks-at-clause-on c = clears_on c.args.walk.now c.clear_before.new.walk c.clear_callers.new.walk c.clear_before.ensures.on c.clear_callers.ensures.on
 
 pub returns-then-marks-at-clause-step : goal.returns-then-marks-at-clause-step
 returns-then-marks-at-clause-step c =
