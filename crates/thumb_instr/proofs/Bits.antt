@@ -3,7 +3,7 @@ use Rattle.std.proofs.Common.{◌≡◌, ℕ, zero, suc, ◌+◌, ◌*◌, ◌<�
 use Rattle.std.specs.Int.{bit_at}
 use Rattle.std.specs.Prelude.{bit_or, bit_and, bit_xor}
 use Rattle.std.proofs.lemmas.Nat.Bits.{bit_at-lt, bit_at_or, bit_at_and, bit_at_xor, bit_at-pow_same, bit_at-pow_other, bit_at_above}
-use Rattle.std.proofs.lemmas.Nat.{or_lt}
+use Rattle.std.proofs.lemmas.Nat.{and_le_l, or_lt}
 use Rattle.std.proofs.lemmas.Bool.{cases_eq, cases_lt, and_parts}
 use Rattle.std.proofs.lemmas.Bool.Decides.{nat_tests}
 use Rattle.std.specs.Prelude.{if◌then◌else◌}
@@ -30,6 +30,9 @@ has_minus a b x =
 
 pub union_small : (a b : ℕ) → a < 524288 → b < 524288 → bit_or a b < 524288
 union_small a b h k = or_lt 19 a b h k
+
+pub minus_small : (a b : ℕ) → a < 524288 → bit_and a (bit_xor a b) < 524288
+minus_small a b h = let least = and_le_l a (bit_xor a b) in omega (arith, least, h)
 
 one_word : (i : ℕ) → i < 19 → 1 * 2 ^ i % 4294967296 ≡ 2 ^ i
 one_word i h = let p : 2 ^ i < 524288 = pow-lt {i = i} {j = 19} h in omega arith
