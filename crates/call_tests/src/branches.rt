@@ -1,21 +1,35 @@
 //! Tests `Listing::retargeted`, which requires that there is an instruction at the place.
-use listing_parser::{Listing, Memory, parse, print};
+use listing_parser::{Listing, parse, print};
 use std::alloc::Global;
 use std::test::Fail;
 
-/// The text of a listing whose branch at this place goes to the label, if an instruction stands there.
-fn aimed(
+/// Whether a listing is printed as this text.
+fn is_printed(alloc: Global, listing: &Listing, want: &str) -> Result<bool, Fail> {
+    let text = print(alloc, listing)?;
+    Ok(text.as_slice() == want.as_bytes())
+}
+
+/// Whether a listing whose branch at this place goes to `far` is printed as the text that is wanted; where no instruction stands there, whether none is.
+fn is_aimed(
     alloc: Global,
     listing: &Listing,
     place: u32,
-    name: &[u8],
-) -> Result<Option<Vec<u8>>, Memory> {
+    want: Option<&str>,
+) -> Result<bool, Fail> {
     if !listing.is_op(place) {
-        return Ok(None);
+        return Ok(want.is_none());
     }
-    let changed = listing.retargeted(alloc, place, name)?;
-    let text = print(alloc, &changed)?;
-    Ok(Some(text))
+    let changed = listing.retargeted(alloc, place, b"far")?;
+    match want {
+        Some(want) => is_printed(alloc, &changed, want),
+        None => Ok(false),
+    }
+}
+
+/// The same of the listing that a text is.
+fn is_text_aimed(alloc: Global, text: &str, place: u32, want: Option<&str>) -> Result<bool, Fail> {
+    let listing = parse(alloc, text.as_bytes())?;
+    is_aimed(alloc, &listing, place, want)
 }
 
 #[test]
@@ -36,13 +50,8 @@ fn branches_go_elsewhere(rt: HostRuntime) -> Result<(), Fail> {
         // no instruction at this place
         ("w: .word 1\nfar: bx lr\n", 0, None),
     ] {
-        let listing = parse(rt.alloc(), text.as_bytes())?;
-        let found = aimed(rt.alloc(), &listing, place, b"far")?;
-        assert_eq!(rt;
-            found.as_deref(),
-            want.map(|text| text.as_bytes()),
-            "{text}{place}"
-        );
+        let is_right = is_text_aimed(rt.alloc(), text, place, want)?;
+        assert!(rt; is_right, "{text}{place}");
     }
     Ok(())
 }

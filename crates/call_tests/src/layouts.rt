@@ -3,7 +3,7 @@ ghost use Rattle.std.specs.Prelude.{◌≡◌, length};
 ghost use Rattle.thumb_model.specs.Listing.{places_of};
 
 use crate::windows::{uxtb, with_one};
-use label_layout::{Layout, LayoutError, layout};
+use label_layout::{Layout, layout};
 use listing_parser::{Listing, ListingLine, parse};
 use std::alloc::Global;
 use std::test::Fail;
@@ -52,17 +52,24 @@ fn are_one(listing: &Listing, laid: &Layout, other: &Layout) -> bool
         && are_one_at_labels(listing, laid, other)
 }
 
-/// Updates the layout of a listing for the one that came of it: where that ends, and whether the layout is that of `layout`.
+/// Where the listing of a layout ends, and whether the layout is that of `layout`.
+fn compared(alloc: Global, listing: &Listing, laid: &Layout) -> Result<Option<(u32, bool)>, Fail>
+    requires { length laid.now.places ≡ length (places_of listing.now) }
+{
+    let anew = layout(alloc, listing, 4096)?;
+    Ok(Some((laid.end(), are_one(listing, laid, &anew))))
+}
+
+/// Updates the layout of a listing for the one that came of it, and compares it.
 fn updated(
     alloc: Global,
     listing: &Listing,
     changed: &Listing,
     place: u32,
-) -> Result<(u32, bool), LayoutError> {
+) -> Result<Option<(u32, bool)>, Fail> {
     let mut laid = layout(alloc, listing, 4096)?;
     laid.change(alloc, changed, place, 2, 1)?;
-    let anew = layout(alloc, changed, 4096)?;
-    Ok((laid.end(), are_one(changed, &laid, &anew)))
+    compared(alloc, changed, &laid)
 }
 
 /// Replaces two instructions, from this place on, with `uxtb r0, r0` and updates the layout: where the listing then ends, and whether the layout is that of
@@ -70,11 +77,14 @@ fn updated(
 fn outcome(alloc: Global, listing: &Listing, place: u32) -> Result<Option<(u32, bool)>, Fail> {
     match with_one(alloc, listing, place, uxtb())? {
         None => Ok(None),
-        Some(changed) => {
-            let found = updated(alloc, listing, &changed, place)?;
-            Ok(Some(found))
-        }
+        Some(changed) => updated(alloc, listing, &changed, place),
     }
+}
+
+/// The same of the listing that a text is.
+fn outcome_of(alloc: Global, text: &str, place: u32) -> Result<Option<(u32, bool)>, Fail> {
+    let listing = parse(alloc, text.as_bytes())?;
+    outcome(alloc, &listing, place)
 }
 
 #[test]
@@ -94,12 +104,8 @@ fn layouts_are_brought_up_to_date(rt: HostRuntime) -> Result<(), Fail> {
         ),
         (" lsls r0, r0, #24\nf: lsrs r0, r0, #24\n", 0, None),
     ] {
-        let listing = parse(rt.alloc(), text.as_bytes())?;
-        assert_eq!(rt;
-            outcome(rt.alloc(), &listing, place)?,
-            want,
-            "{text}{place}"
-        );
+        let found = outcome_of(rt.alloc(), text, place)?;
+        assert_eq!(rt; found, want, "{text}{place}");
     }
     Ok(())
 }

@@ -4,7 +4,7 @@ ghost use Rattle.thumb_instr.specs.Window.{is_in_window};
 ghost use Rattle.call_tests.specs.Windows.{GaveWay};
 
 use crate::windows::{uxtb, with_one};
-use listing_parser::{Listing, Memory, parse};
+use listing_parser::{Listing, parse};
 use liveness::{Live, live};
 use std::alloc::Global;
 use std::test::Fail;
@@ -29,6 +29,16 @@ enum Change {
     Wrong,
 }
 
+/// How the sets of a listing were updated, with so many visits.
+fn judged(alloc: Global, listing: &Listing, sets: &Live, visits: u64) -> Result<Change, Fail> {
+    let found = live(alloc, listing, &mut Steps::new(Counted::new()))?;
+    Ok(match (are_one(sets, &found), visits) {
+        (false, _) => Change::Wrong,
+        (true, 0) => Change::Kept,
+        (true, _) => Change::FoundAnew,
+    })
+}
+
 /// How the sets of a listing are updated for the one that came of it when an instruction replaced two, from this place on.
 fn updated(
     alloc: Global,
@@ -36,7 +46,7 @@ fn updated(
     changed: &Listing,
     place: u32,
     _instr: Instr,
-) -> Result<Change, Memory>
+) -> Result<Change, Fail>
     requires in_window { is_in_window _instr ≡ true }
     requires gave_way { GaveWay listing.now place _instr changed.now }
 {
@@ -44,24 +54,22 @@ fn updated(
     let mut sets = live(alloc, listing, &mut steps)?;
     let mut visits = Steps::new(Counted::new());
     sets.change(alloc, changed, place, 2, 1, &mut visits)?;
-    let found = live(alloc, changed, &mut steps)?;
-    if !are_one(&sets, &found) {
-        return Ok(Change::Wrong);
-    }
-    if visits.ledger().count() == 0 {
-        Ok(Change::Kept)
-    } else {
-        Ok(Change::FoundAnew)
-    }
+    judged(alloc, changed, &sets, visits.ledger().count())
 }
 
 /// How the sets of the listing are updated when `uxtb r0, r0` replaces two instructions, from this place on.
-fn outcome(alloc: Global, listing: &Listing, place: u32) -> Result<Change, Memory> {
+fn outcome(alloc: Global, listing: &Listing, place: u32) -> Result<Change, Fail> {
     let instr = uxtb();
     match with_one(alloc, listing, place, instr)? {
         None => Ok(Change::NoWindow),
         Some(changed) => updated(alloc, listing, &changed, place, instr),
     }
+}
+
+/// The same of the listing that a text is.
+fn outcome_of(alloc: Global, text: &str, place: u32) -> Result<Change, Fail> {
+    let listing = parse(alloc, text.as_bytes())?;
+    outcome(alloc, &listing, place)
 }
 
 #[test]
@@ -91,12 +99,8 @@ fn sets_are_brought_up_to_date(rt: HostRuntime) -> Result<(), Fail> {
             Change::NoWindow,
         ),
     ] {
-        let listing = parse(rt.alloc(), text.as_bytes())?;
-        assert_eq!(rt;
-            outcome(rt.alloc(), &listing, place)?,
-            want,
-            "{text}{place}"
-        );
+        let found = outcome_of(rt.alloc(), text, place)?;
+        assert_eq!(rt; found, want, "{text}{place}");
     }
     Ok(())
 }

@@ -33,6 +33,19 @@ fn add(arena: &mut Arena, literals: &[u32]) -> Result<Ref, Memory>
     Ok(at)
 }
 
+/// The literals of a trail, each by its code and with its reason.
+fn told(
+    alloc: Global,
+    trail: &Assignment,
+    reasons: &[Option<Ref>],
+) -> Result<Vec<(u32, Option<Ref>)>, Memory> {
+    let mut told = Vec::new(alloc);
+    for (literal, reason) in trail.literals().iter().zip(reasons.iter()) {
+        told.push((literal.code(), *reason))?;
+    }
+    Ok(told)
+}
+
 /// Decides a literal and propagates: the clause that became false, if any, and the trail, each literal by its code and with its reason.
 fn follow(
     alloc: Global,
@@ -48,11 +61,7 @@ fn follow(
     let mut reasons = Vec::new(alloc);
     reasons.push(None)?;
     let conflict = propagate(arena, &mut trail, &mut reasons, 0)?;
-    let mut found = Vec::new(alloc);
-    for (literal, reason) in trail.literals().iter().zip(reasons.iter()) {
-        found.push((literal.code(), *reason))?;
-    }
-    Ok((conflict, found))
+    Ok((conflict, told(alloc, &trail, &reasons)?))
 }
 
 // The literals a, b and c have the codes 0, 2 and 4, their negations 1, 3 and 5. From the clauses (a or b or c) and (a or not c) it follows with not a that c

@@ -6,48 +6,69 @@ use std::alloc::Global;
 fn repeat_last_line(bytes: &mut Vec<u8>, count: usize) -> Option<()> {
     let before = bytes.len().checked_sub(1)?;
     let front = bytes.iter().take(before).rposition(|byte| *byte == b'\n');
-    let start = front.map_or(0, |newline| newline + 1);
-    let line = bytes.get(start..)?.to_vec(*bytes.allocator()).ok()?;
-    for _ in 1..count {
-        bytes.extend_from_slice(&line).ok()?;
+    let start = match front {
+        Some(newline) => newline + 1,
+        None => 0,
+    };
+    let times = count.checked_sub(1)?;
+    let more = bytes.get(start..)?.repeat(*bytes.allocator(), times).ok()?;
+    bytes.extend_from_slice(&more).ok()
+}
+
+/// Adds the byte that two hexadecimal digits are, and returns what stands behind them.
+fn add_hex<'a>(bytes: &mut Vec<u8>, text: &'a str) -> Option<&'a str> {
+    let (digits, rest) = text.split_at_checked(2)?;
+    bytes.push(u8::from_str_radix(digits, 16).ok()?).ok()?;
+    Some(rest)
+}
+
+/// Repeats the last line as often as the number up to a semicolon says, and returns what stands behind it.
+fn add_repeated<'a>(bytes: &mut Vec<u8>, text: &'a str) -> Option<&'a str> {
+    let (count, rest) = text.split_once(';')?;
+    repeat_last_line(bytes, count.parse().ok()?)?;
+    Some(rest)
+}
+
+/// The byte that a letter after a backslash stands for.
+fn escaped(letter: &str) -> Option<u8> {
+    match letter {
+        "n" => Some(b'\n'),
+        "r" => Some(b'\r'),
+        "t" => Some(b'\t'),
+        "s" => Some(b' '),
+        _ => None,
     }
-    Some(())
 }
 
 /// Adds what a piece after a backslash stands for.
-fn add_escaped(bytes: &mut Vec<u8>, piece: &str) -> Option<()> {
+fn add_piece(bytes: &mut Vec<u8>, piece: &str) -> Option<()> {
     let (letter, rest) = piece.split_at_checked(1)?;
-    let mut rest = rest;
-    match letter {
-        "n" => bytes.push(b'\n').ok()?,
-        "r" => bytes.push(b'\r').ok()?,
-        "t" => bytes.push(b'\t').ok()?,
-        "s" => bytes.push(b' ').ok()?,
-        "x" => {
-            let (digits, after) = rest.split_at_checked(2)?;
-            bytes.push(u8::from_str_radix(digits, 16).ok()?).ok()?;
-            rest = after;
+    let rest = match letter {
+        "x" => add_hex(bytes, rest)?,
+        "*" => add_repeated(bytes, rest)?,
+        _ => {
+            bytes.push(escaped(letter)?).ok()?;
+            rest
         }
-        "*" => {
-            let (count, after) = rest.split_once(';')?;
-            repeat_last_line(bytes, count.parse().ok()?)?;
-            rest = after;
-        }
-        _ => return None,
-    }
+    };
     bytes.extend_from_slice(rest.as_bytes()).ok()
+}
+
+/// Adds the bytes of a text.
+pub(crate) fn add_bytes(bytes: &mut Vec<u8>, text: &str) -> Option<()> {
+    let mut pieces = text.split('\\');
+    bytes.extend_from_slice(pieces.next()?.as_bytes()).ok()?;
+    for piece in pieces {
+        add_piece(bytes, piece)?;
+    }
+    Some(())
 }
 
 /// The bytes of a text.
 pub(crate) fn bytes_of(alloc: Global, text: &str) -> Option<Vec<u8>> {
     let mut bytes = Vec::new(alloc);
-    if text == "''" {
-        return Some(bytes);
-    }
-    let mut pieces = text.split('\\');
-    bytes.extend_from_slice(pieces.next()?.as_bytes()).ok()?;
-    for piece in pieces {
-        add_escaped(&mut bytes, piece)?;
+    if text != "''" {
+        add_bytes(&mut bytes, text)?;
     }
     Some(bytes)
 }

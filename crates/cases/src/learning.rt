@@ -3,11 +3,10 @@ ghost use Rattle.std.specs.Prelude.{◌≢◌, ◌↔◌, IsTrue};
 ghost use Rattle.rule_table.specs.Views.{table_of};
 ghost use Rattle.rule_table.specs.Table.{IsTable};
 
+use crate::case::Case;
 use crate::rule_part::Given;
 use crate::tables::read;
-use crate::texts::tell;
 use rule_table::{Table, write_table};
-use std::str;
 use step_ledger::{Counted, Steps};
 use table_audit::sides_fit;
 use table_learn::{LearnError, learn};
@@ -40,12 +39,18 @@ fn learnt_table(given: &Given, mut table: Table) -> Option<Result<Table, LearnEr
     ))
 }
 
-pub(crate) fn learnt(given: &mut Given, rest: &str, out: &mut String) -> Option<()> {
-    let learnt_table = learnt_table(given, read(given, rest)?)?;
-    if let Ok(table) = &learnt_table {
-        let written = write_table(given.alloc, table).ok()?;
-        let text = written.strip_suffix(b"end\n")?;
-        given.text = String::from_str(given.alloc, str::from_utf8(text).ok()?).ok()?;
+/// The text of a table without the line `end`.
+fn text_of(given: &Given, table: &Table) -> Option<Vec<u8>> {
+    let mut text = write_table(given.alloc, table).ok()?;
+    text.truncate(text.len().saturating_sub(4));
+    Some(text)
+}
+
+pub(crate) fn learnt(given: &mut Given, case: &mut Case<'_>) -> Option<()> {
+    let learnt = learnt_table(given, read(given, case.rest())?)?;
+    if let Ok(table) = &learnt {
+        given.text = text_of(given, table)?;
     }
-    tell(out, learnt_table)
+    case.tell(learnt);
+    Some(())
 }

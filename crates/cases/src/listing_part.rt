@@ -1,60 +1,65 @@
 //! The cases about what reads, lays out and runs listings: each line is a case, and is answered by one line or a few.
 //!
-//! A line is blank, a comment that begins with `#`, or a case: a word that says what is asked, and its arguments, separated by single blanks. The
-//! last argument may be a text, which goes on to the line's end, in the spelling of `escapes`. The machine's words are hexadecimal, other numbers
-//! decimal.
-use crate::printing::Answer;
-use crate::reading::Arguments;
+//! A case is a word that says what is asked, and its arguments, separated by single blanks. The last argument may be a text, which goes on to the line's end,
+//! in the spelling of `escapes`. The machine's words are hexadecimal, other numbers decimal.
+use crate::case::Case;
+use crate::listings::listing_behind;
 use crate::{arithmetic, codes, listings, living, machines, stepping, tidying};
-use std::alloc::Global;
+use listing_parser::Listing;
 
-/// Whether a line is a case.
-fn is_case(line: &str) -> bool {
-    !line.is_empty() && !line.starts_with('#')
+/// How many words stand before the text of the listing that a case is about.
+fn words_before(kind: &str) -> u8 {
+    match kind {
+        "printed" => 0,
+        "fits" => 3,
+        "run" => 5,
+        _ => 1,
+    }
 }
 
-/// Answers a case; None if it can't be read, or memory runs out.
-fn answer_case(
-    alloc: Global,
-    kind: &str,
-    arguments: Arguments<'_>,
-    answer: &mut Answer,
-) -> Option<()> {
+/// Answers a case about a listing.
+fn answer_about(kind: &str, listing: &Listing, case: &mut Case<'_>) -> Option<()> {
     match kind {
-        "sum" => arithmetic::sum(arguments, answer),
-        "shift" => arithmetic::shift(arguments, answer),
-        "reverse" => arithmetic::reverse(arguments, answer),
-        "extend" => arithmetic::extend(arguments, answer),
-        "halfwords" => codes::halfwords(arguments, answer),
-        "code" => codes::code(alloc, arguments, answer),
-        "branch" => codes::branch(alloc, arguments, answer),
-        "decode" => codes::decoded(alloc, arguments, answer),
-        "text" => codes::text(alloc, arguments, answer),
-        "step" => stepping::stepped(arguments, answer),
-        "printed" => listings::printed(alloc, arguments, answer),
-        "refused" => listings::refused(alloc, arguments, answer),
-        "laid" => listings::laid(alloc, arguments, answer),
-        "addresses" => listings::addresses(alloc, arguments, answer),
-        "live" => living::after(alloc, arguments, answer),
-        "ledger" => living::ledger(answer),
-        "tidied" => tidying::tidied(alloc, arguments, answer),
-        "named" => machines::named(alloc, arguments, answer),
-        "fits" => machines::fits(alloc, arguments, answer),
-        "run" => machines::run(alloc, arguments, answer),
+        "printed" => listings::printed(listing, case),
+        "live" => living::after(listing, case),
+        "laid" => listings::laid(listing, case),
+        "addresses" => listings::addresses(listing, case),
+        "named" => machines::named(listing, case),
+        "fits" => machines::fits(listing, case),
+        "run" => machines::run(listing, case),
         _ => None,
     }
 }
 
-/// The answer to a line: one line or a few, and nothing if it isn't a case.
-pub(crate) fn answer_line(alloc: Global, line: &str) -> Option<Vec<u8>> {
-    if !is_case(line) {
-        return Some(Vec::new(alloc));
+/// Reads the listing that a case is about, and answers the case.
+fn answer_listing(kind: &str, case: &mut Case<'_>) -> Option<()> {
+    let listing = listing_behind(words_before(kind), case)?;
+    answer_about(kind, &listing, case)
+}
+
+/// Answers a case; None if it can't be read, or memory runs out.
+fn answer_case(case: &mut Case<'_>) -> Option<()> {
+    match case.word() {
+        "sum" => arithmetic::sum(case),
+        "shift" => arithmetic::shift(case),
+        "reverse" => arithmetic::reverse(case),
+        "extend" => arithmetic::extend(case),
+        "halfwords" => codes::halfwords(case),
+        "code" => codes::code(case),
+        "branch" => codes::branch(case),
+        "decode" => codes::decoded(case),
+        "text" => codes::text(case),
+        "step" => stepping::stepped(case),
+        "refused" => listings::refused(case),
+        "ledger" => living::ledger(case),
+        "tidied" => tidying::tidied(case),
+        kind => answer_listing(kind, case),
     }
-    let mut arguments = Arguments::of(line);
-    let kind = arguments.word();
-    let mut answer = Answer::new(alloc);
-    answer_case(alloc, kind, arguments, &mut answer)?;
-    let mut text = answer.into_text();
-    text.push('\n').ok()?;
-    Some(text.into_bytes())
+}
+
+/// Answers a case and ends the line.
+pub(crate) fn answer(case: &mut Case<'_>) {
+    let answered = answer_case(case);
+    case.end(answered);
+    case.end_line();
 }

@@ -1,10 +1,7 @@
 //! Cases of live items: `live PLACE TEXT` and `ledger`.
-use crate::listings::listing_of;
-use crate::printing::Answer;
-use crate::reading::Arguments;
+use crate::case::Case;
 use listing_parser::Listing;
 use liveness::live;
-use std::alloc::Global;
 use std::marker::Brand;
 use step_ledger::{Counted, Free, Steps};
 use thumb_instr::Items;
@@ -16,38 +13,29 @@ const ITEMS: [&str; 19] = [
 ];
 
 /// Adds the items of a set; `none` if it is empty.
-fn add_items(items: Items, answer: &mut Answer) -> Option<()> {
+fn add_items(items: Items, case: &mut Case<'_>) {
     if items.bits == 0 {
-        return answer.word("none");
+        case.add("none");
     }
     let mut left = items.bits;
     for item in ITEMS.iter() {
         if left % 2 == 1 {
-            answer.word(item)?;
+            case.add(*item);
         }
         left /= 2;
     }
-    Some(())
-}
-
-/// The items that are live after a place.
-pub(crate) fn after(
-    alloc: Global,
-    mut arguments: Arguments<'_>,
-    answer: &mut Answer,
-) -> Option<()> {
-    let place = arguments.number()? as usize;
-    let listing = listing_of(alloc, arguments)?;
-    add_items(live_after(alloc, &listing, place)?, answer)
 }
 
 /// The items that are live after a place of a listing.
-fn live_after(alloc: Global, listing: &Listing, place: usize) -> Option<Items> {
-    let sets = live(alloc, listing, &mut Steps::new(Counted::new())).ok()?;
-    sets.after_sets().get(place).copied()
+pub(crate) fn after(listing: &Listing, case: &mut Case<'_>) -> Option<()> {
+    let place = case.number() as usize;
+    let sets = live(case.alloc, listing, &mut Steps::new(Counted::new())).ok()?;
+    add_items(*sets.after_sets().get(place)?, case);
+    Some(())
 }
 
 /// The size in bytes of a ledger whose count only contracts see: it has to be 0.
-pub(crate) fn ledger(answer: &mut Answer) -> Option<()> {
-    answer.number(i64::try_from(size_of::<Free<Brand>>()).ok()?)
+pub(crate) fn ledger(case: &mut Case<'_>) -> Option<()> {
+    case.add(size_of::<Free<Brand>>());
+    Some(())
 }

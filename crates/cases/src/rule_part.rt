@@ -1,4 +1,5 @@
 //! The cases about what makes and checks rules: each line is a case, about the formula and the text that earlier cases kept.
+use crate::case::Case;
 use crate::{costs, formulas, learning, proofs, tables, texts};
 use cnf_gates::Formula;
 use std::alloc::Global;
@@ -8,7 +9,7 @@ use std::alloc::Global;
 pub(crate) struct Given {
     pub(crate) alloc: Global,
     pub(crate) formula: Formula,
-    pub(crate) text: String,
+    pub(crate) text: Vec<u8>,
 }
 
 impl Given {
@@ -17,39 +18,34 @@ impl Given {
         Given {
             alloc,
             formula: Formula::new(alloc, 0),
-            text: String::new(alloc),
+            text: Vec::new(alloc),
         }
     }
 }
 
-/// Carries out a line and writes its answer; None if the line can't be read, or memory runs out.
-fn answer(given: &mut Given, line: &str, out: &mut String) -> Option<()> {
-    let (word, rest) = line.split_once(" ").unwrap_or((line, ""));
-    match word {
-        "" | "#" => Some(()),
+/// Answers a case; None if it can't be read, or memory runs out.
+fn answer_case(given: &mut Given, case: &mut Case<'_>) -> Option<()> {
+    match case.word() {
         "new" => texts::begin(given),
-        "text" => texts::push_unescaped(given.alloc, &mut given.text, rest),
-        "show" => texts::show(given.text.as_str(), out),
-        "read" => tables::judge(given.alloc, given.text.as_str(), out),
-        "change" => tables::change(given, rest, out),
-        "costs" => costs::read(given.text.as_str(), out),
-        "cheaper" => costs::lighter(given, rest, out),
-        "audit" => tables::audited(given, rest, out),
-        "learn" => learning::learnt(given, rest, out),
-        "entry" => formulas::entry(given, rest, out),
-        "clauses" => formulas::clauses(given, rest),
+        "text" => texts::add(given, case),
+        "show" => texts::show(given, case),
+        "read" => tables::judge(given, case),
+        "change" => tables::change(given, case),
+        "costs" => costs::read(given, case),
+        "cheaper" => costs::lighter(given, case),
+        "audit" => tables::audited(given, case),
+        "learn" => learning::learnt(given, case),
+        "entry" => formulas::entry(given, case),
+        "clauses" => formulas::clauses(given, case),
         "empty" => formulas::push_empty(given),
-        "proof" => proofs::proof(given, rest, out),
-        "solve" => proofs::solve(given, rest, out),
+        "proof" => proofs::proof(given, case),
+        "solve" => proofs::solve(given, case),
         _ => None,
     }
 }
 
-/// The answer to a line. If the line can't be read, or memory runs out, `?` follows what was answered before that.
-pub(crate) fn answer_line(given: &mut Given, line: &str) -> Option<Vec<u8>> {
-    let mut out = String::new(given.alloc);
-    if answer(given, line, &mut out).is_none() {
-        out.push_str("?\n").ok()?;
-    }
-    Some(out.into_bytes())
+/// Answers a case.
+pub(crate) fn answer(given: &mut Given, case: &mut Case<'_>) {
+    let answered = answer_case(given, case);
+    case.end(answered);
 }

@@ -2,8 +2,7 @@
 ghost use Rattle.std.specs.Prelude.{◌≡◌, true, map, IsTrue, IfSome};
 ghost use Rattle.thumb_instr.specs.Window.{is_in_window, named, AreBelow};
 
-use crate::printing::Answer;
-use crate::reading::Arguments;
+use crate::case::Case;
 use thumb_instr::{Instr, Low, in_window, registers_of};
 use thumb_table::decode;
 use window_exec::{WState, step};
@@ -34,18 +33,12 @@ fn window_instr(halfword: u16) -> Option<Instr>
 }
 
 /// r0 to r3 and the flags after the instruction.
-pub(crate) fn stepped(mut arguments: Arguments<'_>, answer: &mut Answer) -> Option<()> {
-    let instr = window_instr(arguments.halfword()?)?;
-    let state = WState {
-        r: [
-            arguments.hex()?,
-            arguments.hex()?,
-            arguments.hex()?,
-            arguments.hex()?,
-        ],
-        nzcv: arguments.byte()?,
-    };
-    let after = step(&instr, state);
-    answer.hexes(&after.r)?;
-    answer.number(i64::from(after.nzcv))
+pub(crate) fn stepped(case: &mut Case<'_>) -> Option<()> {
+    let instr = window_instr(case.halfword())?;
+    let r = [case.hex(), case.hex(), case.hex(), case.hex()];
+    let nzcv = u8::try_from(case.number()).ok()?;
+    let after = step(&instr, WState { r, nzcv });
+    case.add_hexes(&after.r);
+    case.add(after.nzcv);
+    Some(())
 }

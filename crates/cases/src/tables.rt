@@ -3,10 +3,11 @@ ghost use Rattle.std.specs.Prelude.{IfSome};
 ghost use Rattle.rule_table.specs.Views.{table_of};
 ghost use Rattle.rule_table.specs.Table.{IsTable};
 
+use crate::case::Case;
+use crate::escapes::add_bytes;
 use crate::rule_part::Given;
-use crate::texts::{changed, push_unescaped, tell};
 use rule_table::{Table, read_table};
-use std::alloc::Global;
+use std::str;
 use step_ledger::{Counted, Steps};
 use table_audit::audit;
 
@@ -15,28 +16,37 @@ pub(crate) fn read(given: &Given, lines: &str) -> Option<Table>
     ensures { IfSome result (λ t. IsTable (table_of t)) }
 {
     let mut text = given.text.clone().ok()?;
-    push_unescaped(given.alloc, &mut text, lines)?;
-    text.push_str("end\n").ok()?;
-    match read_table(given.alloc, text.as_str().as_bytes()) {
+    add_bytes(&mut text, lines)?;
+    text.extend_from_slice(b"end\n").ok()?;
+    match read_table(given.alloc, &text) {
         Ok(table) => Some(table),
         Err(_) => None,
     }
 }
 
-/// Writes whether a text is a table, or at which line it is refused.
-pub(crate) fn judge(alloc: Global, text: &str, out: &mut String) -> Option<()> {
-    tell(out, read_table(alloc, text.as_bytes()))
+/// Adds whether the kept text is a table, or at which line it is refused.
+pub(crate) fn judge(given: &Given, case: &mut Case<'_>) -> Option<()> {
+    case.tell(read_table(given.alloc, &given.text));
+    Some(())
 }
 
-pub(crate) fn change(given: &Given, rest: &str, out: &mut String) -> Option<()> {
-    let text = changed(given.alloc, given.text.as_str(), rest)?;
-    judge(given.alloc, text.as_str(), out)
+/// The kept text with a part replaced.
+fn changed(given: &Given, edit: &[u8]) -> Option<String> {
+    let (old, new) = str::from_utf8(edit).ok()?.split_once(" / ")?;
+    let (before, after) = str::from_utf8(&given.text).ok()?.split_once(old)?;
+    [before, new, after].concat(given.alloc).ok()
 }
 
-pub(crate) fn audited(given: &Given, rest: &str, out: &mut String) -> Option<()> {
-    let table = read(given, rest)?;
-    tell(
-        out,
-        audit(given.alloc, table, &mut Steps::new(Counted::new())),
-    )
+/// Adds whether the kept text with a part replaced is a table, or at which line it is refused.
+pub(crate) fn change(given: &Given, case: &mut Case<'_>) -> Option<()> {
+    let edit = case.text()?;
+    let text = changed(given, &edit)?;
+    case.tell(read_table(given.alloc, text.as_bytes()));
+    Some(())
+}
+
+pub(crate) fn audited(given: &Given, case: &mut Case<'_>) -> Option<()> {
+    let table = read(given, case.rest())?;
+    case.tell(audit(given.alloc, table, &mut Steps::new(Counted::new())));
+    Some(())
 }

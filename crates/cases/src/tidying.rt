@@ -1,32 +1,29 @@
 //! Cases of tidying: `tidied BASE TEXT`.
-use crate::listings::{add_kind, listing_of};
-use crate::printing::Answer;
-use crate::reading::Arguments;
+use crate::case::Case;
+use crate::listings::{add_fault, listing_behind, printed};
 use flow_tidy::{Tidy, TidyError, tidy};
-use listing_parser::print;
-use std::alloc::Global;
 use step_ledger::{Counted, Steps};
 
-/// Adds how many changes were made, and the text of what is left.
-fn add_tidied(alloc: Global, tidied: &Tidy, answer: &mut Answer) -> Option<()> {
-    answer.number(i64::try_from(tidied.changes).ok()?)?;
-    answer.bytes(&print(alloc, &tidied.listing).ok()?)
-}
-
-/// How many changes are made, and the text of what is left of a listing; or the line by which it can't be laid out, and why.
-pub(crate) fn tidied(
-    alloc: Global,
-    mut arguments: Arguments<'_>,
-    answer: &mut Answer,
-) -> Option<()> {
-    let base = arguments.hex()?;
-    let listing = listing_of(alloc, arguments)?;
-    match tidy(alloc, listing, base, &mut Steps::new(Counted::new())) {
-        Ok(tidied) => add_tidied(alloc, &tidied, answer),
+/// Adds how many changes were made, and the text of what is left; or the line by which a listing can't be laid out, and why.
+fn add_tidied(tidied: &Result<Tidy, TidyError>, case: &mut Case<'_>) -> Option<()> {
+    match tidied {
+        Ok(tidied) => {
+            case.add(tidied.changes);
+            printed(&tidied.listing, case)
+        }
         Err(TidyError::Line { number, kind }) => {
-            answer.number(i64::try_from(number).ok()?)?;
-            add_kind(kind, answer)
+            add_fault(*number, *kind, case);
+            Some(())
         }
         Err(TidyError::Memory) => None,
     }
+}
+
+/// How many changes are made, and the text of what is left of a listing; or the line by which it can't be laid out, and why.
+pub(crate) fn tidied(case: &mut Case<'_>) -> Option<()> {
+    let base = case.hex();
+    let listing = listing_behind(0, case)?;
+    let mut steps = Steps::new(Counted::new());
+    let tidied = tidy(case.alloc, listing, base, &mut steps);
+    add_tidied(&tidied, case)
 }

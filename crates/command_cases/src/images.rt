@@ -1,6 +1,7 @@
 //! Runs images that are given as bytes, with answers of the outside, and shows how the run stands at the end and its events.
+use crate::page::Page;
 use ascii_scan::number;
-use std::alloc::{AllocError, Global};
+use std::alloc::Global;
 use thumb_assembler::ImageMachine;
 use thumb_machine::{Answer, Answers, Bytes, Event, Stage, State, stage_word};
 
@@ -16,16 +17,26 @@ fn start(alloc: Global) -> State {
     }
 }
 
-/// An answer for each word: the word in each register, the flags 0, and no bytes.
+/// The machine that stands at the start of the image with these bytes, at 0, whose code ends at `end`.
+fn machine_of(alloc: Global, digits: &str, end: u32) -> Option<ImageMachine> {
+    let bytes = hex::decode(alloc, digits).ok()?;
+    ImageMachine::new(alloc, &bytes, 0, end, start(alloc), 0).ok()
+}
+
+/// The answer for a word: the word in each register, the flags 0, and no bytes.
+fn answer(alloc: Global, word: &str) -> Option<Answer> {
+    Some(Answer {
+        words: [number(word.as_bytes())?; 6],
+        nzcv: 0,
+        bytes: Bytes::new(Vec::new(alloc)),
+    })
+}
+
+/// An answer for each word.
 fn answers(alloc: Global, words: &[String]) -> Option<Answers> {
     let mut list = Vec::new(alloc);
     for word in words {
-        let answer = Answer {
-            words: [number(word.as_bytes())?; 6],
-            nzcv: 0,
-            bytes: Bytes::new(Vec::new(alloc)),
-        };
-        list.push(answer).ok()?;
+        list.push(answer(alloc, word.as_str())?).ok()?;
     }
     Some(Answers::new(list))
 }
@@ -44,29 +55,34 @@ fn event_word(event: &Event) -> &'static str {
     }
 }
 
-/// The line that shows how a run stands, and its events.
-fn told(alloc: Global, stage: Stage, events: &[Event]) -> Result<Vec<u8>, AllocError> {
-    let mut out = stage_word(stage).as_bytes().to_vec(alloc)?;
-    out.push(b':')?;
+/// Shows how a run stands, and its events.
+fn tell(stage: Stage, events: &[Event], page: &mut Page) {
+    page.add(stage_word(stage));
+    page.add(":");
     for event in events {
-        out.extend_from_slice(event_word(event).as_bytes())?;
+        page.add(event_word(event));
     }
-    out.push(b'\n')?;
-    Ok(out)
+    page.add("\n");
+}
+
+/// Takes so many steps with answers of these words.
+fn run(alloc: Global, machine: &mut ImageMachine, steps: u32, words: &[String]) -> Option<Stage> {
+    let mut answers = answers(alloc, words)?;
+    let mut stage = Stage::Going;
+    for _ in 0..steps {
+        stage = machine.step(&mut answers).ok()?;
+    }
+    Some(stage)
 }
 
 /// Runs the image that the words of a script's line give, and shows how the run stands and its events; None if a word can't be read.
-pub(crate) fn image(alloc: Global, words: &[String]) -> Option<Vec<u8>> {
+pub(crate) fn image(alloc: Global, words: &[String], page: &mut Page) -> Option<()> {
     let [digits, end, steps, given @ ..] = words else {
         return None;
     };
-    let bytes = hex::decode(alloc, digits.as_str()).ok()?;
-    let end = number(end.as_bytes())?;
-    let mut answers = answers(alloc, given)?;
-    let mut machine = ImageMachine::new(alloc, &bytes, 0, end, start(alloc), 0).ok()?;
-    let mut stage = Stage::Going;
-    for _ in 0..number(steps.as_bytes())? {
-        stage = machine.step(&mut answers).ok()?;
-    }
-    told(alloc, stage, machine.events()).ok()
+    let steps = number(steps.as_bytes())?;
+    let mut machine = machine_of(alloc, digits.as_str(), number(end.as_bytes())?)?;
+    let stage = run(alloc, &mut machine, steps, given)?;
+    tell(stage, machine.events(), page);
+    Some(())
 }

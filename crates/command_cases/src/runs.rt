@@ -1,4 +1,5 @@
 //! Cases: each has a store, over which the top call is run, and remembers which texts were shown, so that only new ones are shown again.
+use crate::page::Page;
 use crate::shown::show;
 use audit_cli::peep;
 use outer_store::{MemSink, MemStore, Sink, Store, StoreError};
@@ -8,7 +9,7 @@ use step_ledger::{Counted, Steps};
 /// The texts under names that the case put there or has shown, and the pieces that are sought in the next run.
 #[derive(Drop)]
 pub(crate) struct Notes {
-    alloc: Global,
+    pub(crate) alloc: Global,
     pub(crate) known: MemStore,
     pub(crate) sought: MemStore,
 }
@@ -26,6 +27,11 @@ pub(crate) fn empty(alloc: Global) -> MemStore {
     MemStore::new(alloc, Vec::new(alloc), Vec::new(alloc))
 }
 
+/// A word; `''` is the empty one.
+fn word_of(alloc: Global, word: &str) -> Result<String, AllocError> {
+    String::from_str(alloc, if word == "''" { "" } else { word })
+}
+
 /// The words of a line, one blank apart; `''` is the empty word.
 pub(crate) fn words_of(alloc: Global, line: &str) -> Result<Vec<String>, AllocError> {
     let mut words = Vec::new(alloc);
@@ -33,35 +39,25 @@ pub(crate) fn words_of(alloc: Global, line: &str) -> Result<Vec<String>, AllocEr
         return Ok(words);
     }
     for word in line.split(' ') {
-        let word = if word == "''" { "" } else { word };
-        words.push(String::from_str(alloc, word)?)?;
+        words.push(word_of(alloc, word)?)?;
     }
     Ok(words)
 }
 
-/// The line that shows the words of a run and its status.
-fn ending(alloc: Global, line: &str, code: u8) -> Result<Vec<u8>, AllocError> {
-    let mut out = line.as_bytes().to_vec(alloc)?;
-    out.extend_from_slice(b": status ")?;
-    out.push(b'0'.wrapping_add(code))?;
-    out.push(b'\n')?;
-    Ok(out)
+/// Shows the words of a run and its status.
+fn show_ending(line: &str, code: u8, page: &mut Page) {
+    page.add(line);
+    page.add(": status ");
+    page.add_bytes(&[b'0'.wrapping_add(code), b'\n']);
 }
 
 impl Notes {
     /// Shows the text under a word, unless it is the known one, and notes it as known.
-    fn show_new(
-        &mut self,
-        out: &mut Vec<u8>,
-        words: &[String],
-        word: &str,
-        text: &[u8],
-    ) -> Option<()> {
-        if self.known.held(word) == Some(text) {
-            return Some(());
+    fn show_new(&mut self, words: &[String], word: &str, text: &[u8], page: &mut Page) {
+        if self.known.held(word) != Some(text) {
+            show(self, words, word, text, page);
+            page.note(self.known.keep(word, text).is_ok());
         }
-        show(self.alloc, out, self, words, word, text).ok()?;
-        self.known.keep(word, text).ok()
     }
 
     /// Runs the words of a line, and shows the status and the new texts under those words that name one.
@@ -71,16 +67,25 @@ impl Notes {
         words: &[String],
         store: &mut S,
         sink: &mut O,
-    ) -> Option<Vec<u8>> {
+        page: &mut Page,
+    ) {
         let mut steps = Steps::new(Counted::new());
         let status = peep(self.alloc, words, store, sink, &mut steps);
-        let mut out = ending(self.alloc, line, status.code()).ok()?;
+        show_ending(line, status.code(), page);
         for word in words {
             if let Ok(text) = store.fetch(self.alloc, word.as_str()) {
-                self.show_new(&mut out, words, word.as_str(), &text)?;
+                self.show_new(words, word.as_str(), &text, page);
             }
         }
-        Some(out)
+    }
+
+    /// Puts the known texts under these words into a store.
+    fn put_known<S: Store>(&self, words: &[String], store: &mut S, page: &mut Page) {
+        for word in words {
+            if let Some(text) = self.known.held(word.as_str()) {
+                page.note(store.keep(word.as_str(), text).is_ok());
+            }
+        }
     }
 }
 
@@ -103,32 +108,31 @@ impl Case {
         self.notes.known.keep(name, text)
     }
 
-    /// Runs the words of a line over the case's store and a new sink, and returns what is to be shown.
-    pub(crate) fn run(&mut self, alloc: Global, line: &str) -> Option<Vec<u8>> {
-        let words = words_of(alloc, line).ok()?;
-        let mut sink = MemSink::new(alloc, [self.sink].to_vec(alloc).ok()?);
-        let mut out = self.notes.run(line, &words, &mut self.store, &mut sink)?;
+    /// Runs the words of a line over the case's store and a new sink.
+    pub(crate) fn run(&mut self, line: &str, words: &[String], page: &mut Page) -> Option<()> {
+        let alloc = self.notes.alloc;
+        let failing = vec![in alloc; self.sink].ok()?;
+        let mut sink = MemSink::new(alloc, failing);
+        self.notes
+            .run(line, words, &mut self.store, &mut sink, page);
         if !sink.written().is_empty() {
-            show(alloc, &mut out, &self.notes, &words, "put", sink.written()).ok()?;
+            show(&self.notes, words, "put", sink.written(), page);
         }
         self.notes.sought = empty(alloc);
-        Some(out)
+        Some(())
     }
 
-    /// Runs the words of a line over another store and sink, after the texts that the case knows under these words are put there. Returns what is to be shown.
+    /// Runs the words of a line over another store and sink, after the texts that the case knows under these words are put there.
     pub(crate) fn run_elsewhere<S: Store, O: Sink>(
         &mut self,
-        alloc: Global,
         line: &str,
+        words: &[String],
         store: &mut S,
         sink: &mut O,
-    ) -> Option<Vec<u8>> {
-        let words = words_of(alloc, line).ok()?;
-        for word in &words {
-            if let Some(text) = self.notes.known.held(word.as_str()) {
-                store.keep(word.as_str(), text).ok()?;
-            }
-        }
-        self.notes.run(line, &words, store, sink)
+        page: &mut Page,
+    ) -> Option<()> {
+        self.notes.put_known(words, store, page);
+        self.notes.run(line, words, store, sink, page);
+        Some(())
     }
 }

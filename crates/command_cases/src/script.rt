@@ -20,8 +20,8 @@
 //! | `remove NAME` | removes a file |
 //! | `image DIGITS END STEPS ANSWER ..` | runs an image at 0, whose code ends at END, with answers of these words, and shows stage and events |
 use crate::images::image;
+use crate::page::Page;
 use crate::runs::{Case, empty, words_of};
-use crate::shown::title;
 use ascii_scan::number;
 use outer_store::{MemStore, Sink, Store, StoreError};
 use std::alloc::Global;
@@ -72,8 +72,9 @@ impl Script {
         self.end().ok()?;
         let (name, texts) = rest.split_once(' ').unwrap_or((rest, ""));
         self.purpose = purpose;
-        self.name = String::from_str(self.alloc, name).ok()?;
-        self.text = Vec::new(self.alloc);
+        self.name.clear();
+        self.name.push_str(name).ok()?;
+        self.text.clear();
         self.add_all(texts)
     }
 
@@ -96,72 +97,114 @@ impl Script {
         Some(())
     }
 
-    /// Carries out a line that changes the text begun last; false if the line is of another kind.
-    fn build(&mut self, word: &str, rest: &str) -> Option<bool> {
-        match word {
-            "use" => self.add_all(rest)?,
-            "times" => {
-                let (count, name) = rest.split_once(' ')?;
-                self.add(number(count.as_bytes())?, name)?
-            }
-            "bytes" => {
-                let bytes = hex::decode(self.alloc, rest).ok()?;
-                self.text.extend_from_slice(&bytes).ok()?
-            }
-            "bare" => self.text.truncate(self.text.len().saturating_sub(1)),
-            _ => return Some(false),
-        }
-        Some(true)
+    /// Adds a shared text as often as the number before its name says.
+    fn add_times(&mut self, rest: &str) -> Option<()> {
+        let (count, name) = rest.split_once(' ')?;
+        self.add(number(count.as_bytes())?, name)
     }
 
-    /// Carries out a line that doesn't change the text begun last, and returns what is to be shown.
+    /// Adds bytes by their hexadecimal digits.
+    fn add_bytes(&mut self, digits: &str) -> Option<()> {
+        let bytes = hex::decode(self.alloc, digits).ok()?;
+        self.text.extend_from_slice(&bytes).ok()
+    }
+
+    /// Adds a line.
+    fn add_line(&mut self, line: &str) -> Option<()> {
+        self.text.extend_from_slice(line.as_bytes()).ok()?;
+        self.text.push(b'\n').ok()
+    }
+
+    /// Removes the last byte.
+    fn bare(&mut self) -> Option<()> {
+        self.text.truncate(self.text.len().saturating_sub(1));
+        Some(())
+    }
+
+    /// Begins a case with a store whose calls of these numbers fail.
+    fn begin_case(&mut self, failing: Vec<u64>) -> Option<()> {
+        self.case = Case::new(self.alloc, failing);
+        Some(())
+    }
+
+    /// Begins the case anew, with a store whose call of this number fails.
+    fn begin_failing(&mut self, digits: &str) -> Option<()> {
+        let call = u64::from(number(digits.as_bytes())?);
+        self.begin_case(vec![in self.alloc; call].ok()?)
+    }
+
+    /// Makes the call of this number fail in the sink of each run.
+    fn begin_sink(&mut self, digits: &str) -> Option<()> {
+        self.case.sink = u64::from(number(digits.as_bytes())?);
+        Some(())
+    }
+
+    /// Begins a case and shows its name.
+    fn begin_named(&mut self, name: &str, page: &mut Page) -> Option<()> {
+        page.add("== ");
+        page.add(name);
+        page.add("\n");
+        self.begin_case(Vec::new(self.alloc))
+    }
+
+    /// Carries out a line that runs something.
+    fn run<S: Store, O: Sink>(
+        &mut self,
+        word: &str,
+        rest: &str,
+        files: &mut S,
+        output: &mut O,
+        page: &mut Page,
+    ) -> Option<()> {
+        let words = words_of(self.alloc, rest).ok()?;
+        match word {
+            "run" => self.case.run(rest, &words, page),
+            "files" => self.case.run_elsewhere(rest, &words, files, output, page),
+            "image" => image(self.alloc, &words, page),
+            _ => None,
+        }
+    }
+
+    /// Carries out a line that doesn't change the text begun last.
     fn act<S: Store, O: Sink>(
         &mut self,
         word: &str,
         rest: &str,
         files: &mut S,
         output: &mut O,
-    ) -> Option<Vec<u8>> {
-        let alloc = self.alloc;
+        page: &mut Page,
+    ) -> Option<()> {
         self.begin(Purpose::Shared, "")?;
         match word {
-            "text" => self.begin(Purpose::Shared, rest)?,
-            "file" => self.begin(Purpose::Held, rest)?,
-            "piece" => self.begin(Purpose::Sought, rest)?,
-            "store" => {
-                let failing = [u64::from(number(rest.as_bytes())?)];
-                self.case = Case::new(alloc, failing.to_vec(alloc).ok()?)
-            }
-            "sink" => self.case.sink = u64::from(number(rest.as_bytes())?),
-            "case" => {
-                self.case = Case::new(alloc, Vec::new(alloc));
-                return title(alloc, rest).ok();
-            }
-            "run" => return self.case.run(alloc, rest),
-            "files" => return self.case.run_elsewhere(alloc, rest, files, output),
-            "image" => return image(alloc, &words_of(alloc, rest).ok()?),
-            _ => return None,
+            "text" => self.begin(Purpose::Shared, rest),
+            "file" => self.begin(Purpose::Held, rest),
+            "piece" => self.begin(Purpose::Sought, rest),
+            "store" => self.begin_failing(rest),
+            "sink" => self.begin_sink(rest),
+            "case" => self.begin_named(rest, page),
+            _ => self.run(word, rest, files, output, page),
         }
-        Some(Vec::new(alloc))
     }
 
-    /// Carries out a line, with the real files and standard output for `files`, and returns what is to be shown.
+    /// Carries out a line, with the real files and standard output for `files`; None if it can't be carried out, or memory runs out.
     pub(crate) fn obey<S: Store, O: Sink>(
         &mut self,
         line: &str,
         files: &mut S,
         output: &mut O,
-    ) -> Option<Vec<u8>> {
-        let nothing = Vec::new(self.alloc);
+        page: &mut Page,
+    ) -> Option<()> {
         if let Some(text) = line.strip_prefix('|') {
-            self.text.extend_from_slice(text.as_bytes()).ok()?;
-            self.text.push(b'\n').ok()?;
-            return Some(nothing);
+            return self.add_line(text);
         }
         let (word, rest) = line.split_once(' ').unwrap_or((line, ""));
-        if word.is_empty() || word == "#" || self.build(word, rest)? {
-            return Some(nothing);
+        match word {
+            "" | "#" => Some(()),
+            "use" => self.add_all(rest),
+            "times" => self.add_times(rest),
+            "bytes" => self.add_bytes(rest),
+            "bare" => self.bare(),
+            _ => self.act(word, rest, files, output, page),
         }
-        self.act(word, rest, files, output)
     }
 }

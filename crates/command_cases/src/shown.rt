@@ -1,14 +1,6 @@
 //! How a case shows the texts that a command keeps or prints: in full, or by the name of a text that the case knows already, so that outputs stay short.
+use crate::page::Page;
 use crate::runs::Notes;
-use std::alloc::{AllocError, Global};
-
-/// The line that a case begins with.
-pub(crate) fn title(alloc: Global, name: &str) -> Result<Vec<u8>, AllocError> {
-    let mut line = b"== ".to_vec(alloc)?;
-    line.extend_from_slice(name.as_bytes())?;
-    line.push(b'\n')?;
-    Ok(line)
-}
 
 /// Whether the bytes are printable ASCII, tabs and newlines.
 fn is_plain(text: &[u8]) -> bool {
@@ -21,19 +13,18 @@ fn is_plain(text: &[u8]) -> bool {
 }
 
 /// Shows the lines of a text as a script writes them.
-fn show_lines(out: &mut Vec<u8>, text: &[u8]) -> Result<(), AllocError> {
+fn show_lines(text: &[u8], page: &mut Page) {
     let mut begins = true;
     for byte in text {
         if begins {
-            out.push(b'|')?;
+            page.add("|");
         }
-        out.push(*byte)?;
+        page.add_bytes(&[*byte]);
         begins = *byte == b'\n';
     }
     if !begins {
-        out.extend_from_slice(b"\nbare\n")?;
+        page.add("\nbare\n");
     }
-    Ok(())
 }
 
 /// Whether a text contains a piece.
@@ -56,32 +47,39 @@ fn name_of<'a>(notes: &Notes, words: &'a [String], text: &[u8]) -> Option<&'a st
     None
 }
 
-/// Shows a name and its text: whether the text has the piece that is sought there, or under which of the words it is known, or else all of it.
-pub(crate) fn show(
-    alloc: Global,
-    out: &mut Vec<u8>,
-    notes: &Notes,
-    words: &[String],
-    name: &str,
-    text: &[u8],
-) -> Result<(), AllocError> {
-    out.extend_from_slice(name.as_bytes())?;
-    if let Some(piece) = notes.sought.held(name) {
-        if has_piece(text, piece) {
-            return out.extend_from_slice(b" has its piece\n");
-        }
-        return out.extend_from_slice(b" lacks its piece\n");
-    }
-    if let Some(word) = name_of(notes, words, text) {
-        out.extend_from_slice(b" as ")?;
-        out.extend_from_slice(word.as_bytes())?;
-        return Ok(out.push(b'\n')?);
-    }
+/// Shows all of a text, by its lines or by the digits of its bytes.
+fn show_all(notes: &Notes, text: &[u8], page: &mut Page) {
     if is_plain(text) {
-        out.push(b'\n')?;
-        return show_lines(out, text);
+        page.add("\n");
+        return show_lines(text, page);
     }
-    out.extend_from_slice(b"\nbytes ")?;
-    out.extend_from_slice(hex::encode(alloc, text)?.as_bytes())?;
-    Ok(out.push(b'\n')?)
+    match hex::encode(notes.alloc, text) {
+        Ok(digits) => {
+            page.add("\nbytes ");
+            page.add(digits.as_str());
+            page.add("\n");
+        }
+        Err(_) => page.note(false),
+    }
+}
+
+/// Shows a name and its text: whether the text has the piece that is sought there, or under which of the words it is known, or else all of it.
+pub(crate) fn show(notes: &Notes, words: &[String], name: &str, text: &[u8], page: &mut Page) {
+    page.add(name);
+    if let Some(piece) = notes.sought.held(name) {
+        page.add(if has_piece(text, piece) {
+            " has its piece\n"
+        } else {
+            " lacks its piece\n"
+        });
+        return;
+    }
+    match name_of(notes, words, text) {
+        Some(word) => {
+            page.add(" as ");
+            page.add(word);
+            page.add("\n");
+        }
+        None => show_all(notes, text, page),
+    }
 }
