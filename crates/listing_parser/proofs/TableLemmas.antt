@@ -31,6 +31,7 @@ addresses_next name old new l rest h = rw h (at old l.statement)
     set : (b : Bool) (address : ℕ) → or_else (if b then Some address else None) (set_address name rest) ≡ (if b then Some address else set_address name rest)
     set true address = refl
     set false address = refl
+
     at : (o : Option ℕ) (s : Statement) → or_else (or_else o (set_in name s None)) (set_address name rest) ≡ or_else o (set_in name s (set_address name rest))
     at (Some x) s = refl
     at None Nothing = refl
